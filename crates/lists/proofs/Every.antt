@@ -1,0 +1,119 @@
+-- Every element passes, or some one does; also after an element is appended, put in another's place, or taken out.
+use Prim.Native.Nat.{ℕ, zero, suc, _≤_, _<_, suc-le-suc}
+use native.Mathlib.Omega.{arith}
+use mathlib.Core.Bool.{Bool, true, false, not, _&&_, _||_, true≢false}
+use mathlib.Core.List.{List, [], _∷_, _++_, map}
+use mathlib.Core.Path.{_≡_, refl, sym, ap, _∙_}
+use lib.ListN.{length, getD, take, drop, set}
+use Rattle.lists.specs.First.{any, all}
+use Rattle.lists.specs.Room.{removeAt}
+use Rattle.lists.proofs.Tests.{both-true, and-true, both-false, or-left, or-right, one-true}
+use mathlib.Core.Logic.{⊎-elim}
+use borrow.Author.Tests.{not-true}
+
+module _ {A : Type 0} (p : A → Bool) where
+  -- ---- every element, one by one
+  pub all-at : (xs : List A) (d : A) → all p xs ≡ true → (i : ℕ) → i < length xs → p (getD xs i d) ≡ true
+  unfolding all
+  all-at [] d e i h = absurd (omega arith)
+  all-at (x ∷ xs) d e zero h = both-true (p x) (all p xs) e .0
+  all-at (x ∷ xs) d e (suc i) h = all-at xs d (both-true (p x) (all p xs) e .1) i (omega arith)
+
+  pub all-make : (xs : List A) (d : A) → ((i : ℕ) → i < length xs → p (getD xs i d) ≡ true) → all p xs ≡ true
+  unfolding all
+  all-make [] d f = refl
+  all-make (x ∷ xs) d f = and-true (p x) (all p xs) (f 0 (omega arith)) (all-make xs d (λ i h. f (suc i) (suc-le-suc h)))
+
+  pub all-one : (x : A) → p x ≡ true → all p (x ∷ []) ≡ true
+  unfolding all
+  all-one x e = and-true (p x) true e refl
+
+  -- ---- after a change
+  pub all-append : (xs ys : List A) → all p xs ≡ true → all p ys ≡ true → all p (xs ++ ys) ≡ true
+  unfolding all
+  all-append [] ys e f = f
+  all-append (x ∷ xs) ys e f = let b = both-true (p x) (all p xs) e in and-true (p x) (all p (xs ++ ys)) (b .0) (all-append xs ys (b .1) f)
+
+  pub all-left : (xs ys : List A) → all p (xs ++ ys) ≡ true → all p xs ≡ true
+  unfolding all
+  all-left [] ys e = refl
+  all-left (x ∷ xs) ys e = let b = both-true (p x) (all p (xs ++ ys)) e in and-true (p x) (all p xs) (b .0) (all-left xs ys (b .1))
+
+  pub all-right : (xs ys : List A) → all p (xs ++ ys) ≡ true → all p ys ≡ true
+  unfolding all
+  all-right [] ys e = e
+  all-right (x ∷ xs) ys e = all-right xs ys (both-true (p x) (all p (xs ++ ys)) e .1)
+
+  pub all-set : (xs : List A) (k : ℕ) (v : A) → all p xs ≡ true → p v ≡ true → all p (set xs k v) ≡ true
+  unfolding all
+  all-set [] k v e f = refl
+  all-set (x ∷ xs) zero v e f = and-true (p v) (all p xs) f (both-true (p x) (all p xs) e .1)
+  all-set (x ∷ xs) (suc k) v e f = let b = both-true (p x) (all p xs) e in and-true (p x) (all p (set xs k v)) (b .0) (all-set xs k v (b .1) f)
+
+  pub all-removed : (xs : List A) (k : ℕ) → all p xs ≡ true → all p (removeAt k xs) ≡ true
+  unfolding all removeAt
+  all-removed [] zero e = refl
+  all-removed [] (suc k) e = refl
+  all-removed (x ∷ xs) zero e = both-true (p x) (all p xs) e .1
+  all-removed (x ∷ xs) (suc k) e = let b = both-true (p x) (all p xs) e in and-true (p x) (all p (removeAt k xs)) (b .0) (all-removed xs k (b .1))
+
+  -- ---- some element
+  pub any-make : (xs : List A) (d : A) (i : ℕ) → i < length xs → p (getD xs i d) ≡ true → any p xs ≡ true
+  unfolding any
+  any-make [] d i h e = absurd (omega arith)
+  any-make (x ∷ xs) d zero h e = or-left (p x) (any p xs) e
+  any-make (x ∷ xs) d (suc i) h e = or-right (p x) (any p xs) (any-make xs d i (omega arith) e)
+
+  pub any-at : (xs : List A) (d : A) → any p xs ≡ true → (i : ℕ) × (i < length xs) × (p (getD xs i d) ≡ true)
+  unfolding any
+  any-at [] d e = absurd (true≢false (sym e))
+  any-at (x ∷ xs) d e = ⊎-elim (λ a. (0, omega arith, a)) (λ b. later (any-at xs d b)) (one-true (p x) (any p xs) e)
+    where
+      later : ((i : ℕ) × (i < length xs) × (p (getD xs i d) ≡ true)) → (i : ℕ) × (i < length (x ∷ xs)) × (p (getD (x ∷ xs) i d) ≡ true)
+      later (i, h, q) = (suc i, suc-le-suc h, q)
+
+  pub none-at : (xs : List A) (d : A) → any p xs ≡ false → (i : ℕ) → i < length xs → p (getD xs i d) ≡ false
+  unfolding any
+  none-at [] d e i h = absurd (omega arith)
+  none-at (x ∷ xs) d e zero h = both-false (p x) (any p xs) e .0
+  none-at (x ∷ xs) d e (suc i) h = none-at xs d (both-false (p x) (any p xs) e .1) i (omega arith)
+
+  -- none but element k passes: each other one fails
+  pub none-others : (xs : List A) (k : ℕ) (d : A) → any p (removeAt k xs) ≡ false → (j : ℕ) → j < length xs → (j ≡ k → ⊥) → p (getD xs j d) ≡ false
+  unfolding any removeAt
+  none-others [] k d e j h ne = absurd (omega arith)
+  none-others (x ∷ xs) zero d e zero h ne = absurd (ne refl)
+  none-others (x ∷ xs) zero d e (suc j) h ne = none-at xs d e j (omega arith)
+  none-others (x ∷ xs) (suc k) d e zero h ne = both-false (p x) (any p (removeAt k xs)) e .0
+  none-others (x ∷ xs) (suc k) d e (suc j) h ne = none-others xs k d (both-false (p x) (any p (removeAt k xs)) e .1) j (omega arith) (λ q. ne (ap suc q))
+
+  -- that none passes is that every one fails
+  pub none-all : (xs : List A) → not (any p xs) ≡ all (λ (x : A). not (p x)) xs
+  unfolding any all
+  none-all [] = refl
+  none-all (x ∷ xs) = by (p x) (none-all xs)
+    where
+      by : (t : Bool) → not (any p xs) ≡ all (λ (y : A). not (p y)) xs → not (t || any p xs) ≡ (not t && all (λ (y : A). not (p y)) xs)
+      by true e = refl
+      by false e = e
+
+-- what follows at each element from two tests that every element passes
+pub all-from : {A : Type 0} (p q w : A → Bool) → ((x : A) → p x ≡ true → q x ≡ true → w x ≡ true) → (xs : List A) → all p xs ≡ true → all q xs ≡ true → all w xs ≡ true
+unfolding all
+all-from p q w f [] d e = refl
+all-from p q w f (x ∷ xs) d e =
+    let a = both-true (p x) (all p xs) d in
+    let b = both-true (q x) (all q xs) e in
+    and-true (w x) (all w xs) (f x (a .0) (b .0)) (all-from p q w f xs (a .1) (b .1))
+
+-- two tests that agree at every element
+pub all-same : {A : Type 0} (p q : A → Bool) → ((x : A) → p x ≡ q x) → (xs : List A) → all p xs ≡ all q xs
+unfolding all
+all-same p q f [] = refl
+all-same p q f (x ∷ xs) = ap (λ (t : Bool). t && all p xs) (f x) ∙ ap (λ (t : Bool). q x && t) (all-same p q f xs)
+
+-- the image of a list
+pub all-map : {A B : Type 0} (f : A → B) (p : B → Bool) (xs : List A) → all p (map f xs) ≡ all (λ (x : A). p (f x)) xs
+unfolding all
+all-map f p [] = refl
+all-map f p (x ∷ xs) = ap (λ (t : Bool). p (f x) && t) (all-map f p xs)

@@ -1,0 +1,140 @@
+-- Numbers in a row, lists made of a function, and the loops that go through them: at a place k the invariant says that what is left
+-- gives the whole answer r, and t is what the call of the test at k returned.
+use Prim.Native.Nat.{ℕ, zero, suc, _+_, _-_, _≤_, _<_, suc-le-suc}
+use native.Mathlib.Omega.{arith}
+use native.Mathlib.Nat.{add-zero}
+use native.Mathlib.Numerals.{add-one}
+use native.Mathlib.Decide.{decLt}
+use mathlib.Core.Bool.{Bool, true, false, _&&_, _||_}
+use mathlib.Core.List.{List, [], _∷_, map, map-map}
+use mathlib.Core.Path.{_≡_, refl, sym, ap, ap₂, _∙_}
+use lib.ListN.{length, getD, length-map, List·getD-map}
+use lib.Seq.{ext-getD}
+use Rattle.lists.specs.First.{firstIndex, firstFrom, any, all}
+use Rattle.lists.specs.Pairs.{pairwise}
+use Rattle.lists.specs.Places.{places, tab}
+use Rattle.lists.proofs.Tests.{both-true, and-true}
+use Rattle.lists.proofs.First.{from-hit, from-pass, from-end}
+use Rattle.lists.proofs.Every.{all-same, all-map}
+
+-- within a list the default does not matter
+pub getD-any : {A : Type 0} (xs : List A) (k : ℕ) (d e : A) → k < length xs → getD xs k d ≡ getD xs k e
+getD-any [] k d e h = absurd (omega arith)
+getD-any (x ∷ xs) zero d e h = refl
+getD-any (x ∷ xs) (suc k) d e h = getD-any xs k d e (omega arith)
+
+-- ---- numbers in a row
+pub length-places : (k n : ℕ) → length (places k n) ≡ n
+unfolding places
+length-places k zero = refl
+length-places k (suc n) = ap suc (length-places (suc k) n)
+
+pub getD-places : (k n i d : ℕ) → i < n → getD (places k n) i d ≡ k + i
+unfolding places
+getD-places k zero i d h = absurd (omega arith)
+getD-places k (suc n) zero d h = sym (add-zero k)
+getD-places k (suc n) (suc i) d h = let e : suc k + i ≡ k + suc i = omega arith in getD-places (suc k) n i d (omega arith) ∙ e
+
+-- a place is left below e; none is
+pub places-step : (k e : ℕ) → k < e → places k (e - k) ≡ k ∷ places (k + 1) (e - (k + 1))
+unfolding places
+places-step k e h =
+    let f : e - k ≡ suc (e - (k + 1)) = omega arith in
+    ap (places k) f ∙ ap (λ (j : ℕ). k ∷ places j (e - (k + 1))) (sym (add-one k))
+
+pub places-end : (k e : ℕ) → e ≤ k → places k (e - k) ≡ []
+unfolding places
+places-end k e h = let f : e - k ≡ 0 = omega arith in ap (places k) f
+
+-- the places one higher
+pub places-up : (k n : ℕ) → map suc (places k n) ≡ places (suc k) n
+unfolding places
+places-up k zero = refl
+places-up k (suc n) = ap (λ (l : List ℕ). suc k ∷ l) (places-up (suc k) n)
+
+-- ---- a test at every place, or at some one
+module _ (p : ℕ → Bool) where
+  pub every-at : (k n : ℕ) → all p (places k n) ≡ true → (i : ℕ) → k ≤ i → i < k + n → p i ≡ true
+  unfolding all places
+  every-at k zero e i h l = absurd (omega arith)
+  every-at k (suc n) e i h l =
+      let b = both-true (p k) (all p (places (suc k) n)) e in
+      elim (decLt k i) [ yes a ↦ every-at (suc k) n (b .1) i a (omega arith) | no a ↦ (let j : i ≡ k = omega arith in ap p j ∙ b .0) ]
+
+  pub every-make : (k n : ℕ) → ((i : ℕ) → k ≤ i → i < k + n → p i ≡ true) → all p (places k n) ≡ true
+  unfolding all places
+  every-make k zero f = refl
+  every-make k (suc n) f = and-true (p k) (all p (places (suc k) n)) (f k (omega arith) (omega arith)) (every-make (suc k) n (λ i h l. f i (omega arith) (omega arith)))
+
+  -- a loop that returns whether every place passes
+  module _ (k e : ℕ) (r t : Bool) where
+    pub every-stop : all p (places k (e - k)) ≡ r → k < e → t ≡ p k → t ≡ false → false ≡ r
+    unfolding all
+    every-stop inv h g f = sym (rw (places-step k e h, ← g, f)) ∙ inv
+
+    pub every-on : all p (places k (e - k)) ≡ r → k < e → t ≡ p k → t ≡ true → all p (places (k + 1) (e - (k + 1))) ≡ r
+    unfolding all
+    every-on inv h g f = sym (rw (places-step k e h, ← g, f)) ∙ inv
+
+    -- a loop that returns whether some place passes
+    pub some-stop : any p (places k (e - k)) ≡ r → k < e → t ≡ p k → t ≡ true → true ≡ r
+    unfolding any
+    some-stop inv h g f = sym (rw (places-step k e h, ← g, f)) ∙ inv
+
+    pub some-on : any p (places k (e - k)) ≡ r → k < e → t ≡ p k → t ≡ false → any p (places (k + 1) (e - (k + 1))) ≡ r
+    unfolding any
+    some-on inv h g f = sym (rw (places-step k e h, ← g, f)) ∙ inv
+
+  pub every-end : (k e : ℕ) (r : Bool) → all p (places k (e - k)) ≡ r → e ≤ k → true ≡ r
+  unfolding all
+  every-end k e r inv h = sym (rw (places-end k e h)) ∙ inv
+
+  pub some-end : (k e : ℕ) (r : Bool) → any p (places k (e - k)) ≡ r → e ≤ k → false ≡ r
+  unfolding any
+  some-end k e r inv h = sym (rw (places-end k e h)) ∙ inv
+
+-- ---- a list made of a function
+module _ {A : Type 0} where
+  pub length-tab : (n : ℕ) (f : ℕ → A) → length (tab n f) ≡ n
+  unfolding tab
+  length-tab n f = length-map (places 0 n) f ∙ length-places 0 n
+
+  pub getD-tab : (n : ℕ) (f : ℕ → A) (i : ℕ) (d : A) → i < n → getD (tab n f) i d ≡ f i
+  unfolding tab
+  getD-tab n f i d h =
+      let z : 0 + i ≡ i = omega arith in
+      getD-any (map f (places 0 n)) i d (f 0) (omega (arith, length-map (places 0 n) f, length-places 0 n))
+      ∙ List·getD-map f (places 0 n) i 0 ∙ ap f (getD-places 0 n i 0 h ∙ z)
+
+  pub tab-cons : (n : ℕ) (f : ℕ → A) → tab (suc n) f ≡ f 0 ∷ tab n (λ i. f (suc i))
+  unfolding tab places
+  tab-cons n f = ap (λ (l : List A). f 0 ∷ l) (ap (map f) (sym (places-up 0 n)) ∙ map-map f suc (places 0 n))
+
+  -- a list is its elements
+  pub tab-list : (f : ℕ → A) (xs : List A) (d : A) → ((i : ℕ) → i < length xs → f i ≡ getD xs i d) → tab (length xs) f ≡ xs
+  tab-list f xs d h =
+      ext-getD d (tab (length xs) f) xs (length-tab (length xs) f)
+      (λ i k. let l : i < length xs = omega (arith, length-tab (length xs) f) in getD-tab (length xs) f i d l ∙ h i l)
+
+  -- every element of such a list, and every two
+  pub all-tab : (p : A → Bool) (n : ℕ) (f : ℕ → A) → all p (tab n f) ≡ all (λ i. p (f i)) (places 0 n)
+  unfolding tab
+  all-tab p n f = all-map f p (places 0 n)
+
+  -- a loop that returns the index of the first element that passes
+  module _ (p : A → Bool) (f : ℕ → A) (n i r : ℕ) where
+    pub first-hit : (t : Bool) → firstFrom p (tab n f) i ≡ r → i < n → t ≡ p (f i) → t ≡ true → i ≡ r
+    first-hit t inv h e g = sym (from-hit p (tab n f) i (f i) (omega (arith, length-tab n f)) (ap p (getD-tab n f i (f i) h) ∙ sym e ∙ g)) ∙ inv
+
+    pub first-on : (t : Bool) → firstFrom p (tab n f) i ≡ r → i < n → t ≡ p (f i) → t ≡ false → firstFrom p (tab n f) (i + 1) ≡ r
+    first-on t inv h e g = sym (from-pass p (tab n f) i (f i) (omega (arith, length-tab n f)) (ap p (getD-tab n f i (f i) h) ∙ sym e ∙ g)) ∙ inv
+
+    pub first-end : firstFrom p (tab n f) i ≡ r → n ≤ i → i ≡ r
+    first-end inv h = sym (from-end p (tab n f) i (omega (arith, length-tab n f))) ∙ inv
+
+    -- the same for a test that is no call
+    pub first-hit-here : firstFrom p (tab n f) i ≡ r → i < n → p (f i) ≡ true → i ≡ r
+    first-hit-here inv h g = first-hit (p (f i)) inv h refl g
+
+    pub first-on-here : firstFrom p (tab n f) i ≡ r → i < n → p (f i) ≡ false → firstFrom p (tab n f) (i + 1) ≡ r
+    first-on-here inv h g = first-on (p (f i)) inv h refl g

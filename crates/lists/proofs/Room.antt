@@ -1,0 +1,71 @@
+-- A list in an array of n places, with one element more or one less; and a list with an element taken out.
+use Prim.Native.Nat.{ℕ, zero, suc, _+_, _-_, _≤_, _<_, min}
+use native.Mathlib.Omega.{arith}
+use mathlib.Core.List.{List, [], _∷_, _++_, append-assoc}
+use mathlib.Core.Path.{_≡_, refl, sym, ap, ap₂, _∙_}
+use lib.ListN.{length, getD, take, drop, set, replicate, length-append, length-replicate, length-take, length-drop, length-set, replicate-append-replicate, List·getD-append}
+use lib.Seq.{take-at, take-append-add, take-append-le, drop-append-le, set-append-left}
+use Rattle.lists.specs.Room.{room, removeAt}
+
+module _ {A : Type 0} where
+  pub length-removed : (xs : List A) (i : ℕ) → i < length xs → length (removeAt i xs) ≡ length xs - 1
+  unfolding removeAt
+  length-removed xs i h = omega (arith, length-append (take i xs) (drop (suc i) xs), length-take i xs, length-drop (suc i) xs)
+
+  module _ (n : ℕ) (z : A) where
+    pub length-room : (xs : List A) → length (room n z xs) ≡ n
+    unfolding room
+    length-room xs = omega (arith, length-take n (xs ++ replicate n z), length-append xs (replicate n z), length-replicate n z)
+
+    -- where the list fits, the places after it hold z
+    pub room-rest : (xs : List A) → length xs ≤ n → room n z xs ≡ xs ++ replicate (n - length xs) z
+    unfolding room
+    room-rest xs h =
+        let k : ℕ = n - length xs in
+        let e : n ≡ length xs + k = omega arith in
+        let f : n ≡ k + length xs = omega arith in
+        let s : replicate n z ≡ replicate k z ++ replicate (length xs) z = ap (λ (m : ℕ). replicate m z) f ∙ sym (replicate-append-replicate k (length xs) z) in
+        ap (λ (m : ℕ). take m (xs ++ replicate n z)) e ∙ take-append-add xs (replicate n z) k
+        ∙ ap (λ (r : List A). xs ++ r) (ap (take k) s ∙ take-at (replicate k z) (replicate (length xs) z) k (length-replicate k z))
+
+    -- what was put there is read back
+    pub room-back : (xs : List A) → length xs ≤ n → take (length xs) (room n z xs) ≡ xs
+    room-back xs h = ap (take (length xs)) (room-rest xs h) ∙ take-at xs (replicate (n - length xs) z) (length xs) refl
+
+    pub room-at : (xs : List A) (k : ℕ) (d : A) → k < length xs → length xs ≤ n → getD (room n z xs) k d ≡ getD xs k d
+    room-at xs k d h b = ap (λ (l : List A). getD l k d) (room-rest xs b) ∙ List·getD-append xs (replicate (n - length xs) z) d k h
+
+    pub room-set : (xs : List A) (k : ℕ) (v : A) → k < length xs → length xs ≤ n → room n z (set xs k v) ≡ set (room n z xs) k v
+    room-set xs k v h b =
+        room-rest (set xs k v) (omega (arith, length-set xs k v))
+        ∙ ap (λ (m : ℕ). set xs k v ++ replicate (n - m) z) (length-set xs k v)
+        ∙ sym (set-append-left xs (replicate (n - length xs) z) k v h) ∙ ap (λ (l : List A). set l k v) (sym (room-rest xs b))
+
+    -- the first free place, before and after one element more is put there
+    pub room-free : (xs : List A) → length xs < n → room n z xs ≡ xs ++ (z ∷ replicate (n - suc (length xs)) z)
+    room-free xs h =
+        let e : n - length xs ≡ suc (n - suc (length xs)) = omega arith in
+        room-rest xs (omega arith) ∙ ap (λ (m : ℕ). xs ++ replicate m z) e
+
+    pub room-push : (xs : List A) (x : A) → length xs < n → room n z (xs ++ x ∷ []) ≡ xs ++ (x ∷ replicate (n - suc (length xs)) z)
+    room-push xs x h =
+        let e : n - length (xs ++ x ∷ []) ≡ n - suc (length xs) = omega (arith, length-append xs (x ∷ [])) in
+        room-rest (xs ++ x ∷ []) (omega (arith, length-append xs (x ∷ [])))
+        ∙ append-assoc xs (x ∷ []) (replicate (n - length (xs ++ x ∷ [])) z)
+        ∙ ap (λ (m : ℕ). xs ++ (x ∷ replicate m z)) e
+
+    -- one element less: the later ones come down, and z fills the place that is left
+    pub room-cut : (xs : List A) (i : ℕ) → i < length xs → length xs ≤ n → room n z (removeAt i xs) ≡ take i (room n z xs) ++ (drop (suc i) (room n z xs) ++ (z ∷ []))
+    unfolding removeAt
+    room-cut xs i h b =
+        let rest : List A = replicate (n - length xs) z in
+        let e : n - length (removeAt i xs) ≡ (n - length xs) + 1 = omega (arith, length-removed xs i h) in
+        let t : take i (xs ++ rest) ≡ take i xs = take-append-le i xs rest (omega arith) in
+        let d : drop (suc i) (xs ++ rest) ≡ drop (suc i) xs ++ rest = drop-append-le (suc i) xs rest h in
+        room-rest (removeAt i xs) (omega (arith, length-removed xs i h))
+        ∙ ap (λ (m : ℕ). (take i xs ++ drop (suc i) xs) ++ replicate m z) e
+        ∙ ap (λ (l : List A). (take i xs ++ drop (suc i) xs) ++ l) (sym (replicate-append-replicate (n - length xs) 1 z))
+        ∙ append-assoc (take i xs) (drop (suc i) xs) (rest ++ (z ∷ []))
+        ∙ ap (λ (l : List A). take i xs ++ l) (sym (append-assoc (drop (suc i) xs) rest (z ∷ [])))
+        ∙ ap₂ (λ (x y : List A). x ++ (y ++ (z ∷ []))) (sym t) (sym d)
+        ∙ ap (λ (l : List A). take i l ++ (drop (suc i) l ++ (z ∷ []))) (sym (room-rest xs b))

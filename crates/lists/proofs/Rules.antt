@@ -1,0 +1,162 @@
+-- The first rule that applies.
+use Prim.Native.Nat.{ℕ, zero, suc, _+_, _-_, _≤_, _<_, suc-le-suc}
+use native.Mathlib.Omega.{arith}
+use native.Mathlib.Nat.{le-of-suc-le-suc}
+use mathlib.Core.Bool.{Bool, true, false, not, true≢false}
+use mathlib.Core.List.{List, [], _∷_, _++_, map, flatMap}
+use mathlib.Core.Logic.{_⊎_, inl, inr, _↔_}
+use mathlib.Core.Path.{_≡_, refl, sym, ap, subst, _∙_}
+use native.Mathlib.Decide.{decLt}
+use lib.Dec.{eqb}
+use borrow.Author.Tests.{not-true, eqb-false}
+use lib.ListN.{length, getD, length-map, List·getD-map}
+use Rattle.lists.specs.Places.{places}
+use Rattle.lists.specs.Rules.{Rule, _when_, firstRule, numbered}
+use Rattle.lists.proofs.Pairs.{pairs-at}
+use Rattle.lists.proofs.Places.{places-step, places-end, getD-any}
+
+module _ {R : Type 0} where
+  -- ---- what each return of a chain of rules answers
+  -- the first rule applies; it does not, and the answer is that of the others; none is left
+  pub rule-hit : (a other : R) (t : Bool) (rs : List (Rule R)) → t ≡ true → a ≡ firstRule (a when t ∷ rs) other
+  unfolding firstRule
+  rule-hit a other t rs e = rw e
+
+  pub rule-skip : (a b other : R) (t : Bool) (rs : List (Rule R)) → t ≡ false → a ≡ firstRule rs other → a ≡ firstRule (b when t ∷ rs) other
+  unfolding firstRule
+  rule-skip a b other t rs e f = rw e f
+
+  pub rule-none : (a other : R) → a ≡ other → a ≡ firstRule [] other
+  unfolding firstRule
+  rule-none a other e = e
+
+  -- ---- rules in stages: v is what the first stage answers
+  -- no rule gives `other`
+  abbrev pub Telling : List (Rule R) → R → Type 0
+  Telling [] other = Unit {0}
+  Telling (r ∷ rs) other = (r .0 ≡ other → ⊥) × Telling rs other
+
+  pub stage-hit : (us vs : List (Rule R)) (v other : R) → v ≡ firstRule us other → (v ≡ other → ⊥) → v ≡ firstRule (us ++ vs) other
+  unfolding firstRule
+  stage-hit [] vs v other e f = absurd (f e)
+  stage-hit ((a, true) ∷ us) vs v other e f = e
+  stage-hit ((a, false) ∷ us) vs v other e f = stage-hit us vs v other e f
+
+  pub stage-skip : (us vs : List (Rule R)) (a v other : R) → Telling us other → v ≡ firstRule us other → v ≡ other → a ≡ firstRule vs other → a ≡ firstRule (us ++ vs) other
+  unfolding firstRule
+  stage-skip [] vs a v other z e f g = g
+  stage-skip ((b, true) ∷ us) vs a v other z e f g = absurd (z .0 (sym e ∙ f))
+  stage-skip ((b, false) ∷ us) vs a v other z e f g = stage-skip us vs a v other (z .1) e f g
+
+  -- ---- a loop through the rules at each place: v is what the rules at k answer, r the whole answer
+  module _ (g : ℕ → List (Rule R)) (k e : ℕ) (v other r : R) where
+    rest : List (Rule R)
+    rest = flatMap g (places (k + 1) (e - (k + 1)))
+
+    turn : k < e → flatMap g (places k (e - k)) ≡ g k ++ rest
+    unfolding flatMap rest
+    turn h = ap (flatMap g) (places-step k e h)
+
+    pub rules-stop : firstRule (flatMap g (places k (e - k))) other ≡ r → k < e → v ≡ firstRule (g k) other → (v ≡ other → ⊥) → v ≡ r
+    rules-stop inv h q f = stage-hit (g k) rest v other q f ∙ ap (λ (l : List (Rule R)). firstRule l other) (sym (turn h)) ∙ inv
+
+    pub rules-on : firstRule (flatMap g (places k (e - k))) other ≡ r → k < e → v ≡ firstRule (g k) other → v ≡ other → Telling (g k) other → firstRule (flatMap g (places (k + 1) (e - (k + 1)))) other ≡ r
+    unfolding rest
+    rules-on inv h q f z = stage-skip (g k) rest (firstRule rest other) v other z q f refl ∙ ap (λ (l : List (Rule R)). firstRule l other) (sym (turn h)) ∙ inv
+
+  pub rules-end : (g : ℕ → List (Rule R)) (k e : ℕ) (other r : R) → firstRule (flatMap g (places k (e - k))) other ≡ r → e ≤ k → other ≡ r
+  unfolding firstRule flatMap
+  rules-end g k e other r inv h = sym (rw (places-end k e h)) ∙ inv
+
+  -- ---- what the answer says
+  -- rule k applies and no earlier one does
+  pub record Applies (rs : List (Rule R)) (d : Rule R) (k : ℕ) : Type 0 where
+    pub there : k < length rs
+    pub holds : getD rs k d .1 ≡ true
+    pub earlier : (j : ℕ) → j < k → getD rs j d .1 ≡ false
+
+  -- no rule applies
+  abbrev pub Silent : List (Rule R) → Rule R → Type 0
+  Silent rs d = (j : ℕ) → j < length rs → getD rs j d .1 ≡ false
+
+  -- the answer is a exactly when a rule that gives a applies and no earlier one does, or none applies and a is `other`
+  abbrev pub Given : List (Rule R) → R → Rule R → R → Type 0
+  Given rs other d a = ((k : ℕ) × Applies rs d k × (getD rs k d .0 ≡ a)) ⊎ (Silent rs d × (other ≡ a))
+
+  sooner : {b : R} {rs : List (Rule R)} {d : Rule R} {other a : R} → Given rs other d a → Given ((b, false) ∷ rs) other d a
+  sooner {b} {rs} {d} (inl (k, h, q)) = inl (suc k, record { there = suc-le-suc (h .there); holds = h .holds; earlier = past }, q)
+    where
+      past : (j : ℕ) → j < suc k → getD ((b, false) ∷ rs) j d .1 ≡ false
+      past zero l = refl
+      past (suc j) l = h .earlier j (omega arith)
+  sooner {b} {rs} {d} (inr (s, q)) = inr (past, q)
+    where
+      past : (j : ℕ) → j < suc (length rs) → getD ((b, false) ∷ rs) j d .1 ≡ false
+      past zero l = refl
+      past (suc j) l = s j (omega arith)
+
+  given : (rs : List (Rule R)) (other : R) (d : Rule R) (a : R) → firstRule rs other ≡ a → Given rs other d a
+  unfolding firstRule
+  given [] other d a e = inr (λ j h. absurd (omega arith), e)
+  given ((b, true) ∷ rs) other d a e = inl (0, record { there = omega arith; holds = refl; earlier = λ j h. absurd (omega arith) }, e)
+  given ((b, false) ∷ rs) other d a e = sooner (given rs other d a e)
+
+  from-given : (rs : List (Rule R)) (other : R) (d : Rule R) (a : R) → Given rs other d a → firstRule rs other ≡ a
+  unfolding firstRule
+  from-given [] other d a (inl (k, h, q)) = absurd (let l : k < 0 = h .there in omega arith)
+  from-given [] other d a (inr (s, q)) = q
+  from-given ((b, true) ∷ rs) other d a (inl (zero, h, q)) = q
+  from-given ((b, true) ∷ rs) other d a (inl (suc k, h, q)) = absurd (true≢false (h .earlier 0 (omega arith)))
+  from-given ((b, true) ∷ rs) other d a (inr (s, q)) = absurd (true≢false (s 0 (omega arith)))
+  from-given ((b, false) ∷ rs) other d a (inl (zero, h, q)) = absurd (true≢false (sym (h .holds)))
+  from-given ((b, false) ∷ rs) other d a (inl (suc k, h, q)) = from-given rs other d a (inl (k, record { there = le-of-suc-le-suc (h .there); holds = h .holds; earlier = λ j l. h .earlier (suc j) (suc-le-suc l) }, q))
+  from-given ((b, false) ∷ rs) other d a (inr (s, q)) = from-given rs other d a (inr (λ j l. s (suc j) (suc-le-suc l), q))
+
+  pub first-rule : (rs : List (Rule R)) (other : R) (d : Rule R) (a : R) → (firstRule rs other ≡ a) ↔ Given rs other d a
+  first-rule rs other d a = (given rs other d a, from-given rs other d a)
+
+-- ---- where the answers are numbers that differ from each other and from 0
+module _ (rs : List (Rule ℕ)) (d : Rule ℕ) (apart : numbered rs ≡ true) where
+  answers : List ℕ
+  answers = 0 ∷ map (λ (r : Rule ℕ). r .0) rs
+
+  differ : (i j : ℕ) → i < j → j < suc (length rs) → getD answers i 0 ≡ getD answers j 0 → ⊥
+  unfolding answers numbered
+  differ i j h l e =
+      eqb-false (getD answers i 0) (getD answers j 0)
+      (not-true (eqb (getD answers i 0) (getD answers j 0)) (pairs-at (λ (m n : ℕ). not (eqb m n)) answers 0 apart i j h (omega (arith, length-map rs (λ (r : Rule ℕ). r .0))))) e
+
+  answer-at : (k : ℕ) → k < length rs → getD answers (suc k) 0 ≡ getD rs k d .0
+  unfolding answers
+  answer-at k h =
+      getD-any (map (λ (r : Rule ℕ). r .0) rs) k 0 (d .0) (omega (arith, length-map rs (λ (r : Rule ℕ). r .0)))
+      ∙ List·getD-map (λ (r : Rule ℕ). r .0) rs k d
+
+  same-place : (j k : ℕ) → j < length rs → k < length rs → getD rs j d .0 ≡ getD rs k d .0 → j ≡ k
+  same-place j k hj hk e =
+      let q : getD answers (suc j) 0 ≡ getD answers (suc k) 0 = answer-at j hj ∙ e ∙ sym (answer-at k hk) in
+      elim (decLt j k) [
+        | yes a ↦ absurd (differ (suc j) (suc k) (suc-le-suc a) (suc-le-suc hk) q)
+        | no a ↦
+            elim (decLt k j) [ yes b ↦ absurd (differ (suc k) (suc j) (suc-le-suc b) (suc-le-suc hj) (sym q)) | no b ↦ omega arith ]
+      ]
+
+  not-zero : (k : ℕ) → k < length rs → 0 ≡ getD rs k d .0 → ⊥
+  unfolding answers
+  not-zero k h e = differ 0 (suc k) (omega arith) (suc-le-suc h) (e ∙ sym (answer-at k h))
+
+  -- the answer is the number of rule k exactly when its test holds and no earlier one does
+  pub number-exactly : (k : ℕ) → k < length rs → (firstRule rs 0 ≡ getD rs k d .0) ↔ Applies rs d k
+  number-exactly k h = (λ e. of (first-rule rs 0 d (getD rs k d .0) .0 e), λ a. first-rule rs 0 d (getD rs k d .0) .1 (inl (k, a, refl)))
+    where
+      of : Given rs 0 d (getD rs k d .0) → Applies rs d k
+      of (inl (j, a, q)) = subst (Applies rs d) (same-place j k (a .there) h q) a
+      of (inr (s, q)) = absurd (not-zero k h q)
+
+  -- it is 0 exactly when no test holds
+  pub zero-exactly : (firstRule rs 0 ≡ 0) ↔ Silent rs d
+  zero-exactly = (λ e. of (first-rule rs 0 d 0 .0 e), λ s. first-rule rs 0 d 0 .1 (inr (s, refl)))
+    where
+      of : Given rs 0 d 0 → Silent rs d
+      of (inl (j, a, q)) = absurd (not-zero j (a .there) (sym q))
+      of (inr (s, q)) = s

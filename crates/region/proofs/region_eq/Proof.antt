@@ -1,0 +1,19 @@
+use Rattle.lists.proofs.Tests.{conjunction}
+use Rattle.rules.specs.Regions.{regionEq}
+use Rattle.region.proofs.region_eq.Statement.{statement}
+use Rattle.region.proofs.region_eq.Tie as tie
+
+returns : tie.Need-returns
+unfolding regionEq
+returns c = search conjunction depth 12
+
+returns-2 : tie.Need-returns-2
+unfolding regionEq
+returns-2 c = search conjunction depth 12
+
+returns-3 : tie.Need-returns-3
+unfolding regionEq
+returns-3 c = search conjunction depth 12
+
+pub region-eq-spec : {M : Type 1} → statement M
+region-eq-spec = tie.close (tie.spec returns returns-2 returns-3)

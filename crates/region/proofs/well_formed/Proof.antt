@@ -1,0 +1,23 @@
+use Rattle.lists.proofs.Tests.{conjunction}
+use Rattle.rules.specs.Regions.{wellFormed}
+use Rattle.region.proofs.well_formed.Statement.{statement}
+use Rattle.region.proofs.well_formed.Tie as tie
+
+returns : tie.Need-returns
+unfolding wellFormed
+returns c = search conjunction depth 12
+
+returns-2 : tie.Need-returns-2
+unfolding wellFormed
+returns-2 c = search conjunction depth 12
+
+returns-3 : tie.Need-returns-3
+unfolding wellFormed
+returns-3 c = search conjunction depth 12
+
+returns-4 : tie.Need-returns-4
+unfolding wellFormed
+returns-4 c = search conjunction depth 12
+
+pub well-formed-spec : {M : Type 1} → statement M
+well-formed-spec = tie.close (tie.spec returns returns-2 returns-3 returns-4)

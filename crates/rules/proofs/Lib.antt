@@ -1,0 +1,3 @@
+-- Laws about the rules alone, for the promises and for the code's proofs.
+pub mod Addresses
+pub mod Regions

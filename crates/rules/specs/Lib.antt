@@ -1,0 +1,4 @@
+-- The rules, in the order of the document: what must be believed.
+pub mod Limits
+pub mod Addresses
+pub mod Regions

@@ -1,0 +1,13 @@
+-- Every limit, once.
+use Prim.Native.Nat.{ℕ, _^_}
+
+-- a region's three numbers are multiples of this
+abbrev pub page : ℕ
+page = 4096
+
+-- the highest end of a region, in guest and in physical addresses
+abbrev pub guestReach : ℕ
+guestReach = 2 ^ 48
+
+abbrev pub physReach : ℕ
+physReach = 2 ^ 48

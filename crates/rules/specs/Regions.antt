@@ -1,0 +1,28 @@
+-- Regions: when one is well formed and in reach, when two are equal, and when two overlap.
+use Prim.Native.Nat.{_+_, _%_}
+use mathlib.Core.Bool.{Bool}
+use mathlib.Core.List.{[], _∷_}
+use lib.Dec.{ltb, leb, eqb}
+use Rattle.lists.specs.Tests.{allOf}
+use Rattle.rules.specs.declared.Region.{Region}
+use Rattle.rules.specs.Limits.{page, guestReach, physReach}
+use Rattle.rules.specs.Addresses.{overlaps}
+
+-- size above 0, and all three numbers multiples of the page
+unfoldable pub wellFormed : Region → Bool
+wellFormed r = allOf (ltb 0 (r .size) ∷ eqb (r .v .0 % page) 0 ∷ eqb (r .p .0 % page) 0 ∷ eqb (r .size % page) 0 ∷ [])
+
+-- v + size and p + size, as whole numbers, are at most their reach
+unfoldable pub inReach : Region → Bool
+inReach r = allOf (leb (r .v .0 + r .size) guestReach ∷ leb (r .p .0 + r .size) physReach ∷ [])
+
+-- all three numbers are equal
+unfoldable pub regionEq : Region → Region → Bool
+regionEq a b = allOf (eqb (a .v .0) (b .v .0) ∷ eqb (a .p .0) (b .p .0) ∷ eqb (a .size) (b .size) ∷ [])
+
+-- some one physical address is covered by both; some one guest address
+abbrev pub physOverlap : Region → Region → Bool
+physOverlap a b = overlaps (a .p .0) (a .size) (b .p .0) (b .size)
+
+abbrev pub guestOverlap : Region → Region → Bool
+guestOverlap a b = overlaps (a .v .0) (a .size) (b .v .0) (b .size)

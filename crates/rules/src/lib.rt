@@ -1,0 +1,35 @@
+// The vocabulary of the rules as plain data. There is no code: specs/ has every definition, proofs/ the laws about them.
+pub mod limits;
+
+// An address that a zone uses.
+pub struct Guest(pub u64);
+
+// An address of the machine's memory.
+pub struct Phys(pub u64);
+
+// `size` bytes: the guest addresses from `v` on stand for the physical ones from `p` on.
+pub struct Region {
+    pub v: Guest,
+    pub p: Phys,
+    pub size: u64,
+}
+
+// Who uses a zone's regions: its processor, or its devices.
+pub enum Side {
+    Cpu,
+    Iommu,
+}
+
+// What is asked of a zone. Numbers that make no request are kept as one that is refused.
+pub enum Kind {
+    AddZone,
+    RemoveZone,
+    Insert(Side, Region),
+    Remove(Side, Region),
+    NoRequest,
+}
+
+pub struct Request {
+    pub zone: u32,
+    pub kind: Kind,
+}

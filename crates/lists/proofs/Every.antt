@@ -1,15 +1,14 @@
 -- Every element passes, or some one does; also after an element is appended, put in another's place, or taken out.
-use Prim.Native.Nat.{ℕ, zero, suc, _≤_, _<_, suc-le-suc}
+use Prim.Native.Nat.{ℕ, zero, suc, _<_, suc-le-suc}
 use native.Mathlib.Omega.{arith}
 use mathlib.Core.Bool.{Bool, true, false, not, _&&_, _||_, true≢false}
 use mathlib.Core.List.{List, [], _∷_, _++_, map}
 use mathlib.Core.Path.{_≡_, refl, sym, ap, _∙_}
-use lib.ListN.{length, getD, take, drop, set}
+use lib.ListN.{length, getD, set}
 use Rattle.lists.specs.First.{any, all}
 use Rattle.lists.specs.Room.{removeAt}
-use Rattle.lists.proofs.Tests.{both-true, and-true, both-false, or-left, or-right, one-true}
+use Rattle.lists.proofs.Tests.{both-true, and-true, both-false, or-left, or-right, or-false, one-true}
 use mathlib.Core.Logic.{⊎-elim}
-use borrow.Author.Tests.{not-true}
 
 module _ {A : Type 0} (p : A → Bool) where
   -- ---- every element, one by one
@@ -77,6 +76,11 @@ module _ {A : Type 0} (p : A → Bool) where
   none-at [] d e i h = absurd (omega arith)
   none-at (x ∷ xs) d e zero h = both-false (p x) (any p xs) e .0
   none-at (x ∷ xs) d e (suc i) h = none-at xs d (both-false (p x) (any p xs) e .1) i (omega arith)
+
+  pub none-make : (xs : List A) (d : A) → ((i : ℕ) → i < length xs → p (getD xs i d) ≡ false) → any p xs ≡ false
+  unfolding any
+  none-make [] d f = refl
+  none-make (x ∷ xs) d f = or-false (p x) (any p xs) (f 0 (omega arith)) (none-make xs d (λ i h. f (suc i) (suc-le-suc h)))
 
   -- none but element k passes: each other one fails
   pub none-others : (xs : List A) (k : ℕ) (d : A) → any p (removeAt k xs) ≡ false → (j : ℕ) → j < length xs → (j ≡ k → ⊥) → p (getD xs j d) ≡ false

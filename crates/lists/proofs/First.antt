@@ -1,16 +1,18 @@
 -- The first element that passes a test.
-use Prim.Native.Nat.{ℕ, zero, suc, _+_, _≤_, _<_}
+use Prim.Native.Nat.{ℕ, zero, suc, _+_, _-_, _≤_, _<_}
 use native.Mathlib.Omega.{arith}
 use native.Mathlib.Nat.{add-zero}
 use native.Mathlib.Numerals.{add-one}
-use mathlib.Core.Bool.{Bool, true, false, cond, _||_}
+use native.Mathlib.Decide.{decLt}
+use mathlib.Core.Bool.{Bool, true, false, cond, _||_, true≢false}
 use mathlib.Core.List.{List, [], _∷_}
 use mathlib.Core.Path.{_≡_, refl, sym, ap, _∙_}
 use lib.Dec.{ltb, leb·suc-suc}
 use borrow.Author.Tests.{lt-ltb}
-use lib.ListN.{length, getD, drop, drop-of-length-le}
-use lib.Seq.{drop-cons}
+use lib.ListN.{length, getD, drop, drop-of-length-le, length-drop}
+use lib.Seq.{drop-cons, getD-drop}
 use Rattle.lists.specs.First.{firstIndex, firstFrom, any}
+use Rattle.lists.proofs.Tests.{same-ltb}
 
 any-cons : (t u : Bool) (k n : ℕ) → u ≡ ltb k n → (t || u) ≡ ltb (cond t 0 (suc k)) (suc n)
 any-cons true u k n e = sym (lt-ltb 0 (suc n) (omega arith))
@@ -52,6 +54,12 @@ module _ {A : Type 0} (p : A → Bool) where
       by false e zero h later = e
       by false e (suc i) h later = later i (omega arith)
 
+  -- an element that passes while none before it does is the first
+  pub first-is : (xs : List A) (d : A) (k : ℕ) → k < length xs → p (getD xs k d) ≡ true → ((j : ℕ) → j < k → p (getD xs j d) ≡ false) → firstIndex p xs ≡ k
+  first-is xs d k h e f =
+      let q : firstIndex p xs ≤ k = elim (decLt k (firstIndex p xs)) [ yes a ↦ absurd (true≢false (sym e ∙ before-fails xs d k a)) | no a ↦ omega arith ] in
+      elim (decLt (firstIndex p xs) k) [ yes a ↦ absurd (true≢false (sym (first-passes xs d (omega arith)) ∙ f (firstIndex p xs) a)) | no a ↦ omega arith ]
+
   -- ---- from an index on: what is left gives the whole answer
   pub from-zero : (xs : List A) → firstFrom p xs 0 ≡ firstIndex p xs
   unfolding firstFrom
@@ -68,3 +76,36 @@ module _ {A : Type 0} (p : A → Bool) where
   pub from-end : (xs : List A) (i : ℕ) → length xs ≤ i → firstFrom p xs i ≡ i
   unfolding firstFrom firstIndex
   from-end xs i h = rw (drop-of-length-le xs {i = i} h) (add-zero i)
+
+  pub any-from : (xs : List A) (i : ℕ) → i ≤ length xs → any p (drop i xs) ≡ ltb (firstFrom p xs i) (length xs)
+  unfolding firstFrom
+  any-from xs i h =
+      any-first (drop i xs)
+      ∙ same-ltb (firstIndex p (drop i xs)) (length (drop i xs)) (i + firstIndex p (drop i xs)) (length xs) (λ a. omega (arith, length-drop i xs)) (λ a. omega (arith, length-drop i xs))
+
+  -- the first from index i on passes, none between does, and an element of which that is so is the first
+  module _ (xs : List A) (d : A) (i : ℕ) where
+    shifted : (j : ℕ) → i ≤ j → getD (drop i xs) (j - i) d ≡ getD xs j d
+    shifted j h = let e : i + (j - i) ≡ j = omega arith in getD-drop i xs (j - i) d ∙ ap (λ (k : ℕ). getD xs k d) e
+
+    pub from-passes : firstFrom p xs i < length xs → p (getD xs (firstFrom p xs i) d) ≡ true
+    unfolding firstFrom
+    from-passes h =
+        let e : i + firstIndex p (drop i xs) - i ≡ firstIndex p (drop i xs) = omega arith in
+        ap p (sym (shifted (i + firstIndex p (drop i xs)) (omega arith)) ∙ ap (λ (k : ℕ). getD (drop i xs) k d) e) ∙ first-passes (drop i xs) d (omega (arith, length-drop i xs))
+
+    pub between-fails : (j : ℕ) → i ≤ j → j < firstFrom p xs i → p (getD xs j d) ≡ false
+    unfolding firstFrom
+    between-fails j h l = ap p (sym (shifted j h)) ∙ before-fails (drop i xs) d (j - i) (omega arith)
+
+    pub from-least : i ≤ firstFrom p xs i
+    unfolding firstFrom
+    from-least = omega arith
+
+    pub from-is : (k : ℕ) → i ≤ k → k < length xs → p (getD xs k d) ≡ true → ((j : ℕ) → i ≤ j → j < k → p (getD xs j d) ≡ false) → firstFrom p xs i ≡ k
+    unfolding firstFrom
+    from-is k h l e f =
+        let q : firstIndex p (drop i xs) ≡ k - i =
+        first-is (drop i xs) d (k - i) (omega (arith, length-drop i xs)) (ap p (shifted k h) ∙ e)
+        (λ j b. ap p (getD-drop i xs j d) ∙ f (i + j) (omega arith) (omega arith)) in
+        omega arith

@@ -1,21 +1,21 @@
 -- Numbers in a row, lists made of a function, and the loops that go through them: at a place k the invariant says that what is left
 -- gives the whole answer r, and t is what the call of the test at k returned.
-use Prim.Native.Nat.{ℕ, zero, suc, _+_, _-_, _≤_, _<_, suc-le-suc}
+use Prim.Native.Nat.{ℕ, zero, suc, _+_, _-_, _≤_, _<_}
 use native.Mathlib.Omega.{arith}
 use native.Mathlib.Nat.{add-zero}
 use native.Mathlib.Numerals.{add-one}
 use native.Mathlib.Decide.{decLt}
-use mathlib.Core.Bool.{Bool, true, false, _&&_, _||_}
+use mathlib.Core.Bool.{Bool, true, false}
 use mathlib.Core.List.{List, [], _∷_, map, map-map}
-use mathlib.Core.Path.{_≡_, refl, sym, ap, ap₂, _∙_}
-use lib.ListN.{length, getD, length-map, List·getD-map}
-use lib.Seq.{ext-getD}
-use Rattle.lists.specs.First.{firstIndex, firstFrom, any, all}
-use Rattle.lists.specs.Pairs.{pairwise}
+use mathlib.Core.Logic.{_⊎_, inl, inr, ⊎-elim}
+use mathlib.Core.Path.{_≡_, refl, sym, ap, _∙_}
+use lib.ListN.{length, getD, take, drop, length-map, length-take, length-drop, List·getD-map}
+use lib.Seq.{ext-getD, getD-take, getD-drop}
+use Rattle.lists.specs.First.{firstFrom, any, all}
 use Rattle.lists.specs.Places.{places, tab}
-use Rattle.lists.proofs.Tests.{both-true, and-true}
+use Rattle.lists.proofs.Tests.{both-true, and-true, holds-or-fails}
 use Rattle.lists.proofs.First.{from-hit, from-pass, from-end}
-use Rattle.lists.proofs.Every.{all-same, all-map}
+use Rattle.lists.proofs.Every.{all-map}
 
 -- within a list the default does not matter
 pub getD-any : {A : Type 0} (xs : List A) (k : ℕ) (d e : A) → k < length xs → getD xs k d ≡ getD xs k e
@@ -93,6 +93,15 @@ module _ (p : ℕ → Bool) where
   unfolding any
   some-end k e r inv h = sym (rw (places-end k e h)) ∙ inv
 
+-- a test holds at every number below n, or there is a first at which it fails
+pub first-failing : (p : ℕ → Bool) (n : ℕ) → ((i : ℕ) → i < n → p i ≡ true) ⊎ ((i : ℕ) × (i < n) × (p i ≡ false) × ((j : ℕ) → j < i → p j ≡ true))
+first-failing p zero = inl (λ i h. absurd (omega arith))
+first-failing p (suc n) = ⊎-elim (λ f. at-end f (holds-or-fails (p n))) (λ (i, h, e, f). inr (i, omega arith, e, f)) (first-failing p n)
+  where
+    at-end : ((i : ℕ) → i < n → p i ≡ true) → (p n ≡ true) ⊎ (p n ≡ false) → ((i : ℕ) → i < suc n → p i ≡ true) ⊎ ((i : ℕ) × (i < suc n) × (p i ≡ false) × ((j : ℕ) → j < i → p j ≡ true))
+    at-end f (inl e) = inl (λ i h. elim (decLt i n) [ yes a ↦ f i a | no a ↦ (let q : i ≡ n = omega arith in ap p q ∙ e) ])
+    at-end f (inr e) = inr (n, omega arith, e, f)
+
 -- ---- a list made of a function
 module _ {A : Type 0} where
   pub length-tab : (n : ℕ) (f : ℕ → A) → length (tab n f) ≡ n
@@ -109,6 +118,23 @@ module _ {A : Type 0} where
   pub tab-cons : (n : ℕ) (f : ℕ → A) → tab (suc n) f ≡ f 0 ∷ tab n (λ i. f (suc i))
   unfolding tab places
   tab-cons n f = ap (λ (l : List A). f 0 ∷ l) (ap (map f) (sym (places-up 0 n)) ∙ map-map f suc (places 0 n))
+
+  -- its first elements, and those from an index on
+  pub take-tab : (n i : ℕ) (f : ℕ → A) → i ≤ n → take i (tab n f) ≡ tab i f
+  take-tab n i f h =
+      let l : length (take i (tab n f)) ≡ i = omega (arith, length-take i (tab n f), length-tab n f) in
+      ext-getD (f 0) (take i (tab n f)) (tab i f) (l ∙ sym (length-tab i f))
+      (λ k b. let c : k < i = omega arith in getD-take i (tab n f) k (f 0) c ∙ getD-tab n f k (f 0) (omega arith) ∙ sym (getD-tab i f k (f 0) c))
+
+  pub drop-tab : (n i : ℕ) (f : ℕ → A) → i ≤ n → drop i (tab n f) ≡ map f (places i (n - i))
+  drop-tab n i f h =
+      let l : length (drop i (tab n f)) ≡ n - i = omega (arith, length-drop i (tab n f), length-tab n f) in
+      let m : length (map f (places i (n - i))) ≡ n - i = length-map (places i (n - i)) f ∙ length-places i (n - i) in
+      ext-getD (f 0) (drop i (tab n f)) (map f (places i (n - i))) (l ∙ sym m)
+      (λ k b.
+      let c : k < n - i = omega arith in
+      getD-drop i (tab n f) k (f 0) ∙ getD-tab n f (i + k) (f 0) (omega arith)
+      ∙ sym (List·getD-map f (places i (n - i)) k 0 ∙ ap f (getD-places i (n - i) k 0 c)))
 
   -- a list is its elements
   pub tab-list : (f : ℕ → A) (xs : List A) (d : A) → ((i : ℕ) → i < length xs → f i ≡ getD xs i d) → tab (length xs) f ≡ xs

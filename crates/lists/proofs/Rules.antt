@@ -1,26 +1,26 @@
 -- The first rule that applies.
 use Prim.Native.Nat.{ℕ, zero, suc, _+_, _-_, _≤_, _<_, suc-le-suc}
 use native.Mathlib.Omega.{arith}
-use native.Mathlib.Nat.{le-of-suc-le-suc}
+use native.Mathlib.Nat.{le-of-suc-le-suc, sub-zero}
 use mathlib.Core.Bool.{Bool, true, false, not, true≢false}
 use mathlib.Core.List.{List, [], _∷_, _++_, map, flatMap}
-use mathlib.Core.Logic.{_⊎_, inl, inr, _↔_}
+use mathlib.Core.Logic.{inl, inr, _↔_}
 use mathlib.Core.Path.{_≡_, refl, sym, ap, subst, _∙_}
 use native.Mathlib.Decide.{decLt}
 use lib.Dec.{eqb}
 use borrow.Author.Tests.{not-true, eqb-false}
 use lib.ListN.{length, getD, length-map, List·getD-map}
 use Rattle.lists.specs.Places.{places}
-use Rattle.lists.specs.Rules.{Rule, _when_, firstRule, numbered}
+use Rattle.lists.specs.Rules.{Rule, _when_, firstRule, Applies, Silent, Given, numbered}
 use Rattle.lists.proofs.Pairs.{pairs-at}
 use Rattle.lists.proofs.Places.{places-step, places-end, getD-any}
 
 module _ {R : Type 0} where
   -- ---- what each return of a chain of rules answers
   -- the first rule applies; it does not, and the answer is that of the others; none is left
-  pub rule-hit : (a other : R) (t : Bool) (rs : List (Rule R)) → t ≡ true → a ≡ firstRule (a when t ∷ rs) other
+  pub rule-hit : (a b other : R) (t : Bool) (rs : List (Rule R)) → t ≡ true → a ≡ b → a ≡ firstRule (b when t ∷ rs) other
   unfolding firstRule
-  rule-hit a other t rs e = rw e
+  rule-hit a b other t rs e f = rw e f
 
   pub rule-skip : (a b other : R) (t : Bool) (rs : List (Rule R)) → t ≡ false → a ≡ firstRule rs other → a ≡ firstRule (b when t ∷ rs) other
   unfolding firstRule
@@ -29,6 +29,8 @@ module _ {R : Type 0} where
   pub rule-none : (a other : R) → a ≡ other → a ≡ firstRule [] other
   unfolding firstRule
   rule-none a other e = e
+
+  pub ruleset rules = (rule-hit, rule-skip, rule-none)
 
   -- ---- rules in stages: v is what the first stage answers
   -- no rule gives `other`
@@ -68,21 +70,16 @@ module _ {R : Type 0} where
   unfolding firstRule flatMap
   rules-end g k e other r inv h = sym (rw (places-end k e h)) ∙ inv
 
+  -- the rules at the places below i answer nothing: the answer is that of the places from i on
+  pub rules-past : (g : ℕ → List (Rule R)) (n : ℕ) (other : R) → ((j : ℕ) → Telling (g j) other) → (i : ℕ) → i ≤ n → ((j : ℕ) → j < i → firstRule (g j) other ≡ other)
+      → firstRule (flatMap g (places i (n - i))) other ≡ firstRule (flatMap g (places 0 n)) other
+  rules-past g n other z zero h f = rw sub-zero
+  rules-past g n other z (suc i) h f =
+      let e : suc i ≡ i + 1 = omega arith in
+      ap (λ (k : ℕ). firstRule (flatMap g (places k (n - k))) other) e
+      ∙ rules-on g i n other other (firstRule (flatMap g (places 0 n)) other) (rules-past g n other z i (omega arith) (λ j l. f j (omega arith))) h (sym (f i (omega arith))) refl (z i)
+
   -- ---- what the answer says
-  -- rule k applies and no earlier one does
-  pub record Applies (rs : List (Rule R)) (d : Rule R) (k : ℕ) : Type 0 where
-    pub there : k < length rs
-    pub holds : getD rs k d .1 ≡ true
-    pub earlier : (j : ℕ) → j < k → getD rs j d .1 ≡ false
-
-  -- no rule applies
-  abbrev pub Silent : List (Rule R) → Rule R → Type 0
-  Silent rs d = (j : ℕ) → j < length rs → getD rs j d .1 ≡ false
-
-  -- the answer is a exactly when a rule that gives a applies and no earlier one does, or none applies and a is `other`
-  abbrev pub Given : List (Rule R) → R → Rule R → R → Type 0
-  Given rs other d a = ((k : ℕ) × Applies rs d k × (getD rs k d .0 ≡ a)) ⊎ (Silent rs d × (other ≡ a))
-
   sooner : {b : R} {rs : List (Rule R)} {d : Rule R} {other a : R} → Given rs other d a → Given ((b, false) ∷ rs) other d a
   sooner {b} {rs} {d} (inl (k, h, q)) = inl (suc k, record { there = suc-le-suc (h .there); holds = h .holds; earlier = past }, q)
     where
@@ -112,6 +109,7 @@ module _ {R : Type 0} where
   from-given ((b, false) ∷ rs) other d a (inl (suc k, h, q)) = from-given rs other d a (inl (k, record { there = le-of-suc-le-suc (h .there); holds = h .holds; earlier = λ j l. h .earlier (suc j) (suc-le-suc l) }, q))
   from-given ((b, false) ∷ rs) other d a (inr (s, q)) = from-given rs other d a (inr (λ j l. s (suc j) (suc-le-suc l), q))
 
+  -- the answer is a exactly when a rule that gives a applies and no earlier one does, or none applies and a is `other`
   pub first-rule : (rs : List (Rule R)) (other : R) (d : Rule R) (a : R) → (firstRule rs other ≡ a) ↔ Given rs other d a
   first-rule rs other d a = (given rs other d a, from-given rs other d a)
 

@@ -5,7 +5,7 @@ use mathlib.Core.Bool.{Bool, true, false, not, _&&_, _||_, true≢false}
 use mathlib.Core.List.{List, [], _∷_}
 use mathlib.Core.Logic.{_⊎_, inl, inr}
 use mathlib.Core.Path.{_≡_, refl, sym, ap, _∙_}
-use lib.Dec.{ltb, leb, eqb}
+use lib.Dec.{ltb, leb}
 use borrow.Author.Tests.{lt-ltb, le-ltb, le-leb, lt-leb, eq-eqb, ne-eqb, ltb-true, leb-true, not-true, not-false}
 use Rattle.lists.specs.Tests.{allOf}
 
@@ -37,6 +37,12 @@ or-left false b e = absurd (true≢false (sym e))
 pub or-right : (a b : Bool) → b ≡ true → (a || b) ≡ true
 or-right true b e = refl
 or-right false b e = e
+
+pub not-fails : (a : Bool) → a ≡ false → not a ≡ true
+not-fails a e = ap not e
+
+pub not-holds : (a : Bool) → a ≡ true → not a ≡ false
+not-holds a e = ap not e
 
 -- a test either holds or fails
 pub holds-or-fails : (t : Bool) → (t ≡ true) ⊎ (t ≡ false)
@@ -108,5 +114,7 @@ pub some-above : (n : ℕ) → (n ≡ 0 → ⊥) → ltb 0 n ≡ true
 some-above n e = lt-ltb 0 n (omega arith)
 
 pub ruleset tests = (told, told-not, told-off, told-on, lt-ltb, le-ltb, le-leb, lt-leb, eq-eqb, ne-eqb, none-above, some-above)
+
+pub ruleset alternatives = (or-left, or-right, or-false, tests)
 
 pub ruleset conjunction = (all-miss, all-last, all-pass, tests)

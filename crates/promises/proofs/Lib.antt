@@ -1,2 +1,3 @@
 -- The proofs of the promises.
 pub mod Addresses
+pub mod Configuration

@@ -1,5 +1,5 @@
 -- Overlap: what its test says, for guest and physical addresses alike.
-use Prim.Native.Nat.{ℕ, _+_, _<_, min, max}
+use Prim.Native.Nat.{ℕ, max}
 use native.Mathlib.Omega.{arith}
 use mathlib.Core.Bool.{true}
 use mathlib.Core.Logic.{_↔_}

@@ -1,3 +1,4 @@
 -- Laws about the rules alone, for the promises and for the code's proofs.
 pub mod Addresses
 pub mod Regions
+pub mod Configuration

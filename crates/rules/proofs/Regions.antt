@@ -1,5 +1,4 @@
 -- Regions: equality is equality, and what is well formed and in reach.
-use Prim.Native.Nat.{_+_, _%_, _≤_, _<_}
 use mathlib.Core.Bool.{true}
 use mathlib.Core.Path.{_≡_, refl}
 use borrow.Author.Tests.{eqb-true, eq-eqb}

@@ -11,3 +11,7 @@ guestReach = 2 ^ 48
 
 abbrev pub physReach : ℕ
 physReach = 2 ^ 48
+
+-- a configuration has 1 to this many regions
+abbrev pub mostRegions : ℕ
+mostRegions = 64

@@ -1,6 +1,6 @@
 -- Regions: when one is well formed and in reach, when two are equal, and when two overlap.
 use Prim.Native.Nat.{_+_, _%_}
-use mathlib.Core.Bool.{Bool}
+use mathlib.Core.Bool.{Bool, not}
 use mathlib.Core.List.{[], _∷_}
 use lib.Dec.{ltb, leb, eqb}
 use Rattle.lists.specs.Tests.{allOf}
@@ -26,3 +26,11 @@ physOverlap a b = overlaps (a .p .0) (a .size) (b .p .0) (b .size)
 
 abbrev pub guestOverlap : Region → Region → Bool
 guestOverlap a b = overlaps (a .v .0) (a .size) (b .v .0) (b .size)
+
+-- the region whose numbers are all zero, which stands in every unused record
+abbrev pub noRegion : Region
+noRegion = record { v = record { 0 = 0 }; p = record { 0 = 0 }; size = 0 }
+
+-- not all zero
+abbrev pub used : Region → Bool
+used r = not (regionEq r noRegion)

@@ -14,6 +14,18 @@ pub struct Region {
     pub size: u64,
 }
 
+// What the check of a configuration finds: nothing, or the first fault with its place. specs/Configuration.antt gives each case
+// its number.
+pub enum Checked {
+    Sound,
+    BadCount,
+    BadGic,
+    NotZero(usize),
+    Malformed(usize),
+    OutOfReach(usize),
+    Overlap(usize, usize),
+}
+
 // Who uses a zone's regions: its processor, or its devices.
 pub enum Side {
     Cpu,

@@ -4,3 +4,5 @@ pub const PAGE: u64 = 4096;
 pub const GUEST_REACH: u64 = 0x1_0000_0000_0000;
 
 pub const PHYS_REACH: u64 = 0x1_0000_0000_0000;
+
+pub const MOST_REGIONS: usize = 64;

@@ -1,0 +1,57 @@
+use borrow.Author.Needs.{needs}
+use Rattle.lists.proofs.Rules.{rules}
+use Rattle.lists.proofs.Tests.{alternatives}
+use Rattle.rules.specs.Configuration.{check, checkRules}
+use Rattle.zones.proofs.ConfigCheck.{some-later, none-later, not-zero-at}
+use Rattle.zones.proofs.config.check_words.Statement.{statement}
+use Rattle.zones.proofs.config.check_words.Tie as tie
+
+element-copy-out-count : tie.Need-element-copy-out-count
+element-copy-out-count c = search needs
+
+returns : tie.Need-returns
+unfolding check checkRules
+returns c = search (rules, some-later, none-later, alternatives) depth 20
+
+returns-2 : tie.Need-returns-2
+unfolding check checkRules
+returns-2 c = search (rules, some-later, none-later, alternatives) depth 20
+
+element-copy-out-if3 : tie.Need-element-copy-out-if3
+element-copy-out-if3 c = search needs
+
+element-copy-out-if3-2 : tie.Need-element-copy-out-if3-2
+element-copy-out-if3-2 c = search needs
+
+returns-3 : tie.Need-returns-3
+unfolding check checkRules
+returns-3 c = search (rules, some-later, none-later, alternatives) depth 20
+
+first-used-requires : tie.Need-first-used-requires
+first-used-requires c κs = search needs
+
+returns-4 : tie.Need-returns-4
+unfolding check checkRules
+returns-4 c = search (rules, not-zero-at, some-later, none-later, alternatives) depth 20
+
+check-positions-requires : tie.Need-check-positions-requires
+check-positions-requires c κs = search needs
+
+returns-5 : tie.Need-returns-5
+unfolding check checkRules
+returns-5 c = search (rules, some-later, none-later, alternatives) depth 20
+
+pub check-words-spec : {M : Type 1} → statement M
+check-words-spec =
+    tie.close
+    (tie.spec
+    element-copy-out-count
+    returns
+    returns-2
+    element-copy-out-if3
+    element-copy-out-if3-2
+    returns-3
+    first-used-requires
+    returns-4
+    check-positions-requires
+    returns-5)

@@ -1,0 +1,18 @@
+-- Records of a region each, end to end among words. A word is read by `getD w k 0`.
+use Prim.Native.Nat.{ℕ, _+_, _*_}
+use mathlib.Core.List.{List}
+use lib.ListN.{getD}
+use Rattle.lists.specs.Places.{tab}
+use Rattle.rules.specs.declared.Region.{Region}
+use Rattle.zones.specs.Layout.{regionWords}
+
+-- the region whose record starts at word k
+unfoldable pub regionAt : List ℕ → ℕ → Region
+regionAt w k = record { v = record { 0 = getD w k 0 }; p = record { 0 = getD w (k + 1) 0 }; size = getD w (k + 2) 0 }
+
+-- record i, and n records, from word b on
+unfoldable pub recordAt : List ℕ → ℕ → ℕ → Region
+recordAt w b i = regionAt w (b + i * regionWords)
+
+unfoldable pub recordsAt : List ℕ → ℕ → ℕ → List Region
+recordsAt w b n = tab n (recordAt w b)

@@ -1,0 +1,162 @@
+// The configuration's check.
+use crate::layout::CONFIG_COUNT;
+use crate::layout::CONFIG_GIC;
+use crate::layout::CONFIG_RECORDS;
+use crate::layout::CONFIG_WORDS;
+use crate::layout::REGION_WORDS;
+use crate::words::find_phys;
+use crate::words::is_used;
+use crate::words::read_region;
+use region::in_reach;
+use region::well_formed;
+use rules::Checked;
+use rules::Region;
+use rules::limits::MOST_REGIONS;
+ghost use Prim.Native.Nat.{_<_, _≤_};
+ghost use mathlib.Core.List.{flatMap};
+ghost use mathlib.Core.Path.{_≡_};
+ghost use Rattle.lists.specs.First.{firstFrom};
+ghost use Rattle.lists.specs.Places.{places};
+ghost use Rattle.lists.specs.Rules.{firstRule};
+ghost use Rattle.rules.specs.declared.Checked.{Checked};
+ghost use Rattle.rules.specs.Limits.{mostRegions};
+ghost use Rattle.rules.specs.Regions.{used};
+ghost use Rattle.rules.specs.Configuration.{positionRules, check, checkNumber, checkPlace, checkEarlier};
+ghost use Rattle.zones.specs.Layout.{configRecords};
+ghost use Rattle.zones.specs.Records.{recordAt};
+ghost use Rattle.zones.specs.View.{storedConfig, allRecords};
+
+pub struct Config {
+    pub words: [u64; CONFIG_WORDS],
+}
+
+// The document's check: what it finds first.
+pub fn check_config(c: Config) -> Checked
+    ensures { λ f. ⌜ f ≡ check (storedConfig (c .words)) ⌝ }
+{
+    let words = c.words;
+    check_words(&words)
+}
+
+// The document's number of what the check found: 0, or 1 to 6 for C1 to C6.
+pub fn check_number(f: Checked) -> u32
+    ensures { λ n. ⌜ n ≡ checkNumber f ⌝ }
+{
+    match f {
+        Checked::Sound => 0,
+        Checked::BadCount => 1,
+        Checked::BadGic => 2,
+        Checked::NotZero(_) => 3,
+        Checked::Malformed(_) => 4,
+        Checked::OutOfReach(_) => 5,
+        Checked::Overlap(_, _) => 6,
+    }
+}
+
+// The place that goes with the number, or 0.
+pub fn check_place(f: Checked) -> usize
+    ensures { λ n. ⌜ n ≡ checkPlace f ⌝ }
+{
+    match f {
+        Checked::Sound => 0,
+        Checked::BadCount => 0,
+        Checked::BadGic => 0,
+        Checked::NotZero(k) => k,
+        Checked::Malformed(i) => i,
+        Checked::OutOfReach(i) => i,
+        Checked::Overlap(i, _) => i,
+    }
+}
+
+// The lowest earlier position that the place overlaps, for C6, or 0.
+pub fn check_earlier(f: Checked) -> usize
+    ensures { λ n. ⌜ n ≡ checkEarlier f ⌝ }
+{
+    match f {
+        Checked::Sound => 0,
+        Checked::BadCount => 0,
+        Checked::BadGic => 0,
+        Checked::NotZero(_) => 0,
+        Checked::Malformed(_) => 0,
+        Checked::OutOfReach(_) => 0,
+        Checked::Overlap(_, k) => k,
+    }
+}
+
+// The same where the configuration lies.
+pub fn check_words(c: &[u64; CONFIG_WORDS]) -> Checked
+    ensures { λ f. ⌜ f ≡ check (storedConfig (now (c .entry))) ⌝ }
+{
+    let count = c[CONFIG_COUNT] as usize;
+    if count == 0 {
+        return Checked::BadCount;
+    }
+    if MOST_REGIONS < count {
+        return Checked::BadCount;
+    }
+    if c[CONFIG_COUNT] <= c[CONFIG_GIC] {
+        return Checked::BadGic;
+    }
+    let k = first_used(c, count);
+    if k < MOST_REGIONS {
+        return Checked::NotZero(k);
+    }
+    check_positions(c, count)
+}
+
+fn region_at(c: &[u64; CONFIG_WORDS], i: usize) -> Region
+    requires { ⌜ i < mostRegions ⌝ }
+    ensures { λ r. ⌜ r ≡ recordAt (now (c .entry)) configRecords i ⌝ }
+{
+    read_region(c, CONFIG_RECORDS + i * REGION_WORDS)
+}
+
+// The first record from position n on that is not all zero, or the number of records.
+fn first_used(c: &[u64; CONFIG_WORDS], n: usize) -> usize
+    requires { ⌜ n ≤ mostRegions ⌝ }
+    ensures { λ k. ⌜ k ≡ firstFrom used (allRecords (now (c .entry))) n ⌝ }
+{
+    let mut i = n;
+    while i < MOST_REGIONS {
+        if is_used(region_at(c, i)) {
+            return i;
+        }
+        i += 1;
+    }
+    i
+}
+
+// The first fault at the positions below n.
+fn check_positions(c: &[u64; CONFIG_WORDS], n: usize) -> Checked
+    requires { ⌜ n ≤ mostRegions ⌝ }
+    ensures { λ f. ⌜ f ≡ firstRule (flatMap (positionRules (allRecords (now (c .entry)))) (places 0 n)) Checked.Sound ⌝ }
+{
+    let mut i = 0;
+    while i < n {
+        let f = check_at(c, i);
+        let Checked::Sound = f else {
+            return f;
+        };
+        i += 1;
+    }
+    Checked::Sound
+}
+
+// The fault at position i, if there is one.
+fn check_at(c: &[u64; CONFIG_WORDS], i: usize) -> Checked
+    requires { ⌜ i < mostRegions ⌝ }
+    ensures { λ f. ⌜ f ≡ firstRule (positionRules (allRecords (now (c .entry))) i) Checked.Sound ⌝ }
+{
+    let r = region_at(c, i);
+    if !well_formed(r) {
+        return Checked::Malformed(i);
+    }
+    if !in_reach(r) {
+        return Checked::OutOfReach(i);
+    }
+    let k = find_phys(c, CONFIG_RECORDS, i, r);
+    if k < i {
+        return Checked::Overlap(i, k);
+    }
+    Checked::Sound
+}

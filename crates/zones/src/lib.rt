@@ -1,0 +1,15 @@
+// The configuration and the zone table as words of memory, and what is checked and done there.
+mod config;
+mod layout;
+mod words;
+
+pub use config::Config;
+pub use config::check_config;
+pub use config::check_earlier;
+pub use config::check_number;
+pub use config::check_place;
+pub use layout::CONFIG_COUNT;
+pub use layout::CONFIG_GIC;
+pub use layout::CONFIG_RECORDS;
+pub use layout::CONFIG_WORDS;
+pub use layout::REGION_WORDS;

@@ -3,12 +3,12 @@ use Prim.Native.Nat.{ℕ, zero, suc, _<_, suc-le-suc}
 use native.Mathlib.Omega.{arith}
 use mathlib.Core.Bool.{Bool, true, false, not, _&&_, _||_, true≢false}
 use mathlib.Core.List.{List, [], _∷_, _++_, map}
+use mathlib.Core.Logic.{⊎-elim}
 use mathlib.Core.Path.{_≡_, refl, sym, ap, _∙_}
 use lib.ListN.{length, getD, set}
 use Rattle.lists.specs.First.{any, all}
 use Rattle.lists.specs.Room.{removeAt}
-use Rattle.lists.proofs.Tests.{both-true, and-true, both-false, or-left, or-right, or-false, one-true}
-use mathlib.Core.Logic.{⊎-elim}
+use Rattle.lists.proofs.Tests.{both-true, and-true, both-false, or-false, one-true, or-left, or-right}
 
 module _ {A : Type 0} (p : A → Bool) where
   -- ---- every element, one by one

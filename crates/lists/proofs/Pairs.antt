@@ -8,8 +8,8 @@ use lib.ListN.{length, getD, set}
 use Rattle.lists.specs.First.{all}
 use Rattle.lists.specs.Pairs.{pairwise}
 use Rattle.lists.specs.Room.{removeAt}
+use Rattle.lists.proofs.Every.{all-at, all-make, all-one, all-append, all-set, all-removed}
 use Rattle.lists.proofs.Tests.{both-true, and-true}
-use Rattle.lists.proofs.Every.{all-at, all-make, all-append, all-one, all-set, all-removed}
 
 module _ {A : Type 0} (r : A → A → Bool) where
   pub pairs-at : (xs : List A) (d : A) → pairwise r xs ≡ true → (i j : ℕ) → i < j → j < length xs → r (getD xs i d) (getD xs j d) ≡ true

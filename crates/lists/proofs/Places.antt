@@ -1,21 +1,21 @@
 -- Numbers in a row, lists made of a function, and the loops that go through them: at a place k the invariant says that what is left
 -- gives the whole answer r, and t is what the call of the test at k returned.
 use Prim.Native.Nat.{ℕ, zero, suc, _+_, _-_, _≤_, _<_}
-use native.Mathlib.Omega.{arith}
+use native.Mathlib.Decide.{decLt}
 use native.Mathlib.Nat.{add-zero}
 use native.Mathlib.Numerals.{add-one}
-use native.Mathlib.Decide.{decLt}
+use native.Mathlib.Omega.{arith}
 use mathlib.Core.Bool.{Bool, true, false}
 use mathlib.Core.List.{List, [], _∷_, map, map-map}
 use mathlib.Core.Logic.{_⊎_, inl, inr, ⊎-elim}
 use mathlib.Core.Path.{_≡_, refl, sym, ap, _∙_}
-use lib.ListN.{length, getD, take, drop, length-map, length-take, length-drop, List·getD-map}
-use lib.Seq.{ext-getD, getD-take, getD-drop}
+use lib.ListN.{length, getD, take, drop, length-take, length-drop, length-map, List·getD-map}
+use lib.Seq.{getD-take, getD-drop, ext-getD}
 use Rattle.lists.specs.First.{firstFrom, any, all}
 use Rattle.lists.specs.Places.{places, tab}
-use Rattle.lists.proofs.Tests.{both-true, and-true, holds-or-fails}
-use Rattle.lists.proofs.First.{from-hit, from-pass, from-end}
 use Rattle.lists.proofs.Every.{all-map}
+use Rattle.lists.proofs.First.{from-pass, from-hit, from-end}
+use Rattle.lists.proofs.Tests.{both-true, and-true, holds-or-fails}
 
 -- within a list the default does not matter
 pub getD-any : {A : Type 0} (xs : List A) (k : ℕ) (d e : A) → k < length xs → getD xs k d ≡ getD xs k e

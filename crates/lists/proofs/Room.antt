@@ -1,11 +1,13 @@
 -- A list in an array of n places, with one element more or one less; and a list with an element taken out.
-use Prim.Native.Nat.{ℕ, suc, _+_, _-_, _≤_, _<_}
+use Prim.Native.Nat.{ℕ, zero, suc, _+_, _-_, _≤_, _<_}
 use native.Mathlib.Omega.{arith}
 use mathlib.Core.List.{List, [], _∷_, _++_, append-assoc}
 use mathlib.Core.Path.{_≡_, refl, sym, ap, ap₂, _∙_}
-use lib.ListN.{length, getD, take, drop, set, replicate, length-append, length-replicate, length-take, length-drop, length-set, replicate-append-replicate, List·getD-append}
-use lib.Seq.{take-at, take-append-add, take-append-le, drop-append-le, set-append-left}
+use lib.ListN.{length, getD, take, drop, set, length-append, length-take, length-drop, length-set, replicate, length-replicate, getD-replicate, replicate-append-replicate, List·getD-append}
+use lib.Seq.{take-append-le, drop-append-le, take-append-add, set-append-left, getD-take, ext-getD, take-at}
+use Rattle.lists.specs.Places.{tab}
 use Rattle.lists.specs.Room.{room, removeAt}
+use Rattle.lists.proofs.Places.{length-tab, getD-tab}
 
 module _ {A : Type 0} where
   pub length-removed : (xs : List A) (i : ℕ) → i < length xs → length (removeAt i xs) ≡ length xs - 1
@@ -27,6 +29,22 @@ module _ {A : Type 0} where
         let s : replicate n z ≡ replicate k z ++ replicate (length xs) z = ap (λ (m : ℕ). replicate m z) f ∙ sym (replicate-append-replicate k (length xs) z) in
         ap (λ (m : ℕ). take m (xs ++ replicate n z)) e ∙ take-append-add xs (replicate n z) k
         ∙ ap (λ (r : List A). xs ++ r) (ap (take k) s ∙ take-at (replicate k z) (replicate (length xs) z) k (length-replicate k z))
+
+    -- place by place: the list, and z past its end
+    pub room-tab : (xs : List A) → room n z xs ≡ tab n (λ i. getD xs i z)
+    unfolding room
+    room-tab xs =
+        ext-getD z (room n z xs) (tab n (λ i. getD xs i z)) (length-room xs ∙ sym (length-tab n (λ i. getD xs i z)))
+        (λ i h. let l : i < n = omega (arith, length-room xs) in getD-take n (xs ++ replicate n z) i z l ∙ past-end xs i l ∙ sym (getD-tab n (λ j. getD xs j z) i z l))
+      where
+        past-end : (ys : List A) (i : ℕ) → i < n → getD (ys ++ replicate n z) i z ≡ getD ys i z
+        past-end [] i h = getD-replicate n i z z h
+        past-end (y ∷ ys) zero h = refl
+        past-end (y ∷ ys) (suc i) h = past-end ys i (omega arith)
+
+    pub room-take : (xs : List A) → n ≤ length xs → room n z xs ≡ take n xs
+    unfolding room
+    room-take xs h = take-append-le n xs (replicate n z) h
 
     -- what was put there is read back
     pub room-back : (xs : List A) → length xs ≤ n → take (length xs) (room n z xs) ≡ xs

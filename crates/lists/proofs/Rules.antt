@@ -1,19 +1,19 @@
 -- The first rule that applies.
 use Prim.Native.Nat.{ℕ, zero, suc, _+_, _-_, _≤_, _<_, suc-le-suc}
+use native.Mathlib.Decide.{decLt}
+use native.Mathlib.Nat.{sub-zero, le-of-suc-le-suc}
 use native.Mathlib.Omega.{arith}
-use native.Mathlib.Nat.{le-of-suc-le-suc, sub-zero}
 use mathlib.Core.Bool.{Bool, true, false, not, true≢false}
 use mathlib.Core.List.{List, [], _∷_, _++_, map, flatMap}
 use mathlib.Core.Logic.{inl, inr, _↔_}
 use mathlib.Core.Path.{_≡_, refl, sym, ap, subst, _∙_}
-use native.Mathlib.Decide.{decLt}
+use borrow.Author.Tests.{eqb-false, not-true}
 use lib.Dec.{eqb}
-use borrow.Author.Tests.{not-true, eqb-false}
 use lib.ListN.{length, getD, length-map, List·getD-map}
 use Rattle.lists.specs.Places.{places}
-use Rattle.lists.specs.Rules.{Rule, _when_, firstRule, Applies, Silent, Given, numbered}
+use Rattle.lists.specs.Rules.{Rule, _when_, firstRule, Silent, Given, numbered, Applies}
 use Rattle.lists.proofs.Pairs.{pairs-at}
-use Rattle.lists.proofs.Places.{places-step, places-end, getD-any}
+use Rattle.lists.proofs.Places.{getD-any, places-step, places-end}
 
 module _ {R : Type 0} where
   -- ---- what each return of a chain of rules answers

@@ -1,19 +1,19 @@
 -- Words of memory: parts of them, a counted list of records among them, and the loops that move and clear words.
 use Prim.Native.Nat.{ℕ, zero, suc, _+_, _-_, _*_, _≤_, _<_}
-use native.Mathlib.Omega.{arith}
 use native.Mathlib.Nat.{zero-mul, suc-mul, add-mul}
 use native.Mathlib.Numerals.{add-one}
+use native.Mathlib.Omega.{arith}
 use mathlib.Core.Bool.{true}
-use mathlib.Core.List.{List, [], _∷_, _++_, append-assoc, append-nil, flatMap}
+use mathlib.Core.List.{List, [], _∷_, _++_, flatMap, append-assoc, append-nil}
 use mathlib.Core.Path.{_≡_, refl, sym, ap, ap₂, _∙_}
 use borrow.Author.Tests.{eqb-true, eq-eqb}
-use lib.ListN.{length, getD, take, drop, set, replicate, length-append, length-replicate, length-take, length-drop, replicate-append-replicate, take-append-drop, getD-replicate}
-use lib.Seq.{take-at, drop-at, set-at, getD-at, take-all, take-add, split-at, set-split, sets, sets-eq, paste, paste-zero, paste-suc, take-paste, drop-paste, length-paste-head, getD-append-add, getD-drop, getD-take, drop-cons, drop-drop}
+use lib.ListN.{length, getD, take, drop, set, length-append, take-append-drop, length-take, length-drop, replicate, length-replicate, getD-replicate, replicate-append-replicate}
+use lib.Seq.{take-all, drop-cons, split-at, getD-append-add, set-split, getD-take, getD-drop, drop-drop, take-add, set-at, take-at, drop-at, getD-at, sets, sets-eq, paste, paste-zero, length-paste-head, paste-suc, take-paste, drop-paste}
 use Rattle.lists.specs.First.{all}
 use Rattle.lists.specs.Places.{places, tab}
 use Rattle.lists.specs.Room.{room, removeAt}
 use Rattle.lists.specs.Words.{part, isZeroAt, counted, closed, cleared}
-use Rattle.lists.proofs.Places.{length-tab, tab-cons, every-at, every-make}
+use Rattle.lists.proofs.Places.{every-at, every-make, length-tab, tab-cons}
 use Rattle.lists.proofs.Room.{length-removed, length-room, room-rest, room-at, room-free, room-push, room-cut}
 
 -- ---- words between words

@@ -3,7 +3,7 @@ use Prim.Native.Nat.{ℕ, _+_, _-_, _≤_, _<_}
 use native.Mathlib.Omega.{arith}
 use native.Mathlib.Decide.{decLt}
 use mathlib.Core.Bool.{Bool, true, false, not, _&&_, _||_, true≢false}
-use mathlib.Core.List.{flatMap}
+use mathlib.Core.List.{List, flatMap}
 use mathlib.Core.Logic.{_⊎_, inl, inr, ⊎-elim}
 use mathlib.Core.Path.{_≡_, refl, sym, ap, subst, _∙_}
 use lib.Dec.{ltb, leb, eqb}
@@ -15,7 +15,8 @@ use Rattle.lists.specs.Places.{places}
 use Rattle.lists.specs.Rules.{firstRule}
 use Rattle.lists.proofs.First.{first-is, first-passes, before-fails, any-first, any-from, from-is, from-passes, from-least, between-fails}
 use Rattle.lists.proofs.Every.{any-make, none-at, none-make}
-use Rattle.lists.proofs.Places.{first-failing}
+use Rattle.lists.proofs.Places.{first-failing, getD-tab}
+use Rattle.lists.proofs.Room.{length-room, room-tab}
 use Rattle.lists.proofs.Tests.{or-left, or-right, or-false, holds-or-fails, both-true}
 use Rattle.rules.specs.declared.Region.{Region}
 use Rattle.rules.specs.declared.Checked.{Checked}
@@ -199,11 +200,13 @@ module _ (s : StoredConfig) (passed : Passed s) where
 
   long-regions : length (configOf s .regions) ≡ s .count
   unfolding configOf
-  long-regions = let c : s .count ≤ mostRegions = means .0 .count .1 in omega (arith, length-take (s .count) (s .records), passed .0)
+  long-regions = length-room (s .count) noRegion (s .records)
 
   region-is : (i : ℕ) → i < length (configOf s .regions) → getD (configOf s .regions) i noRegion ≡ at s i
   unfolding configOf
-  region-is i h = getD-take (s .count) (s .records) i noRegion (omega (arith, long-regions))
+  region-is i h =
+      let l : i < s .count = omega (arith, long-regions) in
+      ap (λ (rs : List Region). getD rs i noRegion) (room-tab (s .count) noRegion (s .records)) ∙ getD-tab (s .count) (at s) i noRegion l
 
   fit-at : (i : ℕ) → i < length (configOf s .regions) → Fit s i
   fit-at i h = means .1 i (omega (arith, long-regions))

@@ -1,11 +1,12 @@
 -- The configuration: the regions that zones may be given, and which of them is the GIC; and its check.
 use Prim.Native.Nat.{ℕ}
-use mathlib.Core.Bool.{not, _||_}
+use mathlib.Core.Bool.{Bool, true, false, not, _||_}
 use mathlib.Core.List.{List, [], _∷_, flatMap}
 use lib.Dec.{ltb, leb, eqb}
 use lib.ListN.{getD, take, drop}
 use Rattle.lists.specs.First.{firstIndex, firstFrom, any}
 use Rattle.lists.specs.Places.{places}
+use Rattle.lists.specs.Room.{room}
 use Rattle.lists.specs.Rules.{Rule, _when_, firstRule}
 use Rattle.rules.specs.declared.Region.{Region}
 use Rattle.rules.specs.declared.Checked.{Checked}
@@ -30,7 +31,7 @@ pub record StoredConfig : Type 0 where
 
 -- the configuration that is stored
 unfoldable pub configOf : StoredConfig → Configuration
-configOf s = record { regions = take (s .count) (s .records); gic = s .gic }
+configOf s = record { regions = room (s .count) noRegion (s .records); gic = s .gic }
 
 -- ---- the check
 -- at position i: C4 not well formed, C5 out of reach, C6 physical overlap with an earlier position, and the lowest such
@@ -54,6 +55,16 @@ checkRules s =
 -- the first that applies
 unfoldable pub check : StoredConfig → Checked
 check s = firstRule (checkRules s) Sound
+
+-- it finds nothing
+unfoldable pub isSound : Checked → Bool
+isSound Sound = true
+isSound BadCount = false
+isSound BadGic = false
+isSound (NotZero k) = false
+isSound (Malformed i) = false
+isSound (OutOfReach i) = false
+isSound (Overlap i k) = false
 
 -- ---- the number of each answer, and its places: 0 where one is not used
 abbrev pub checkNumber : Checked → ℕ

@@ -3,3 +3,5 @@ pub mod Limits
 pub mod Addresses
 pub mod Regions
 pub mod Configuration
+pub mod Tables
+pub mod Changes

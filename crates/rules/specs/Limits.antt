@@ -15,3 +15,13 @@ physReach = 2 ^ 48
 -- a configuration has 1 to this many regions
 abbrev pub mostRegions : ℕ
 mostRegions = 64
+
+-- a table has up to this many zones, each with an id up to the highest and two sets of up to so many regions
+abbrev pub mostZones : ℕ
+mostZones = 8
+
+abbrev pub highestId : ℕ
+highestId = 255
+
+abbrev pub mostInSet : ℕ
+mostInSet = 16

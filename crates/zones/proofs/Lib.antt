@@ -1,3 +1,8 @@
 -- Laws that the proofs of the functions cite.
 pub mod Records
 pub mod ConfigCheck
+pub mod Moves
+pub mod Readers
+pub mod Focus
+pub mod Writers
+pub mod Packing

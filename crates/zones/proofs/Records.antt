@@ -1,14 +1,21 @@
 -- Records among words, and the loops that look through them: e is the record that was read, t what the test said of it, r the whole answer.
-use Prim.Native.Nat.{ℕ, _+_, _*_, _≤_, _<_}
+use Prim.Native.Nat.{ℕ, suc, _+_, _*_, _≤_, _<_}
+use native.Mathlib.Omega.{arith}
 use mathlib.Core.Bool.{Bool, true, false}
-use mathlib.Core.List.{List}
-use mathlib.Core.Path.{_≡_, refl, ap, _∙_}
-use lib.ListN.{getD}
+use mathlib.Core.List.{List, _∷_, _++_}
+use mathlib.Core.Path.{_≡_, refl, sym, ap, ap₂, _∙_}
+use lib.ListN.{length, getD, set, replicate}
+use lib.Seq.{getD-append-add, getD-at, sets}
 use Rattle.lists.specs.First.{firstFrom}
+use Rattle.lists.specs.Words.{part}
 use Rattle.lists.proofs.Places.{first-hit, first-on, first-end}
+use Rattle.lists.proofs.Words.{part-cons, part-none}
+use Rattle.rules.specs.Regions.{noRegion}
 use Rattle.rules.specs.declared.Region.{Region}
+use Rattle.zones.specs.Alike.{alikeBy}
 use Rattle.zones.specs.Layout.{regionWords}
-use Rattle.zones.specs.Records.{regionAt, recordAt, recordsAt}
+use Rattle.zones.specs.Records.{regionAt, wordsOfRegion, recordAt, recordsAt}
+use Rattle.zones.specs.declared.words.By.{By}
 
 pub read-record : (w : List ℕ) (k : ℕ) → _≡_ {A = Region} (record { v = record { 0 = getD w k 0 }; p = record { 0 = getD w (k + 1) 0 }; size = getD w (k + 2) 0 }) (regionAt w k)
 unfolding regionAt
@@ -30,3 +37,40 @@ module _ (w : List ℕ) (b n i r : ℕ) (p : Region → Bool) (e : Region) (t : 
 pub record-end : (w : List ℕ) (b n i r : ℕ) (p : Region → Bool) → firstFrom p (recordsAt w b n) i ≡ r → n ≤ i → i ≡ r
 unfolding recordsAt
 record-end w b n i r p inv h = first-end p (recordAt w b) n i r inv h
+
+-- by what the match told
+pub alike-told : (by how : By) (r e : Region) (t : Bool) → by ≡ how → t ≡ alikeBy how r e → t ≡ alikeBy by r e
+alike-told by how r e t q h = h ∙ ap (λ (b : By). alikeBy b r e) (sym q)
+
+-- ---- the words of a record
+region-path : {a b : Region} → a .v .0 ≡ b .v .0 → a .p .0 ≡ b .p .0 → a .size ≡ b .size → a ≡ b
+region-path p q r = λ i. record { v = record { 0 = p i }; p = record { 0 = q i }; size = r i }
+
+pub region-stored : (w : List ℕ) (k : ℕ) (r : Region) → set (set (set w k (r .v .0)) (k + 1) (r .p .0)) (k + 2) (r .size) ≡ sets w k (wordsOfRegion r)
+unfolding wordsOfRegion
+region-stored w k r =
+    let e : k + 1 ≡ suc k = omega arith in
+    let f : k + 2 ≡ suc (suc k) = omega arith in
+    ap₂ (λ (i j : ℕ). set (set (set w k (r .v .0)) i (r .p .0)) j (r .size)) e f
+
+pub region-wide : (r : Region) → length (wordsOfRegion r) ≡ regionWords
+unfolding wordsOfRegion
+region-wide r = refl
+
+pub zero-region : wordsOfRegion noRegion ≡ replicate regionWords 0
+unfolding wordsOfRegion
+zero-region = refl
+
+-- the words of a record, among others, are read as it; and the words that are read as a record are its words
+pub region-read : (a c : List ℕ) (r : Region) (k : ℕ) → length a ≡ k → regionAt (a ++ (wordsOfRegion r ++ c)) k ≡ r
+unfolding regionAt wordsOfRegion
+region-read a c r k e =
+    let l : List ℕ = r .v .0 ∷ (r .p .0 ∷ (r .size ∷ c)) in
+    let f : (j x : ℕ) → getD l j 0 ≡ x → getD (a ++ l) (k + j) 0 ≡ x = λ j x q. ap (λ (n : ℕ). getD (a ++ l) (n + j) 0) (sym e) ∙ getD-append-add a l j 0 ∙ q in
+    region-path (getD-at a (r .v .0) (r .p .0 ∷ (r .size ∷ c)) 0 k e) (f 1 (r .p .0) refl) (f 2 (r .size) refl)
+
+pub region-part : (w : List ℕ) (k : ℕ) → k + regionWords ≤ length w → part k regionWords w ≡ wordsOfRegion (regionAt w k)
+unfolding wordsOfRegion regionAt
+region-part w k h =
+    let f : k + 1 + 1 ≡ k + 2 = omega arith in
+    part-cons k 2 w 0 (omega arith) ∙ ap (λ (l : List ℕ). getD w k 0 ∷ l) (part-cons (k + 1) 1 w 0 (omega arith) ∙ ap (λ (l : List ℕ). getD w (k + 1) 0 ∷ l) (part-cons (k + 1 + 1) 0 w 0 (omega arith) ∙ ap₂ (λ (x : ℕ) (l : List ℕ). x ∷ l) (ap (λ (j : ℕ). getD w j 0) f) (part-none (k + 1 + 1 + 1) w)))

@@ -1,4 +1,7 @@
 -- What words stand for.
 pub mod Layout
 pub mod Records
+pub mod Alike
 pub mod View
+pub mod Words
+pub mod Packing

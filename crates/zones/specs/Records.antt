@@ -1,6 +1,6 @@
 -- Records of a region each, end to end among words. A word is read by `getD w k 0`.
 use Prim.Native.Nat.{ℕ, _+_, _*_}
-use mathlib.Core.List.{List}
+use mathlib.Core.List.{List, [], _∷_}
 use lib.ListN.{getD}
 use Rattle.lists.specs.Places.{tab}
 use Rattle.rules.specs.declared.Region.{Region}
@@ -9,6 +9,10 @@ use Rattle.zones.specs.Layout.{regionWords}
 -- the region whose record starts at word k
 unfoldable pub regionAt : List ℕ → ℕ → Region
 regionAt w k = record { v = record { 0 = getD w k 0 }; p = record { 0 = getD w (k + 1) 0 }; size = getD w (k + 2) 0 }
+
+-- the words of a record
+unfoldable pub wordsOfRegion : Region → List ℕ
+wordsOfRegion r = r .v .0 ∷ r .p .0 ∷ r .size ∷ []
 
 -- record i, and n records, from word b on
 unfoldable pub recordAt : List ℕ → ℕ → ℕ → Region

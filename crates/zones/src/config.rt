@@ -4,7 +4,8 @@ use crate::layout::CONFIG_GIC;
 use crate::layout::CONFIG_RECORDS;
 use crate::layout::CONFIG_WORDS;
 use crate::layout::REGION_WORDS;
-use crate::words::find_phys;
+use crate::words::By;
+use crate::words::find_record;
 use crate::words::is_used;
 use crate::words::read_region;
 use region::in_reach;
@@ -154,7 +155,7 @@ fn check_at(c: &[u64; CONFIG_WORDS], i: usize) -> Checked
     if !in_reach(r) {
         return Checked::OutOfReach(i);
     }
-    let k = find_phys(c, CONFIG_RECORDS, i, r);
+    let k = find_record(c, CONFIG_RECORDS, i, By::Phys, r);
     if k < i {
         return Checked::Overlap(i, k);
     }

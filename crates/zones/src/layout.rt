@@ -1,5 +1,7 @@
 // Where things stand among words: the numbers of specs/Layout.antt for code.
+use rules::limits::MOST_IN_SET;
 use rules::limits::MOST_REGIONS;
+use rules::limits::MOST_ZONES;
 
 // A record is v, p, size.
 pub const REGION_WORDS: usize = 3;
@@ -12,3 +14,10 @@ pub const CONFIG_GIC: usize = 1;
 pub const CONFIG_RECORDS: usize = 2;
 
 pub const CONFIG_WORDS: usize = CONFIG_RECORDS + MOST_REGIONS * REGION_WORDS;
+
+// A set is its count, then its records; a zone is its id, then its CPU and its IOMMU set; a table is its count, then its zones.
+pub const SET_WORDS: usize = 1 + MOST_IN_SET * REGION_WORDS;
+
+pub const ZONE_WORDS: usize = 1 + 2 * SET_WORDS;
+
+pub const TABLE_WORDS: usize = 1 + MOST_ZONES * ZONE_WORDS;

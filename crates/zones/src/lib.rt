@@ -1,6 +1,7 @@
 // The configuration and the zone table as words of memory, and what is checked and done there.
 mod config;
 mod layout;
+mod table;
 mod words;
 
 pub use config::Config;

@@ -1,17 +1,54 @@
 // Regions among lent words.
 use crate::layout::REGION_WORDS;
+use region::guest_overlap;
 use region::phys_overlap;
 use region::region_eq;
 use rules::Guest;
 use rules::Phys;
 use rules::Region;
-ghost use Prim.Native.Nat.{_+_, _*_, _≤_};
+ghost use Prim.Native.Nat.{_+_, _-_, _*_, _≤_};
 ghost use mathlib.Core.Path.{_≡_};
-ghost use lib.ListN.{length};
+ghost use lib.ListN.{length, drop};
+ghost use lib.Seq.{sets, paste};
 ghost use Rattle.lists.specs.First.{firstIndex};
-ghost use Rattle.rules.specs.Regions.{physOverlap, used};
+ghost use Rattle.lists.specs.Words.{closed, cleared};
+ghost use Rattle.rules.specs.Regions.{used};
 ghost use Rattle.zones.specs.Layout.{regionWords};
-ghost use Rattle.zones.specs.Records.{regionAt, recordsAt};
+ghost use Rattle.zones.specs.Packing.{zeros};
+ghost use Rattle.zones.specs.Alike.{alikeBy};
+ghost use Rattle.zones.specs.Records.{regionAt, recordsAt, wordsOfRegion};
+
+// How a region is looked for among records: by equality, or by overlap in physical or in guest addresses.
+pub enum By {
+    Equal,
+    Phys,
+    Guest,
+}
+
+fn alike(by: By, r: Region, e: Region) -> bool
+    ensures { λ b. ⌜ b ≡ alikeBy by r e ⌝ }
+{
+    match by {
+        By::Equal => region_eq(r, e),
+        By::Phys => phys_overlap(r, e),
+        By::Guest => guest_overlap(r, e),
+    }
+}
+
+// The first of n records from word b on that is alike r, or n.
+pub fn find_record(s: &[u64], b: usize, n: usize, by: By, r: Region) -> usize
+    requires { ⌜ b + n * regionWords ≤ length (now s) ⌝ }
+    ensures { λ k. ⌜ k ≡ firstIndex (alikeBy by r) (recordsAt (now (s .entry)) b n) ⌝ }
+{
+    let mut i = 0;
+    while i < n {
+        if alike(by, r, read_region(s, b + i * REGION_WORDS)) {
+            return i;
+        }
+        i += 1;
+    }
+    i
+}
 
 // Whether not all numbers of the region are zero.
 pub fn is_used(r: Region) -> bool
@@ -37,17 +74,62 @@ pub fn read_region(s: &[u64], k: usize) -> Region
     }
 }
 
-// The first of n records from word b on that overlaps r in physical addresses, or n.
-pub fn find_phys(s: &[u64], b: usize, n: usize, r: Region) -> usize
-    requires { ⌜ b + n * regionWords ≤ length (now s) ⌝ }
-    ensures { λ k. ⌜ k ≡ firstIndex (physOverlap r) (recordsAt (now (s .entry)) b n) ⌝ }
+// The record at word k is r's.
+pub fn write_region(s: &mut [u64], k: usize, r: Region)
+    requires { ⌜ k + regionWords ≤ length (now s) ⌝ }
+    ensures { λ r0. ⌜ now (s .exit) ≡ sets (now (s .entry)) k (wordsOfRegion r) ⌝ }
 {
-    let mut i = 0;
-    while i < n {
-        if phys_overlap(r, read_region(s, b + i * REGION_WORDS)) {
-            return i;
+    s[k] = r.v.0;
+    s[k + 1] = r.p.0;
+    s[k + 2] = r.size;
+}
+
+// Whether the words from a up to e are zero.
+pub fn zeros_in(s: &[u64], a: usize, e: usize) -> bool
+    requires { ⌜ (a ≤ e) × (e ≤ length (now s)) ⌝ }
+    ensures { λ r. ⌜ r ≡ zeros (now (s .entry)) a (e - a) ⌝ }
+{
+    let mut k = a;
+    while k < e {
+        if s[k] != 0 {
+            return false;
         }
-        i += 1;
+        k += 1;
     }
-    i
+    true
+}
+
+// The words past at + width, up to end, come down by width.
+fn move_down(s: &mut [u64], at: usize, width: usize, end: usize)
+    requires { ⌜ (at + width ≤ end) × (end ≤ length (now s)) ⌝ }
+    ensures { λ r. ⌜ now (s .exit) ≡ paste (now (s .entry)) at (drop (at + width) (now (s .entry))) (end - width - at) ⌝ }
+{
+    let last = end - width;
+    let mut k = at;
+    while k < last {
+        let x = s[k + width];
+        s[k] = x;
+        k += 1;
+    }
+}
+
+// The words from at up to end are zero.
+fn clear(s: &mut [u64], at: usize, end: usize)
+    requires { ⌜ (at ≤ end) × (end ≤ length (now s)) ⌝ }
+    ensures { λ r. ⌜ now (s .exit) ≡ cleared (now (s .entry)) at end ⌝ }
+{
+    let mut k = at;
+    while k < end {
+        s[k] = 0;
+        k += 1;
+    }
+}
+
+// The width words at `at` go, those after them up to end come down, and zeros fill what is left.
+pub fn close_gap(s: &mut [u64], at: usize, width: usize, end: usize)
+    requires { ⌜ (at + width ≤ end) × (end ≤ length (now s)) ⌝ }
+    ensures { λ r. ⌜ now (s .exit) ≡ closed (now (s .entry)) at width end ⌝ }
+{
+    move_down(s, at, width, end);
+    clear(s, end - width, end);
 }

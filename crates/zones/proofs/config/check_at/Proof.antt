@@ -20,8 +20,8 @@ in-reach-requires c κs = search needs
 returns-2 : tie.Need-returns-2
 returns-2 c = search (rules-at, rules, told-not, some-record, no-record) depth 20
 
-find-phys-requires : tie.Need-find-phys-requires
-find-phys-requires c κs = search needs
+find-record-requires : tie.Need-find-record-requires
+find-record-requires c κs = search needs
 
 returns-3 : tie.Need-returns-3
 returns-3 c = search (rules-at, rules, told-not, some-record, no-record) depth 20
@@ -38,6 +38,6 @@ check-at-spec =
     returns
     in-reach-requires
     returns-2
-    find-phys-requires
+    find-record-requires
     returns-3
     returns-4)

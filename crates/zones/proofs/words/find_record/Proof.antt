@@ -1,19 +1,19 @@
-use Prim.Native.Nat.{_≤_, _-_}
+use Prim.Native.Nat.{_-_, _≤_}
 use mathlib.Core.Path.{_≡_}
 use borrow.Author.Needs.{needs}
 use Rattle.lists.specs.First.{firstIndex, firstFrom}
 use Rattle.lists.proofs.First.{from-zero}
-use Rattle.rules.specs.Regions.{physOverlap}
+use Rattle.zones.specs.Alike.{alikeBy}
 use Rattle.zones.specs.Records.{recordsAt}
 use Rattle.zones.proofs.Records.{record-read, record-hit, record-on, record-end}
-use Rattle.zones.proofs.words.find_phys.Statement.{statement}
-use Rattle.zones.proofs.words.find_phys.Tie as tie
+use Rattle.zones.proofs.words.find_record.Statement.{statement}
+use Rattle.zones.proofs.words.find_record.Tie as tie
 
 abbrev Inv-loop : tie.InvT-loop
-Inv-loop s b n r i₀ i = (i ≤ n) × (firstFrom (physOverlap r) (recordsAt s b n) i ≡ firstIndex (physOverlap r) (recordsAt s b n))
+Inv-loop s b n by r i₀ i = (i ≤ n) × (firstFrom (alikeBy by r) (recordsAt s b n) i ≡ firstIndex (alikeBy by r) (recordsAt s b n))
 
 abbrev μ-loop : tie.MeasureT-loop
-μ-loop s b n r i₀ i = n - i
+μ-loop s b n by r i₀ i = n - i
 
 loop-holds : tie.Need-loop-holds Inv-loop μ-loop
 loop-holds c = (search needs, search from-zero)
@@ -27,8 +27,8 @@ add-read-region c = search needs
 read-region-requires : tie.Need-read-region-requires Inv-loop μ-loop
 read-region-requires c κs = search needs
 
-phys-overlap-requires : tie.Need-phys-overlap-requires Inv-loop μ-loop
-phys-overlap-requires c κs = search needs
+alike-requires : tie.Need-alike-requires Inv-loop μ-loop
+alike-requires c κs = search needs
 
 returns : tie.Need-returns Inv-loop μ-loop
 returns c = search (record-hit, record-read, needs)
@@ -45,8 +45,8 @@ loop-again c = (search needs, search (record-on, record-read, needs))
 returns-2 : tie.Need-returns-2 Inv-loop μ-loop
 returns-2 c = search (record-end, needs)
 
-pub find-phys-spec : {M : Type 1} → statement M
-find-phys-spec =
+pub find-record-spec : {M : Type 1} → statement M
+find-record-spec =
     tie.close
     (tie.spec
     Inv-loop
@@ -55,7 +55,7 @@ find-phys-spec =
     mul-read-region
     add-read-region
     read-region-requires
-    phys-overlap-requires
+    alike-requires
     returns
     add-i
     loop-less

@@ -1,0 +1,41 @@
+-- The loops that look for zeros, move words down and clear them.
+use Prim.Native.Nat.{ℕ, _+_, _-_, _≤_, _<_}
+use native.Mathlib.Omega.{arith}
+use mathlib.Core.Bool.{Bool, true, false}
+use mathlib.Core.List.{List}
+use mathlib.Core.Path.{_≡_, refl, sym, ap, _∙_}
+use borrow.Author.Tests.{eq-eqb, ne-eqb}
+use lib.ListN.{length, getD, drop, set, length-set}
+use lib.Seq.{paste}
+use Rattle.lists.specs.Words.{isZeroAt, closed, cleared}
+use Rattle.lists.proofs.Places.{every-stop, every-on}
+use Rattle.lists.proofs.Words.{move-on, clear-on, move-clear}
+use Rattle.zones.specs.Packing.{zeros}
+
+-- ---- zeros
+module _ (w : List ℕ) (k e : ℕ) (r : Bool) where
+  pub zeros-stop : zeros w k (e - k) ≡ r → k < e → (getD w k 0 ≡ 0 → ⊥) → false ≡ r
+  zeros-stop inv h f = every-stop (isZeroAt w) k e r false inv h (sym (ne-eqb (getD w k 0) 0 f)) refl
+
+  pub zeros-on : zeros w k (e - k) ≡ r → k < e → getD w k 0 ≡ 0 → zeros w (k + 1) (e - (k + 1)) ≡ r
+  zeros-on inv h f = every-on (isZeroAt w) k e r true inv h (sym (eq-eqb (getD w k 0) 0 f)) refl
+
+-- ---- the loops of `move_down` and `clear`; the moved words are as many
+module _ (d t : List ℕ) (at m e k : ℕ) where
+  pub move-step : t ≡ paste d at (drop (at + m) d) (k - at) → at ≤ k → k < e - m → e ≤ length d → set t k (getD t (k + m) 0) ≡ paste d at (drop (at + m) d) (k + 1 - at)
+  move-step inv h b q = move-on d t at m k inv h (omega arith)
+
+  pub move-end : t ≡ paste d at (drop (at + m) d) (k - at) → k ≤ e - m → e - m ≤ k → t ≡ paste d at (drop (at + m) d) (e - m - at)
+  move-end inv h b = let f : k - at ≡ e - m - at = omega arith in inv ∙ ap (paste d at (drop (at + m) d)) f
+
+  pub clear-step : t ≡ cleared d at k → at ≤ k → k < e → e ≤ length d → set t k 0 ≡ cleared d at (k + 1)
+  clear-step inv h b q = clear-on d t at k inv h (omega arith)
+
+  pub clear-end : t ≡ cleared d at k → k ≤ e → e ≤ k → t ≡ cleared d at e
+  clear-end inv h b = let f : k ≡ e = omega arith in inv ∙ ap (cleared d at) f
+
+pub gap-closed : (w u v : List ℕ) (at m e : ℕ) → at + m ≤ e → e ≤ length w → u ≡ paste w at (drop (at + m) w) (e - m - at) → v ≡ cleared u (e - m) e → v ≡ closed w at m e
+gap-closed w u v at m e h b p q = q ∙ ap (λ (l : List ℕ). cleared l (e - m) e) p ∙ move-clear w at m e h b
+
+pub set-kept : (d t : List ℕ) (k x : ℕ) → length t ≡ length d → length (set t k x) ≡ length d
+set-kept d t k x e = length-set t k x ∙ e

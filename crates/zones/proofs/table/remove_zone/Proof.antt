@@ -1,0 +1,37 @@
+use borrow.Author.Needs.{needs}
+use Rattle.zones.proofs.Writers.{packed-long, remove-words}
+use Rattle.zones.proofs.table.remove_zone.Statement.{statement}
+use Rattle.zones.proofs.table.remove_zone.Tie as tie
+
+zone-count-requires : tie.Need-zone-count-requires
+zone-count-requires c κs = search needs
+
+mul-close-gap : tie.Need-mul-close-gap
+mul-close-gap c = search needs
+
+add-close-gap : tie.Need-add-close-gap
+add-close-gap c = search needs
+
+close-gap-requires : tie.Need-close-gap-requires
+close-gap-requires c κs = (search needs, search (packed-long, needs))
+
+sub-t : tie.Need-sub-t
+sub-t c = search needs
+
+element-write-t : tie.Need-element-write-t
+element-write-t c = search needs
+
+returns : tie.Need-returns
+returns c = search (remove-words, needs)
+
+pub remove-zone-spec : {M : Type 1} → statement M
+remove-zone-spec =
+    tie.close
+    (tie.spec
+    zone-count-requires
+    mul-close-gap
+    add-close-gap
+    close-gap-requires
+    sub-t
+    element-write-t
+    returns)

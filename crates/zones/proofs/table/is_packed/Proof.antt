@@ -10,14 +10,14 @@ element-copy-out-n c = search needs
 
 returns : tie.Need-returns
 unfolding packed
-returns c = search (conjunction, free-zones, needs) depth 12
+returns c = search conjunction
 
 zones-packed-requires : tie.Need-zones-packed-requires
 zones-packed-requires c κs = search needs
 
 returns-2 : tie.Need-returns-2
 unfolding packed
-returns-2 c = search (conjunction, free-zones, needs) depth 12
+returns-2 c = search conjunction depth 12
 
 mul-zeros-in : tie.Need-mul-zeros-in
 mul-zeros-in c = search needs

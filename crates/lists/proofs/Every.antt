@@ -8,7 +8,7 @@ use mathlib.Core.Path.{_≡_, refl, sym, ap, _∙_}
 use lib.ListN.{length, getD, set}
 use Rattle.lists.specs.First.{any, all}
 use Rattle.lists.specs.Room.{removeAt}
-use Rattle.lists.proofs.Tests.{both-true, and-true, both-false, or-false, one-true, or-left, or-right}
+use Rattle.lists.proofs.Tests.{both-true, true-both, both-false, false-both, one-true, or-left, or-right}
 
 module _ {A : Type 0} (p : A → Bool) where
   -- ---- every element, one by one
@@ -21,22 +21,31 @@ module _ {A : Type 0} (p : A → Bool) where
   pub all-make : (xs : List A) (d : A) → ((i : ℕ) → i < length xs → p (getD xs i d) ≡ true) → all p xs ≡ true
   unfolding all
   all-make [] d f = refl
-  all-make (x ∷ xs) d f = and-true (p x) (all p xs) (f 0 (omega arith)) (all-make xs d (λ i h. f (suc i) (suc-le-suc h)))
+  all-make (x ∷ xs) d f = true-both (p x) (all p xs) (f 0 (omega arith)) (all-make xs d (λ i h. f (suc i) (suc-le-suc h)))
 
   pub all-one : (x : A) → p x ≡ true → all p (x ∷ []) ≡ true
   unfolding all
-  all-one x e = and-true (p x) true e refl
+  all-one x e = true-both (p x) true e refl
 
   -- ---- after a change
   pub all-append : (xs ys : List A) → all p xs ≡ true → all p ys ≡ true → all p (xs ++ ys) ≡ true
   unfolding all
   all-append [] ys e f = f
-  all-append (x ∷ xs) ys e f = let b = both-true (p x) (all p xs) e in and-true (p x) (all p (xs ++ ys)) (b .0) (all-append xs ys (b .1) f)
+  all-append (x ∷ xs) ys e f = let b = both-true (p x) (all p xs) e in true-both (p x) (all p (xs ++ ys)) (b .0) (all-append xs ys (b .1) f)
+
+  pub all-both : (xs ys : List A) → all p (xs ++ ys) ≡ (all p xs && all p ys)
+  unfolding all
+  all-both [] ys = refl
+  all-both (x ∷ xs) ys = by (p x) (all-both xs ys)
+    where
+      by : (t : Bool) → all p (xs ++ ys) ≡ (all p xs && all p ys) → (t && all p (xs ++ ys)) ≡ ((t && all p xs) && all p ys)
+      by true e = e
+      by false e = refl
 
   pub all-left : (xs ys : List A) → all p (xs ++ ys) ≡ true → all p xs ≡ true
   unfolding all
   all-left [] ys e = refl
-  all-left (x ∷ xs) ys e = let b = both-true (p x) (all p (xs ++ ys)) e in and-true (p x) (all p xs) (b .0) (all-left xs ys (b .1))
+  all-left (x ∷ xs) ys e = let b = both-true (p x) (all p (xs ++ ys)) e in true-both (p x) (all p xs) (b .0) (all-left xs ys (b .1))
 
   pub all-right : (xs ys : List A) → all p (xs ++ ys) ≡ true → all p ys ≡ true
   unfolding all
@@ -46,15 +55,15 @@ module _ {A : Type 0} (p : A → Bool) where
   pub all-set : (xs : List A) (k : ℕ) (v : A) → all p xs ≡ true → p v ≡ true → all p (set xs k v) ≡ true
   unfolding all
   all-set [] k v e f = refl
-  all-set (x ∷ xs) zero v e f = and-true (p v) (all p xs) f (both-true (p x) (all p xs) e .1)
-  all-set (x ∷ xs) (suc k) v e f = let b = both-true (p x) (all p xs) e in and-true (p x) (all p (set xs k v)) (b .0) (all-set xs k v (b .1) f)
+  all-set (x ∷ xs) zero v e f = true-both (p v) (all p xs) f (both-true (p x) (all p xs) e .1)
+  all-set (x ∷ xs) (suc k) v e f = let b = both-true (p x) (all p xs) e in true-both (p x) (all p (set xs k v)) (b .0) (all-set xs k v (b .1) f)
 
   pub all-removed : (xs : List A) (k : ℕ) → all p xs ≡ true → all p (removeAt k xs) ≡ true
   unfolding all removeAt
   all-removed [] zero e = refl
   all-removed [] (suc k) e = refl
   all-removed (x ∷ xs) zero e = both-true (p x) (all p xs) e .1
-  all-removed (x ∷ xs) (suc k) e = let b = both-true (p x) (all p xs) e in and-true (p x) (all p (removeAt k xs)) (b .0) (all-removed xs k (b .1))
+  all-removed (x ∷ xs) (suc k) e = let b = both-true (p x) (all p xs) e in true-both (p x) (all p (removeAt k xs)) (b .0) (all-removed xs k (b .1))
 
   -- ---- some element
   pub any-make : (xs : List A) (d : A) (i : ℕ) → i < length xs → p (getD xs i d) ≡ true → any p xs ≡ true
@@ -80,7 +89,7 @@ module _ {A : Type 0} (p : A → Bool) where
   pub none-make : (xs : List A) (d : A) → ((i : ℕ) → i < length xs → p (getD xs i d) ≡ false) → any p xs ≡ false
   unfolding any
   none-make [] d f = refl
-  none-make (x ∷ xs) d f = or-false (p x) (any p xs) (f 0 (omega arith)) (none-make xs d (λ i h. f (suc i) (suc-le-suc h)))
+  none-make (x ∷ xs) d f = false-both (p x) (any p xs) (f 0 (omega arith)) (none-make xs d (λ i h. f (suc i) (suc-le-suc h)))
 
   -- none but element k passes: each other one fails
   pub none-others : (xs : List A) (k : ℕ) (d : A) → any p (removeAt k xs) ≡ false → (j : ℕ) → j < length xs → (j ≡ k → ⊥) → p (getD xs j d) ≡ false
@@ -90,6 +99,15 @@ module _ {A : Type 0} (p : A → Bool) where
   none-others (x ∷ xs) zero d e (suc j) h ne = none-at xs d e j (omega arith)
   none-others (x ∷ xs) (suc k) d e zero h ne = both-false (p x) (any p (removeAt k xs)) e .0
   none-others (x ∷ xs) (suc k) d e (suc j) h ne = none-others xs k d (both-false (p x) (any p (removeAt k xs)) e .1) j (omega arith) (λ q. ne (ap suc q))
+
+  pub any-append : (xs ys : List A) → any p (xs ++ ys) ≡ (any p xs || any p ys)
+  unfolding any
+  any-append [] ys = refl
+  any-append (x ∷ xs) ys = by (p x) (any-append xs ys)
+    where
+      by : (t : Bool) → any p (xs ++ ys) ≡ (any p xs || any p ys) → (t || any p (xs ++ ys)) ≡ ((t || any p xs) || any p ys)
+      by true e = refl
+      by false e = e
 
   -- that none passes is that every one fails
   pub none-all : (xs : List A) → not (any p xs) ≡ all (λ (x : A). not (p x)) xs
@@ -108,7 +126,7 @@ all-from p q w f [] d e = refl
 all-from p q w f (x ∷ xs) d e =
     let a = both-true (p x) (all p xs) d in
     let b = both-true (q x) (all q xs) e in
-    and-true (w x) (all w xs) (f x (a .0) (b .0)) (all-from p q w f xs (a .1) (b .1))
+    true-both (w x) (all w xs) (f x (a .0) (b .0)) (all-from p q w f xs (a .1) (b .1))
 
 -- two tests that agree at every element
 pub all-same : {A : Type 0} (p q : A → Bool) → ((x : A) → p x ≡ q x) → (xs : List A) → all p xs ≡ all q xs

@@ -1,21 +1,23 @@
 -- Numbers in a row, lists made of a function, and the loops that go through them: at a place k the invariant says that what is left
 -- gives the whole answer r, and t is what the call of the test at k returned.
-use Prim.Native.Nat.{ℕ, zero, suc, _+_, _-_, _≤_, _<_}
+use Prim.Native.Nat.{ℕ, zero, suc, _+_, _-_, _*_, _≤_, _<_}
 use native.Mathlib.Decide.{decLt}
-use native.Mathlib.Nat.{add-zero}
+use native.Mathlib.Nat.{zero-mul, suc-mul, add-zero}
 use native.Mathlib.Numerals.{add-one}
 use native.Mathlib.Omega.{arith}
-use mathlib.Core.Bool.{Bool, true, false}
-use mathlib.Core.List.{List, [], _∷_, map, map-map}
+use mathlib.Core.Bool.{Bool, true, false, _&&_}
+use mathlib.Core.List.{List, [], _∷_, _++_, map, map-map}
 use mathlib.Core.Logic.{_⊎_, inl, inr, ⊎-elim}
-use mathlib.Core.Path.{_≡_, refl, sym, ap, _∙_}
+use mathlib.Core.Path.{_≡_, refl, sym, ap, ap₂, _∙_}
 use lib.ListN.{length, getD, take, drop, length-take, length-drop, length-map, List·getD-map}
 use lib.Seq.{getD-take, getD-drop, ext-getD}
 use Rattle.lists.specs.First.{firstFrom, any, all}
+use Rattle.lists.specs.Pairs.{pairwise}
 use Rattle.lists.specs.Places.{places, tab}
-use Rattle.lists.proofs.Every.{all-map}
+use Rattle.lists.proofs.Every.{all-both, all-same, all-map}
 use Rattle.lists.proofs.First.{from-pass, from-hit, from-end}
-use Rattle.lists.proofs.Tests.{both-true, and-true, holds-or-fails}
+use Rattle.lists.proofs.Pairs.{pairs-at, pairs-make}
+use Rattle.lists.proofs.Tests.{both-true, true-both, holds-or-fails, same-test}
 
 -- within a list the default does not matter
 pub getD-any : {A : Type 0} (xs : List A) (k : ℕ) (d e : A) → k < length xs → getD xs k d ≡ getD xs k e
@@ -64,7 +66,11 @@ module _ (p : ℕ → Bool) where
   pub every-make : (k n : ℕ) → ((i : ℕ) → k ≤ i → i < k + n → p i ≡ true) → all p (places k n) ≡ true
   unfolding all places
   every-make k zero f = refl
-  every-make k (suc n) f = and-true (p k) (all p (places (suc k) n)) (f k (omega arith) (omega arith)) (every-make (suc k) n (λ i h l. f i (omega arith) (omega arith)))
+  every-make k (suc n) f = true-both (p k) (all p (places (suc k) n)) (f k (omega arith) (omega arith)) (every-make (suc k) n (λ i h l. f i (omega arith) (omega arith)))
+
+  pub one-place : (k : ℕ) → all p (places k 1) ≡ (p k && true)
+  unfolding all places
+  one-place k = refl
 
   -- a loop that returns whether every place passes
   module _ (k e : ℕ) (r t : Bool) where
@@ -85,6 +91,14 @@ module _ (p : ℕ → Bool) where
     unfolding any
     some-on inv h g f = sym (rw (places-step k e h, ← g, f)) ∙ inv
 
+  -- the same for a test that is no call
+  module _ (k e : ℕ) (r : Bool) where
+    pub every-stop-here : all p (places k (e - k)) ≡ r → k < e → p k ≡ false → false ≡ r
+    every-stop-here inv h f = every-stop k e r (p k) inv h refl f
+
+    pub every-on-here : all p (places k (e - k)) ≡ r → k < e → p k ≡ true → all p (places (k + 1) (e - (k + 1))) ≡ r
+    every-on-here inv h f = every-on k e r (p k) inv h refl f
+
   pub every-end : (k e : ℕ) (r : Bool) → all p (places k (e - k)) ≡ r → e ≤ k → true ≡ r
   unfolding all
   every-end k e r inv h = sym (rw (places-end k e h)) ∙ inv
@@ -92,6 +106,43 @@ module _ (p : ℕ → Bool) where
   pub some-end : (k e : ℕ) (r : Bool) → any p (places k (e - k)) ≡ r → e ≤ k → false ≡ r
   unfolding any
   some-end k e r inv h = sym (rw (places-end k e h)) ∙ inv
+
+-- two tests that agree below n
+pub same-at : (p q : ℕ → Bool) (n : ℕ) → ((i : ℕ) → i < n → p i ≡ q i) → all p (places 0 n) ≡ all q (places 0 n)
+same-at p q n f =
+    same-test (all p (places 0 n)) (all q (places 0 n))
+    (λ e. every-make q 0 n (λ i h l. sym (f i (omega arith)) ∙ every-at p 0 n e i (omega arith) (omega arith)))
+    (λ e. every-make p 0 n (λ i h l. f i (omega arith) ∙ every-at q 0 n e i (omega arith) (omega arith)))
+
+-- the places from k on are those from 0 on, each k higher; and m at a time
+pub places-shift : (p : ℕ → Bool) (k n : ℕ) → all p (places k n) ≡ all (λ i. p (k + i)) (places 0 n)
+places-shift p k n =
+    same-test (all p (places k n)) (all (λ i. p (k + i)) (places 0 n))
+    (λ e. every-make (λ i. p (k + i)) 0 n (λ i h l. every-at p k n e (k + i) (omega arith) (omega arith)))
+    (λ e. every-make p k n (λ i h l. let d : k + (i - k) ≡ i = omega arith in ap p (sym d) ∙ every-at (λ j. p (k + j)) 0 n e (i - k) (omega arith) (omega arith)))
+
+pub places-add : (k m n : ℕ) → places k (m + n) ≡ places k m ++ places (k + m) n
+unfolding places
+places-add k zero n = let a : zero + n ≡ n = omega arith in let b : k ≡ k + zero = omega arith in ap₂ places b a
+places-add k (suc m) n =
+    let a : suc m + n ≡ suc (m + n) = omega arith in
+    let b : suc k + m ≡ k + suc m = omega arith in
+    ap (places k) a ∙ ap (λ (l : List ℕ). k ∷ l) (places-add (suc k) m n ∙ ap (λ (j : ℕ). places (suc k) m ++ places j n) b)
+
+pub every-block : (p : ℕ → Bool) (m k n : ℕ) → all p (places k (n * m)) ≡ all (λ i. all p (places (k + i * m) m)) (places 0 n)
+unfolding all places
+every-block p m k zero = ap (λ (j : ℕ). all p (places k j)) (zero-mul m)
+every-block p m k (suc n) =
+    let a : suc n * m ≡ m + n * m = omega (arith, suc-mul n m) in
+    let b : k ≡ k + 0 * m = omega (arith, zero-mul m) in
+    ap (λ (j : ℕ). all p (places k j)) a ∙ ap (all p) (places-add k m (n * m)) ∙ all-both p (places k m) (places (k + m) (n * m))
+    ∙ ap₂ (λ (x y : Bool). x && y) (ap (λ (j : ℕ). all p (places j m)) b) (every-block p m (k + m) n ∙ all-same _ _ next (places 0 n) ∙ sym (places-shift (λ i. all p (places (k + i * m) m)) 1 n))
+  where
+    one-more : (i : ℕ) → 1 + i ≡ suc i
+    one-more i = omega arith
+
+    next : (i : ℕ) → all p (places (k + m + i * m) m) ≡ all p (places (k + (1 + i) * m) m)
+    next i = let e : k + m + i * m ≡ k + (1 + i) * m = omega (arith, ap (λ (j : ℕ). j * m) (one-more i), suc-mul i m) in ap (λ (j : ℕ). all p (places j m)) e
 
 -- a test holds at every number below n, or there is a first at which it fails
 pub first-failing : (p : ℕ → Bool) (n : ℕ) → ((i : ℕ) → i < n → p i ≡ true) ⊎ ((i : ℕ) × (i < n) × (p i ≡ false) × ((j : ℕ) → j < i → p j ≡ true))
@@ -146,6 +197,17 @@ module _ {A : Type 0} where
   pub all-tab : (p : A → Bool) (n : ℕ) (f : ℕ → A) → all p (tab n f) ≡ all (λ i. p (f i)) (places 0 n)
   unfolding tab
   all-tab p n f = all-map f p (places 0 n)
+
+  pub pairs-tab : (r : A → A → Bool) (n : ℕ) (f : ℕ → A) → pairwise r (tab n f) ≡ all (λ i. all (λ j. r (f i) (f j)) (places (i + 1) (n - (i + 1)))) (places 0 n)
+  pairs-tab r n f =
+      same-test (pairwise r (tab n f)) (all (λ i. all (λ j. r (f i) (f j)) (places (i + 1) (n - (i + 1)))) (places 0 n))
+      (λ e. every-make _ 0 n (λ i a b. every-make _ (i + 1) (n - (i + 1)) (λ j c d. ap₂ r (sym (getD-tab n f i (f 0) (omega arith))) (sym (getD-tab n f j (f 0) (omega arith))) ∙ pairs-at r (tab n f) (f 0) e i j (omega arith) (omega (arith, length-tab n f)))))
+      (λ e.
+      pairs-make r (tab n f) (f 0)
+      (λ i j h l.
+      let m : j < n = omega (arith, length-tab n f) in
+      ap₂ r (getD-tab n f i (f 0) (omega arith)) (getD-tab n f j (f 0) m)
+      ∙ every-at (λ k. r (f i) (f k)) (i + 1) (n - (i + 1)) (every-at (λ k. all (λ q. r (f k) (f q)) (places (k + 1) (n - (k + 1)))) 0 n e i (omega arith) (omega arith)) j (omega arith) (omega arith)))
 
   -- a loop that returns the index of the first element that passes
   module _ (p : A → Bool) (f : ℕ → A) (n i r : ℕ) where

@@ -79,6 +79,45 @@ module _ {R : Type 0} where
       ap (λ (k : ℕ). firstRule (flatMap g (places k (n - k))) other) e
       ∙ rules-on g i n other other (firstRule (flatMap g (places 0 n)) other) (rules-past g n other z i (omega arith) (λ j l. f j (omega arith))) h (sym (f i (omega arith))) refl (z i)
 
+  -- ---- where the answer is `other`, and no rule gives that, no rule applies
+  abbrev pub Quiet : List (Rule R) → Type 0
+  Quiet [] = Unit {0}
+  Quiet (r ∷ rs) = (r .1 ≡ false) × Quiet rs
+
+  pub quiet : (rs : List (Rule R)) (other : R) → Telling rs other → firstRule rs other ≡ other → Quiet rs
+  unfolding firstRule
+  quiet [] other z e = tt
+  quiet ((a, true) ∷ rs) other z e = absurd (z .0 e)
+  quiet ((a, false) ∷ rs) other z e = (refl, quiet rs other (z .1) e)
+
+  telling-append : (us vs : List (Rule R)) (other : R) → Telling us other → Telling vs other → Telling (us ++ vs) other
+  telling-append [] vs other a b = b
+  telling-append (u ∷ us) vs other a b = (a .0, telling-append us vs other (a .1) b)
+
+  quiet-left : (us vs : List (Rule R)) → Quiet (us ++ vs) → Quiet us
+  quiet-left [] vs q = tt
+  quiet-left (u ∷ us) vs q = (q .0, quiet-left us vs (q .1))
+
+  quiet-right : (us vs : List (Rule R)) → Quiet (us ++ vs) → Quiet vs
+  quiet-right [] vs q = q
+  quiet-right (u ∷ us) vs q = quiet-right us vs (q .1)
+
+  module _ (g : ℕ → List (Rule R)) where
+    pub telling-places : (other : R) → ((i : ℕ) → Telling (g i) other) → (k n : ℕ) → Telling (flatMap g (places k n)) other
+    unfolding flatMap places
+    telling-places other z k zero = tt
+    telling-places other z k (suc n) = telling-append (g k) (flatMap g (places (suc k) n)) other (z k) (telling-places other z (suc k) n)
+
+    pub quiet-places : (k n : ℕ) → Quiet (flatMap g (places k n)) → (i : ℕ) → k ≤ i → i < k + n → Quiet (g i)
+    unfolding flatMap places
+    quiet-places k zero q i h l = absurd (omega arith)
+    quiet-places k (suc n) q i h l =
+        elim (decLt k i) [
+          | yes a ↦ quiet-places (suc k) n (quiet-right (g k) (flatMap g (places (suc k) n)) q) i a (omega arith)
+          | no a ↦
+              (let e : k ≡ i = omega arith in subst (λ (j : ℕ). Quiet (g j)) e (quiet-left (g k) (flatMap g (places (suc k) n)) q))
+        ]
+
   -- ---- what the answer says
   sooner : {b : R} {rs : List (Rule R)} {d : Rule R} {other a : R} → Given rs other d a → Given ((b, false) ∷ rs) other d a
   sooner {b} {rs} {d} (inl (k, h, q)) = inl (suc k, record { there = suc-le-suc (h .there); holds = h .holds; earlier = past }, q)

@@ -14,17 +14,17 @@ pub both-true : (a b : Bool) → (a && b) ≡ true → (a ≡ true) × (b ≡ tr
 both-true true b e = (refl, e)
 both-true false b e = absurd (true≢false (sym e))
 
-pub and-true : (a b : Bool) → a ≡ true → b ≡ true → (a && b) ≡ true
-and-true true b e f = f
-and-true false b e f = e
+pub true-both : (a b : Bool) → a ≡ true → b ≡ true → (a && b) ≡ true
+true-both true b e f = f
+true-both false b e f = e
 
 pub both-false : (a b : Bool) → (a || b) ≡ false → (a ≡ false) × (b ≡ false)
 both-false true b e = absurd (true≢false e)
 both-false false b e = (refl, e)
 
-pub or-false : (a b : Bool) → a ≡ false → b ≡ false → (a || b) ≡ false
-or-false true b e f = e
-or-false false b e f = f
+pub false-both : (a b : Bool) → a ≡ false → b ≡ false → (a || b) ≡ false
+false-both true b e f = e
+false-both false b e f = f
 
 pub one-true : (a b : Bool) → (a || b) ≡ true → (a ≡ true) ⊎ (b ≡ true)
 one-true true b e = inl refl
@@ -48,6 +48,15 @@ not-holds a e = ap not e
 pub holds-or-fails : (t : Bool) → (t ≡ true) ⊎ (t ≡ false)
 holds-or-fails true = inl refl
 holds-or-fails false = inr refl
+
+-- a test that cannot hold fails, and one that cannot fail holds
+pub false-of : (t : Bool) → (t ≡ true → ⊥) → t ≡ false
+false-of true f = absurd (f refl)
+false-of false f = refl
+
+pub true-of : (t : Bool) → (t ≡ false → ⊥) → t ≡ true
+true-of true f = refl
+true-of false f = absurd (f refl)
 
 -- two tests are one where each holds when the other does
 pub same-test : (a b : Bool) → (a ≡ true → b ≡ true) → (b ≡ true → a ≡ true) → a ≡ b
@@ -75,7 +84,7 @@ parts (t ∷ ts) e = let b = both-true t (allOf ts) e in (b .0, parts ts (b .1))
 pub whole : (ts : List Bool) → Holds ts → allOf ts ≡ true
 unfolding allOf
 whole [] h = refl
-whole (t ∷ ts) h = and-true t (allOf ts) (h .0) (whole ts (h .1))
+whole (t ∷ ts) h = true-both t (allOf ts) (h .0) (whole ts (h .1))
 
 -- ---- what each return of a chain of tests answers
 -- the first test fails; it holds, and the answer is that of the others; the last test is the answer
@@ -115,6 +124,6 @@ some-above n e = lt-ltb 0 n (omega arith)
 
 pub ruleset tests = (told, told-not, told-off, told-on, lt-ltb, le-ltb, le-leb, lt-leb, eq-eqb, ne-eqb, none-above, some-above)
 
-pub ruleset alternatives = (or-left, or-right, or-false, tests)
+pub ruleset alternatives = (or-left, or-right, false-both, tests)
 
 pub ruleset conjunction = (all-miss, all-last, all-pass, tests)

@@ -1,33 +1,30 @@
 -- The configuration's check: each answer is given exactly when what it says is so.
-use Prim.Native.Nat.{ℕ, _+_, _-_, _≤_, _<_}
+use Prim.Native.Nat.{ℕ, _+_, _≤_, _<_}
 use native.Mathlib.Omega.{arith}
-use native.Mathlib.Decide.{decLt}
 use mathlib.Core.Bool.{Bool, true, false, not, _&&_, _||_, true≢false}
-use mathlib.Core.List.{List, flatMap}
+use mathlib.Core.List.{flatMap}
 use mathlib.Core.Logic.{_⊎_, inl, inr, ⊎-elim}
 use mathlib.Core.Path.{_≡_, refl, sym, ap, subst, _∙_}
+use borrow.Author.Tests.{ltb-true, ltb-false, leb-true, leb-false, eqb-true, eqb-false, not-true, not-false, lt-ltb, le-ltb, le-leb, lt-leb, eq-eqb, ne-eqb}
 use lib.Dec.{ltb, leb, eqb}
 use lib.ListN.{length, getD, take, drop, length-take, length-drop}
 use lib.Seq.{getD-take, getD-drop}
-use borrow.Author.Tests.{lt-ltb, le-ltb, le-leb, lt-leb, eq-eqb, ne-eqb, ltb-true, ltb-false, leb-true, leb-false, eqb-true, eqb-false, not-true, not-false}
 use Rattle.lists.specs.First.{firstIndex, firstFrom, any}
 use Rattle.lists.specs.Places.{places}
 use Rattle.lists.specs.Rules.{firstRule}
-use Rattle.lists.proofs.First.{first-is, first-passes, before-fails, any-first, any-from, from-is, from-passes, from-least, between-fails}
 use Rattle.lists.proofs.Every.{any-make, none-at, none-make}
-use Rattle.lists.proofs.Places.{first-failing, getD-tab}
-use Rattle.lists.proofs.Room.{length-room, room-tab}
-use Rattle.lists.proofs.Tests.{or-left, or-right, or-false, holds-or-fails, both-true}
-use Rattle.rules.specs.declared.Region.{Region}
-use Rattle.rules.specs.declared.Checked.{Checked}
-use Rattle.rules.specs.declared.Checked.the-variants.{Sound, BadCount, BadGic, NotZero, Malformed, OutOfReach, Overlap}
+use Rattle.lists.proofs.First.{any-first, first-passes, before-fails, first-is, any-from, from-passes, between-fails, from-least, from-is}
+use Rattle.lists.proofs.Places.{first-failing}
+use Rattle.lists.proofs.Tests.{both-true, false-both, or-left, or-right, holds-or-fails, true-of}
+use Rattle.rules.specs.Configuration.{positionRules, check, StoredConfig}
 use Rattle.rules.specs.Limits.{mostRegions}
 use Rattle.rules.specs.Regions.{wellFormed, inReach, physOverlap, noRegion, used}
-use Rattle.rules.specs.Configuration.{StoredConfig, configOf, positionRules, check}
-use Rattle.rules.proofs.Addresses.{overlap-symmetric}
+use Rattle.rules.specs.declared.Checked.{Checked}
+use Rattle.rules.specs.declared.Checked.the-variants.{Sound, BadCount, BadGic, NotZero, Malformed, OutOfReach, Overlap}
+use Rattle.rules.specs.declared.Region.{Region}
+use Rattle.rules.proofs.Configuration.{gives-c1, gives-c2, gives-c3, gives-positions, c4-faulty, c5-faulty, c6-faulty, gives-c4, gives-c5, gives-c6, gives-none, first-fault, no-fault, passed}
 use Rattle.rules.proofs.Regions.{equal-same, equal-refl}
-use Rattle.rules.proofs.Configuration.{gives-c1, gives-c2, gives-c3, gives-positions, gives-c4, gives-c5, gives-c6, gives-none, c4-faulty, c5-faulty, c6-faulty, first-fault, no-fault}
-use Rattle.promises.specs.Configuration.{at, RightCount, ZeroUpTo, Opening, Fit, Reached, Means, CheckIsExact, Passed, AllRegionsValid, AllRegionsDisjoint, GicRegionInAllRegions}
+use Rattle.promises.specs.Configuration.{at, RightCount, ZeroUpTo, Means, CheckIsExact, AllRegionsValid, AllRegionsDisjoint, GicRegionInAllRegions, Opening, Fit, Reached}
 
 -- a record is zero exactly where it is not used
 zero-unused : (r : Region) → r ≡ noRegion → used r ≡ false
@@ -36,14 +33,10 @@ zero-unused r e = ap used e ∙ ap not (equal-refl noRegion)
 unused-zero : (r : Region) → used r ≡ false → r ≡ noRegion
 unused-zero r e = equal-same r noRegion (not-false _ e)
 
-of-not : (t : Bool) → (t ≡ false → ⊥) → t ≡ true
-of-not true f = refl
-of-not false f = absurd (f refl)
-
 module _ (s : StoredConfig) (full : length (s .records) ≡ mostRegions) where
   -- ---- the tests of C1, C2, C3
   right-count : RightCount s → (eqb (s .count) 0 || ltb mostRegions (s .count)) ≡ false
-  right-count h = or-false _ _ (ne-eqb (s .count) 0 (omega arith)) (le-ltb mostRegions (s .count) (omega arith))
+  right-count h = false-both _ _ (ne-eqb (s .count) 0 (omega arith)) (le-ltb mostRegions (s .count) (omega arith))
 
   right-gic : s .gic < s .count → leb (s .count) (s .gic) ≡ false
   right-gic h = lt-leb (s .count) (s .gic) h
@@ -51,7 +44,7 @@ module _ (s : StoredConfig) (full : length (s .records) ≡ mostRegions) where
   -- C3 names the first used record
   first-used : (k : ℕ) → s .count ≤ k → k < mostRegions → (at s k ≡ noRegion → ⊥) → ZeroUpTo s k → firstFrom used (s .records) (s .count) ≡ k
   first-used k h l ne z =
-      from-is used (s .records) noRegion (s .count) k h (omega arith) (of-not (used (at s k)) (λ e. ne (unused-zero (at s k) e))) (λ j a b. zero-unused (at s j) (z j a b))
+      from-is used (s .records) noRegion (s .count) k h (omega arith) (true-of (used (at s k)) (λ e. ne (unused-zero (at s k) e))) (λ j a b. zero-unused (at s j) (z j a b))
 
   unused-test : (k : ℕ) → firstFrom used (s .records) (s .count) ≡ k → s .count ≤ mostRegions → any used (drop (s .count) (s .records)) ≡ ltb k mostRegions
   unused-test k e h =
@@ -194,37 +187,11 @@ pub check-is-exact : CheckIsExact
 check-is-exact s full f = (to-means s full f, from-means s full f)
 
 -- ---- upstream's three axioms
-module _ (s : StoredConfig) (passed : Passed s) where
-  means : Means s Sound
-  means = to-means s (passed .0) Sound (passed .1)
-
-  long-regions : length (configOf s .regions) ≡ s .count
-  unfolding configOf
-  long-regions = length-room (s .count) noRegion (s .records)
-
-  region-is : (i : ℕ) → i < length (configOf s .regions) → getD (configOf s .regions) i noRegion ≡ at s i
-  unfolding configOf
-  region-is i h =
-      let l : i < s .count = omega (arith, long-regions) in
-      ap (λ (rs : List Region). getD rs i noRegion) (room-tab (s .count) noRegion (s .records)) ∙ getD-tab (s .count) (at s) i noRegion l
-
-  fit-at : (i : ℕ) → i < length (configOf s .regions) → Fit s i
-  fit-at i h = means .1 i (omega (arith, long-regions))
-
-  apart : (i j : ℕ) → i < length (configOf s .regions) → j < length (configOf s .regions) → (i ≡ j → ⊥) → physOverlap (at s i) (at s j) ≡ false
-  apart i j h l ne =
-      elim (decLt j i) [
-        | yes a ↦ fit-at i h .clear j a
-        | no a ↦
-            overlap-symmetric (at s i .p .0) (at s i .size) (at s j .p .0) (at s j .size) ∙ fit-at j l .clear i (omega arith)
-      ]
-
 pub all-regions-valid : AllRegionsValid
-all-regions-valid s passed i h = rw (region-is s passed i h) (fit-at s passed i h .formed, fit-at s passed i h .near)
+all-regions-valid s (full, e) i h = (passed s full e .formed i h, passed s full e .near i h)
 
 pub all-regions-disjoint : AllRegionsDisjoint
-all-regions-disjoint s passed i j h l ne = rw (region-is s passed i h, region-is s passed j l) (apart s passed i j h l ne)
+all-regions-disjoint s (full, e) = passed s full e .apart
 
 pub gic-region-in-all-regions : GicRegionInAllRegions
-unfolding configOf
-gic-region-in-all-regions s passed = let g : s .gic < s .count = means s passed .0 .gic in omega (arith, long-regions s passed)
+gic-region-in-all-regions s (full, e) = passed s full e .gic

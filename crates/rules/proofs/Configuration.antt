@@ -1,22 +1,29 @@
 -- The check of a configuration: when each answer is given.
-use Prim.Native.Nat.{ℕ, _-_, _<_}
+use Prim.Native.Nat.{ℕ, _≤_, _<_}
+use native.Mathlib.Decide.{decLt}
 use native.Mathlib.Omega.{arith}
-use mathlib.Core.Bool.{Bool, true, false, _||_}
+use mathlib.Core.Bool.{Bool, true, false, _||_, true≢false}
 use mathlib.Core.List.{List, flatMap}
-use mathlib.Core.Path.{_≡_, sym, ap}
+use mathlib.Core.Path.{_≡_, refl, sym, ap, ap₂, _∙_}
+use borrow.Author.Tests.{ltb-false, leb-false, not-false}
 use lib.Dec.{ltb, leb, eqb}
-use lib.ListN.{getD, take, drop}
+use lib.ListN.{length, getD, take, drop, length-take}
+use lib.Seq.{getD-take}
 use Rattle.lists.specs.First.{firstIndex, firstFrom, any}
 use Rattle.lists.specs.Places.{places}
 use Rattle.lists.specs.Rules.{firstRule}
-use Rattle.lists.proofs.Rules.{Telling, rules, rules-stop, rules-past, rules-end}
-use Rattle.lists.proofs.Tests.{not-fails, not-holds}
-use Rattle.rules.specs.declared.Region.{Region}
-use Rattle.rules.specs.declared.Checked.{Checked}
-use Rattle.rules.specs.declared.Checked.the-variants.{Sound, BadCount, BadGic, NotZero, Malformed, OutOfReach, Overlap}
+use Rattle.lists.proofs.Every.{none-at}
+use Rattle.lists.proofs.Places.{getD-tab}
+use Rattle.lists.proofs.Room.{length-room, room-tab}
+use Rattle.lists.proofs.Rules.{rules, Telling, rules-stop, rules-end, rules-past, Quiet, quiet, telling-places, quiet-places}
+use Rattle.lists.proofs.Tests.{both-false, not-fails, not-holds}
+use Rattle.rules.specs.Configuration.{configOf, positionRules, checkRules, check, isSound, checkNumber, Configuration, StoredConfig}
 use Rattle.rules.specs.Limits.{mostRegions}
 use Rattle.rules.specs.Regions.{wellFormed, inReach, physOverlap, noRegion, used}
-use Rattle.rules.specs.Configuration.{StoredConfig, positionRules, checkRules, check, checkNumber}
+use Rattle.rules.specs.declared.Checked.{Checked}
+use Rattle.rules.specs.declared.Checked.the-variants.{Sound, BadCount, BadGic, NotZero, Malformed, OutOfReach, Overlap}
+use Rattle.rules.specs.declared.Region.{Region}
+use Rattle.rules.proofs.Addresses.{overlap-symmetric}
 
 -- ---- C1, C2, C3, each as soon as it applies and no earlier one does
 module _ (s : StoredConfig) where
@@ -42,6 +49,15 @@ module _ (s : StoredConfig) where
       gives-positions c = search rules
 
 -- ---- at a position: no rule answers that all is sound
+c1-faulty : BadCount ≡ Sound → ⊥
+c1-faulty e = let z : _≡_ {A = ℕ} 1 0 = ap checkNumber e in omega arith
+
+c2-faulty : BadGic ≡ Sound → ⊥
+c2-faulty e = let z : _≡_ {A = ℕ} 2 0 = ap checkNumber e in omega arith
+
+c3-faulty : (k : ℕ) → NotZero k ≡ Sound → ⊥
+c3-faulty k e = let z : _≡_ {A = ℕ} 3 0 = ap checkNumber e in omega arith
+
 pub c4-faulty : (i : ℕ) → Malformed i ≡ Sound → ⊥
 c4-faulty i e = let z : _≡_ {A = ℕ} 4 0 = ap checkNumber e in omega arith
 
@@ -87,3 +103,81 @@ module _ (records : List Region) (n : ℕ) where
 
   pub no-fault : ((j : ℕ) → j < n → Sound ≡ firstRule (positionRules records j) Sound) → Sound ≡ whole
   no-fault f = rules-end (positionRules records) n n Sound whole (rules-past (positionRules records) n Sound (telling-at records) n (omega arith) (λ j l. sym (f j l))) (omega arith)
+
+-- ---- the test of an answer
+pub sound-is : isSound Sound ≡ true
+unfolding isSound
+sound-is = refl
+
+pub fault-unsound : (f : Checked) → (f ≡ Sound → ⊥) → isSound f ≡ false
+unfolding isSound
+fault-unsound Sound bad = absurd (bad refl)
+fault-unsound BadCount bad = refl
+fault-unsound BadGic bad = refl
+fault-unsound (NotZero k) bad = refl
+fault-unsound (Malformed i) bad = refl
+fault-unsound (OutOfReach i) bad = refl
+fault-unsound (Overlap i k) bad = refl
+
+pub sound-answer : (f : Checked) → isSound f ≡ true → f ≡ Sound
+unfolding isSound
+sound-answer Sound e = refl
+sound-answer BadCount e = absurd (true≢false (sym e))
+sound-answer BadGic e = absurd (true≢false (sym e))
+sound-answer (NotZero k) e = absurd (true≢false (sym e))
+sound-answer (Malformed i) e = absurd (true≢false (sym e))
+sound-answer (OutOfReach i) e = absurd (true≢false (sym e))
+sound-answer (Overlap i k) e = absurd (true≢false (sym e))
+
+-- ---- what is so of a configuration that the check finds sound
+pub record SoundConfiguration (c : Configuration) : Type 0 where
+  pub most : length (c .regions) ≤ mostRegions
+  pub gic : c .gic < length (c .regions)
+  pub formed : (i : ℕ) → i < length (c .regions) → wellFormed (getD (c .regions) i noRegion) ≡ true
+  pub near : (i : ℕ) → i < length (c .regions) → inReach (getD (c .regions) i noRegion) ≡ true
+  pub apart : (i j : ℕ) → i < length (c .regions) → j < length (c .regions) → (i ≡ j → ⊥) → physOverlap (getD (c .regions) i noRegion) (getD (c .regions) j noRegion) ≡ false
+
+module _ (s : StoredConfig) (full : length (s .records) ≡ mostRegions) (e : check s ≡ Sound) where
+  first-telling : Telling (checkRules s) Sound
+  unfolding checkRules
+  first-telling = (c1-faulty, (c2-faulty, (c3-faulty _, telling-places (positionRules (s .records)) Sound (telling-at (s .records)) 0 (s .count))))
+
+  tests-fail : Quiet (checkRules s)
+  unfolding check
+  tests-fail = quiet (checkRules s) Sound first-telling e
+
+  few : s .count ≤ mostRegions
+  unfolding checkRules
+  few = ltb-false _ _ (both-false (eqb (s .count) 0) _ (tests-fail .0) .1)
+
+  at-position : (i : ℕ) → i < s .count → Quiet (positionRules (s .records) i)
+  unfolding checkRules
+  at-position i h = quiet-places (positionRules (s .records)) 0 (s .count) (tests-fail .1 .1 .1) i (omega arith) (omega arith)
+
+  held-at : (i : ℕ) → i < s .count → getD (configOf s .regions) i noRegion ≡ getD (s .records) i noRegion
+  unfolding configOf
+  held-at i h = ap (λ (rs : List Region). getD rs i noRegion) (room-tab (s .count) noRegion (s .records)) ∙ getD-tab (s .count) (λ j. getD (s .records) j noRegion) i noRegion h
+
+  many : length (configOf s .regions) ≡ s .count
+  unfolding configOf
+  many = length-room (s .count) noRegion (s .records)
+
+  clear : (i j : ℕ) → j < i → i < s .count → physOverlap (getD (s .records) i noRegion) (getD (s .records) j noRegion) ≡ false
+  unfolding positionRules
+  clear i j h l =
+      let w : j < length (take i (s .records)) = omega (arith, length-take i (s .records), few) in
+      ap (physOverlap (getD (s .records) i noRegion)) (sym (getD-take i (s .records) j noRegion h)) ∙ none-at (physOverlap (getD (s .records) i noRegion)) (take i (s .records)) noRegion (at-position i l .1 .1 .0) j w
+
+  clear-both : (i j : ℕ) → i < s .count → j < s .count → (i ≡ j → ⊥) → physOverlap (getD (s .records) i noRegion) (getD (s .records) j noRegion) ≡ false
+  clear-both i j h l ne =
+      elim (decLt j i) [ yes a ↦ clear i j a h | no a ↦ overlap-symmetric _ _ _ _ ∙ clear j i (omega arith) l ]
+
+  pub passed : SoundConfiguration (configOf s)
+  unfolding checkRules positionRules configOf
+  passed = record {
+    most = (let f : s .count ≤ mostRegions = few in omega (arith, many));
+    gic = (let g : s .gic < s .count = leb-false _ _ (tests-fail .1 .0) in omega (arith, many));
+    formed = λ i h. let l : i < s .count = omega (arith, many) in ap wellFormed (held-at i l) ∙ not-false _ (at-position i l .0);
+    near = λ i h. let l : i < s .count = omega (arith, many) in ap inReach (held-at i l) ∙ not-false _ (at-position i l .1 .0);
+    apart = λ i j h l ne. let a : i < s .count = omega (arith, many) in let b : j < s .count = omega (arith, many) in ap₂ physOverlap (held-at i a) (held-at j b) ∙ clear-both i j a b ne;
+  }

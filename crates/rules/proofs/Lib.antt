@@ -2,3 +2,4 @@
 pub mod Addresses
 pub mod Regions
 pub mod Configuration
+pub mod Tables

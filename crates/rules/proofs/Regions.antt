@@ -3,8 +3,8 @@ use mathlib.Core.Bool.{true}
 use mathlib.Core.Path.{_≡_, refl}
 use borrow.Author.Tests.{eqb-true, eq-eqb}
 use Rattle.lists.proofs.Tests.{parts, whole}
-use Rattle.rules.specs.declared.Region.{Region}
 use Rattle.rules.specs.Regions.{regionEq}
+use Rattle.rules.specs.declared.Region.{Region}
 
 -- the test of equality says that the two are one
 pub equal-same : (a b : Region) → regionEq a b ≡ true → a ≡ b

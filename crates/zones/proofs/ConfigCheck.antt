@@ -4,24 +4,24 @@ use native.Mathlib.Omega.{arith}
 use mathlib.Core.Bool.{Bool, true, false, not}
 use mathlib.Core.List.{List, [], _∷_}
 use mathlib.Core.Path.{_≡_, refl, sym, ap, subst, _∙_}
-use lib.ListN.{length, getD, take, drop}
-use borrow.Author.Tests.{lt-ltb, le-ltb, eqb-false}
 use types.Run.{OneOf, miss}
 use denote.Enum.Declared.{tagOf}
-use Rattle.rules.proofs.Checked.{the-type}
+use borrow.Author.Tests.{eqb-false, lt-ltb, le-ltb}
+use lib.ListN.{length, getD, take, drop}
 use Rattle.lists.specs.First.{firstIndex, firstFrom, any}
 use Rattle.lists.specs.Rules.{_when_, firstRule}
 use Rattle.lists.proofs.First.{any-first, any-from}
 use Rattle.lists.proofs.Places.{length-tab, getD-tab, take-tab}
-use Rattle.rules.specs.declared.Region.{Region}
-use Rattle.rules.specs.declared.Checked.{Checked}
-use Rattle.rules.specs.declared.Checked.the-variants.{Sound, BadCount, BadGic, NotZero, Malformed, OutOfReach, Overlap}
+use Rattle.rules.specs.Configuration.{positionRules, check}
 use Rattle.rules.specs.Limits.{mostRegions}
 use Rattle.rules.specs.Regions.{wellFormed, inReach, physOverlap, noRegion}
-use Rattle.rules.specs.Configuration.{positionRules}
+use Rattle.rules.specs.declared.Checked.{Checked}
+use Rattle.rules.specs.declared.Checked.the-variants.{Sound, BadCount, BadGic, NotZero, Malformed, OutOfReach, Overlap}
+use Rattle.rules.specs.declared.Region.{Region}
+use Rattle.rules.proofs.Checked.{the-type}
 use Rattle.zones.specs.Layout.{configRecords}
 use Rattle.zones.specs.Records.{recordAt, recordsAt}
-use Rattle.zones.specs.View.{allRecords}
+use Rattle.zones.specs.View.{allRecords, storedConfig, ConfigPassed}
 
 -- ---- whether some record passes, by the first that does
 module _ (w : List ℕ) (b n k : ℕ) (p : Region → Bool) (found : k ≡ firstIndex p (recordsAt w b n)) where
@@ -71,3 +71,6 @@ is-fault v t e = miss (1 ∷ 2 ∷ 3 ∷ 4 ∷ 5 ∷ 6 ∷ []) 0 tt (subst (λ (
 
 pub not-zero-at : (k m : ℕ) → k ≡ m → NotZero k ≡ NotZero m
 not-zero-at k m e = ap NotZero e
+
+pub config-told : (w : List ℕ) (f : Checked) → f ≡ check (storedConfig w) → f ≡ Sound → ConfigPassed w
+config-told w f e g = sym e ∙ g

@@ -6,3 +6,7 @@ pub mod Readers
 pub mod Focus
 pub mod Writers
 pub mod Packing
+pub mod ConfigReaders
+pub mod Holding
+pub mod Checking
+pub mod Stored

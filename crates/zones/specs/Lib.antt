@@ -5,3 +5,4 @@ pub mod Alike
 pub mod View
 pub mod Words
 pub mod Packing
+pub mod Holding

@@ -1,14 +1,16 @@
 -- What is stored in words.
 use Prim.Native.Nat.{ℕ, _+_}
 use mathlib.Core.List.{List}
+use mathlib.Core.Path.{_≡_}
 use lib.ListN.{getD}
 use Rattle.lists.specs.Places.{tab}
+use Rattle.rules.specs.Configuration.{configOf, check, Configuration, StoredConfig}
+use Rattle.rules.specs.Limits.{mostRegions, mostZones, mostInSet}
+use Rattle.rules.specs.Tables.{Zone, StoredSet, StoredZone, StoredTable}
+use Rattle.rules.specs.declared.Checked.the-variants.{Sound}
 use Rattle.rules.specs.declared.Region.{Region}
 use Rattle.rules.specs.declared.Side.{Side}
 use Rattle.rules.specs.declared.Side.the-variants.{Cpu, Iommu}
-use Rattle.rules.specs.Limits.{mostRegions, mostZones, mostInSet}
-use Rattle.rules.specs.Configuration.{StoredConfig}
-use Rattle.rules.specs.Tables.{Zone, StoredSet, StoredZone, StoredTable}
 use Rattle.zones.specs.Layout.{configCount, configGic, configRecords, zoneBase, setBase}
 use Rattle.zones.specs.Records.{recordAt, recordsAt}
 
@@ -19,6 +21,14 @@ allRecords w = recordsAt w configRecords mostRegions
 
 abbrev pub storedConfig : List ℕ → StoredConfig
 storedConfig w = record { count = getD w configCount 0; gic = getD w configGic 0; records = allRecords w }
+
+-- the configuration that is stored
+abbrev pub configIn : List ℕ → Configuration
+configIn w = configOf (storedConfig w)
+
+-- the check finds it sound
+abbrev pub ConfigPassed : List ℕ → Type 0
+ConfigPassed w = check (storedConfig w) ≡ Sound
 
 -- ---- the table
 -- the set whose count stands at word b

@@ -16,16 +16,18 @@ use rules::limits::MOST_REGIONS;
 ghost use Prim.Native.Nat.{_<_, _≤_};
 ghost use mathlib.Core.List.{flatMap};
 ghost use mathlib.Core.Path.{_≡_};
+ghost use lib.ListN.{length, getD};
 ghost use Rattle.lists.specs.First.{firstFrom};
 ghost use Rattle.lists.specs.Places.{places};
 ghost use Rattle.lists.specs.Rules.{firstRule};
 ghost use Rattle.rules.specs.declared.Checked.{Checked};
 ghost use Rattle.rules.specs.Limits.{mostRegions};
-ghost use Rattle.rules.specs.Regions.{used};
-ghost use Rattle.rules.specs.Configuration.{positionRules, check, checkNumber, checkPlace, checkEarlier};
+ghost use Rattle.rules.specs.Regions.{noRegion, used};
+ghost use Rattle.rules.specs.Configuration.{gicOf, positionRules, check, checkNumber, checkPlace, checkEarlier};
+ghost use Rattle.rules.specs.Tables.{configured};
 ghost use Rattle.zones.specs.Layout.{configRecords};
 ghost use Rattle.zones.specs.Records.{recordAt};
-ghost use Rattle.zones.specs.View.{storedConfig, allRecords};
+ghost use Rattle.zones.specs.View.{storedConfig, configIn, ConfigPassed, allRecords};
 
 pub struct Config {
     pub words: [u64; CONFIG_WORDS],
@@ -160,4 +162,43 @@ fn check_at(c: &[u64; CONFIG_WORDS], i: usize) -> Checked
         return Checked::Overlap(i, k);
     }
     Checked::Sound
+}
+
+// ---- readers of a configuration that the check finds sound
+
+pub fn region_count(c: &[u64; CONFIG_WORDS]) -> usize
+    requires { ⌜ ConfigPassed (now c) ⌝ }
+    ensures { λ n. ⌜ (n ≡ length (configIn (now (c .entry)) .regions)) × (n ≤ mostRegions) ⌝ }
+{
+    c[CONFIG_COUNT] as usize
+}
+
+pub fn gic_position(c: &[u64; CONFIG_WORDS]) -> usize
+    requires { ⌜ ConfigPassed (now c) ⌝ }
+    ensures { λ n. ⌜ (n ≡ configIn (now (c .entry)) .gic) × (n < mostRegions) ⌝ }
+{
+    c[CONFIG_GIC] as usize
+}
+
+pub fn config_region(c: &[u64; CONFIG_WORDS], i: usize) -> Region
+    requires { ⌜ ConfigPassed (now c) × (i < length (configIn (now c) .regions)) ⌝ }
+    ensures { λ r. ⌜ r ≡ getD (configIn (now (c .entry)) .regions) i noRegion ⌝ }
+{
+    region_at(c, i)
+}
+
+pub fn gic_region(c: &[u64; CONFIG_WORDS]) -> Region
+    requires { ⌜ ConfigPassed (now c) ⌝ }
+    ensures { λ r. ⌜ r ≡ gicOf (configIn (now (c .entry))) ⌝ }
+{
+    let i = gic_position(c);
+    region_at(c, i)
+}
+
+pub fn is_configured(c: &[u64; CONFIG_WORDS], r: Region) -> bool
+    requires { ⌜ ConfigPassed (now c) ⌝ }
+    ensures { λ b. ⌜ b ≡ configured (configIn (now (c .entry))) r ⌝ }
+{
+    let n = region_count(c);
+    find_record(c, CONFIG_RECORDS, n, By::Equal, r) < n
 }

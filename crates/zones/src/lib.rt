@@ -1,6 +1,7 @@
 // The configuration and the zone table as words of memory, and what is checked and done there.
 mod config;
 mod layout;
+mod sound;
 mod table;
 mod words;
 
@@ -14,3 +15,6 @@ pub use layout::CONFIG_GIC;
 pub use layout::CONFIG_RECORDS;
 pub use layout::CONFIG_WORDS;
 pub use layout::REGION_WORDS;
+pub use layout::TABLE_WORDS;
+pub use sound::check_table;
+pub use table::Table;

@@ -27,6 +27,10 @@ ghost use Rattle.zones.specs.Packing.{setPacked, zonePacked, packed};
 ghost use Rattle.zones.specs.View.{recordIn, setIn, zoneIn, zonesIn};
 ghost use Rattle.zones.specs.Words.{wordsOf, Packed};
 
+pub struct Table {
+    pub words: [u64; TABLE_WORDS],
+}
+
 // ---- where things stand
 
 // The word that holds the count of a set.

@@ -1,0 +1,258 @@
+// The table check: whether a table is sound under a configuration.
+use crate::config::Config;
+use crate::config::check_words;
+use crate::config::config_region;
+use crate::config::gic_position;
+use crate::config::gic_region;
+use crate::config::is_configured;
+use crate::config::region_count;
+use crate::layout::CONFIG_WORDS;
+use crate::layout::TABLE_WORDS;
+use crate::table::Table;
+use crate::table::find_zone;
+use crate::table::id_at;
+use crate::table::is_packed;
+use crate::table::region_at;
+use crate::table::set_find;
+use crate::table::set_len;
+use crate::table::zone_count;
+use crate::words::By;
+use region::guest_overlap;
+use region::phys_overlap;
+use rules::Checked;
+use rules::Region;
+use rules::Side;
+use rules::limits::HIGHEST_ID;
+ghost use Prim.Native.Nat.{_+_, _≤_, _<_, max};
+ghost use mathlib.Core.Path.{_≡_};
+ghost use lib.ListN.{length, getD};
+ghost use Rattle.lists.specs.First.{firstFrom, all};
+ghost use Rattle.lists.specs.Pairs.{pairwise};
+ghost use Rattle.lists.specs.Places.{places};
+ghost use Rattle.rules.specs.declared.Side.{Side};
+ghost use Rattle.rules.specs.Limits.{mostZones, mostInSet};
+ghost use Rattle.rules.specs.Tables.{configured, guestApart, offGic, soundSet, soundZone, idsDiffer, sound, checkTable};
+ghost use Rattle.zones.specs.Holding.{holds, heldOnce, heldAt, heldApart, apartAfter};
+ghost use Rattle.zones.specs.View.{storedConfig, storedTable, configIn, ConfigPassed, recordIn, setIn, zoneIn, zonesIn};
+ghost use Rattle.zones.specs.Words.{Within, Packed};
+
+// Yes exactly for a sound table under a sound configuration.
+pub fn check_table(c: Config, t: Table) -> bool
+    ensures { λ b. ⌜ b ≡ checkTable (storedConfig (c .words)) (storedTable (t .words)) ⌝ }
+{
+    let config = c.words;
+    let table = t.words;
+    is_sound(&config, &table)
+}
+
+// The same where the two lie.
+pub fn is_sound(c: &[u64; CONFIG_WORDS], t: &[u64; TABLE_WORDS]) -> bool
+    ensures { λ b. ⌜ b ≡ checkTable (storedConfig (now (c .entry))) (storedTable (now (t .entry))) ⌝ }
+{
+    let found = check_words(c);
+    let Checked::Sound = found else {
+        return false;
+    };
+    if !is_packed(t) {
+        return false;
+    }
+    zones_sound(c, t)
+}
+
+fn zones_sound(c: &[u64; CONFIG_WORDS], t: &[u64; TABLE_WORDS]) -> bool
+    requires { ⌜ ConfigPassed (now c) × Within (zonesIn (now t)) ⌝ }
+    ensures { λ b. ⌜ b ≡ sound (configIn (now (c .entry))) (zonesIn (now (t .entry))) ⌝ }
+{
+    if !each_sound(c, t) {
+        return false;
+    }
+    if !ids_differ(t) {
+        return false;
+    }
+    held_apart(c, t)
+}
+
+// ---- each zone
+
+fn each_sound(c: &[u64; CONFIG_WORDS], t: &[u64; TABLE_WORDS]) -> bool
+    requires { ⌜ ConfigPassed (now c) × Within (zonesIn (now t)) ⌝ }
+    ensures { λ b. ⌜ b ≡ all (soundZone (configIn (now (c .entry)))) (zonesIn (now (t .entry))) ⌝ }
+{
+    let n = zone_count(t);
+    let mut z = 0;
+    while z < n {
+        if !zone_sound(c, t, z) {
+            return false;
+        }
+        z += 1;
+    }
+    true
+}
+
+fn zone_sound(c: &[u64; CONFIG_WORDS], t: &[u64; TABLE_WORDS], z: usize) -> bool
+    requires { ⌜ (ConfigPassed (now c) × Within (zonesIn (now t))) × (z < length (zonesIn (now t))) ⌝ }
+    ensures { λ b. ⌜ b ≡ soundZone (configIn (now (c .entry))) (zoneIn (now (t .entry)) z) ⌝ }
+{
+    if HIGHEST_ID < id_at(t, z) {
+        return false;
+    }
+    if !set_sound(c, t, z, Side::Cpu) {
+        return false;
+    }
+    if !set_sound(c, t, z, Side::Iommu) {
+        return false;
+    }
+    off_gic(c, t, z)
+}
+
+fn set_sound(c: &[u64; CONFIG_WORDS], t: &[u64; TABLE_WORDS], z: usize, side: Side) -> bool
+    requires { ⌜ (ConfigPassed (now c) × (z < mostZones)) × (length (setIn (now t) z side) ≤ mostInSet) ⌝ }
+    ensures { λ b. ⌜ b ≡ soundSet (configIn (now (c .entry))) (setIn (now (t .entry)) z side) ⌝ }
+{
+    if !set_configured(c, t, z, side) {
+        return false;
+    }
+    guest_apart(t, z, side)
+}
+
+fn set_configured(c: &[u64; CONFIG_WORDS], t: &[u64; TABLE_WORDS], z: usize, side: Side) -> bool
+    requires { ⌜ (ConfigPassed (now c) × (z < mostZones)) × (length (setIn (now t) z side) ≤ mostInSet) ⌝ }
+    ensures { λ b. ⌜ b ≡ all (configured (configIn (now (c .entry)))) (setIn (now (t .entry)) z side) ⌝ }
+{
+    let n = set_len(t, z, side);
+    let mut i = 0;
+    while i < n {
+        if !is_configured(c, region_at(t, z, side, i)) {
+            return false;
+        }
+        i += 1;
+    }
+    true
+}
+
+fn guest_apart(t: &[u64; TABLE_WORDS], z: usize, side: Side) -> bool
+    requires { ⌜ (z < mostZones) × (length (setIn (now t) z side) ≤ mostInSet) ⌝ }
+    ensures { λ b. ⌜ b ≡ pairwise guestApart (setIn (now (t .entry)) z side) ⌝ }
+{
+    let n = set_len(t, z, side);
+    let mut i = 0;
+    while i < n {
+        if !apart_later(t, z, side, i) {
+            return false;
+        }
+        i += 1;
+    }
+    true
+}
+
+// Whether region i of a set overlaps no later one in guest addresses.
+fn apart_later(t: &[u64; TABLE_WORDS], z: usize, side: Side, i: usize) -> bool
+    requires { ⌜ ((z < mostZones) × (length (setIn (now t) z side) ≤ mostInSet)) × (i < length (setIn (now t) z side)) ⌝ }
+    ensures { λ b. ⌜ b ≡ apartAfter (now (t .entry)) z side i ⌝ }
+{
+    let r = region_at(t, z, side, i);
+    let n = set_len(t, z, side);
+    let mut j = i + 1;
+    while j < n {
+        if guest_overlap(r, region_at(t, z, side, j)) {
+            return false;
+        }
+        j += 1;
+    }
+    true
+}
+
+fn off_gic(c: &[u64; CONFIG_WORDS], t: &[u64; TABLE_WORDS], z: usize) -> bool
+    requires { ⌜ (ConfigPassed (now c) × (z < mostZones)) × (length (setIn (now t) z Side.Cpu) ≤ mostInSet) ⌝ }
+    ensures { λ b. ⌜ b ≡ all (offGic (configIn (now (c .entry)))) (setIn (now (t .entry)) z Side.Cpu) ⌝ }
+{
+    let gic = gic_region(c);
+    let n = set_len(t, z, Side::Cpu);
+    let mut i = 0;
+    while i < n {
+        if phys_overlap(region_at(t, z, Side::Cpu, i), gic) {
+            return false;
+        }
+        i += 1;
+    }
+    true
+}
+
+// ---- zones beside each other
+
+fn ids_differ(t: &[u64; TABLE_WORDS]) -> bool
+    requires { ⌜ Within (zonesIn (now t)) ⌝ }
+    ensures { λ b. ⌜ b ≡ pairwise idsDiffer (zonesIn (now (t .entry))) ⌝ }
+{
+    let n = zone_count(t);
+    let mut z = 0;
+    while z < n {
+        if find_zone(t, id_at(t, z)) != z {
+            return false;
+        }
+        z += 1;
+    }
+    true
+}
+
+// Held regions are configured ones, and configured regions overlap only if they are equal. So no two zones share a physical address
+// outside the GIC exactly when each configured region but the GIC is held by at most one zone.
+fn held_apart(c: &[u64; CONFIG_WORDS], t: &[u64; TABLE_WORDS]) -> bool
+    requires { ⌜ ConfigPassed (now c) × Within (zonesIn (now t)) ⌝ }
+    ensures { λ b. ⌜ b ≡ heldApart (configIn (now (c .entry))) (zonesIn (now (t .entry))) ⌝ }
+{
+    let n = region_count(c);
+    let mut k = 0;
+    while k < n {
+        if !held_well(c, t, k) {
+            return false;
+        }
+        k += 1;
+    }
+    true
+}
+
+// Whether configured region k is the GIC, or is held by at most one zone.
+fn held_well(c: &[u64; CONFIG_WORDS], t: &[u64; TABLE_WORDS], k: usize) -> bool
+    requires { ⌜ (ConfigPassed (now c) × Within (zonesIn (now t))) × (k < length (configIn (now c) .regions)) ⌝ }
+    ensures { λ b. ⌜ b ≡ heldAt (configIn (now (c .entry))) (zonesIn (now (t .entry))) k ⌝ }
+{
+    if k == gic_position(c) {
+        return true;
+    }
+    held_once(t, config_region(c, k))
+}
+
+fn held_once(t: &[u64; TABLE_WORDS], r: Region) -> bool
+    requires { ⌜ Within (zonesIn (now t)) ⌝ }
+    ensures { λ b. ⌜ b ≡ heldOnce r (zonesIn (now (t .entry))) ⌝ }
+{
+    let first = first_holder(t, r, 0);
+    zone_count(t) <= first_holder(t, r, first + 1)
+}
+
+// The first zone from position z on that holds the region, or the count (or z, where that is past it).
+fn first_holder(t: &[u64; TABLE_WORDS], r: Region, z: usize) -> usize
+    requires { ⌜ Within (zonesIn (now t)) × (z ≤ mostZones + 1) ⌝ }
+    ensures { λ k. ⌜ (k ≡ firstFrom (holds r) (zonesIn (now (t .entry))) z) × (k ≤ max z mostZones) ⌝ }
+{
+    let n = zone_count(t);
+    let mut i = z;
+    while i < n {
+        if zone_holds(t, i, r) {
+            return i;
+        }
+        i += 1;
+    }
+    i
+}
+
+fn zone_holds(t: &[u64; TABLE_WORDS], z: usize, r: Region) -> bool
+    requires { ⌜ Within (zonesIn (now t)) × (z < length (zonesIn (now t))) ⌝ }
+    ensures { λ b. ⌜ b ≡ holds r (zoneIn (now (t .entry)) z) ⌝ }
+{
+    if set_find(t, z, Side::Cpu, By::Equal, r) < set_len(t, z, Side::Cpu) {
+        return true;
+    }
+    set_find(t, z, Side::Iommu, By::Equal, r) < set_len(t, z, Side::Iommu)
+}

@@ -1,3 +1,4 @@
 -- The proofs of the promises.
 pub mod Addresses
 pub mod Configuration
+pub mod Tables

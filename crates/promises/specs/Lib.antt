@@ -1,3 +1,4 @@
 -- The promises: what follows from the rules alone. Each is a statement here, and its proof stands in proofs/ under the same file name.
 pub mod Addresses
 pub mod Configuration
+pub mod Tables

@@ -25,16 +25,15 @@ use rules::Side;
 use rules::limits::HIGHEST_ID;
 ghost use Prim.Native.Nat.{_+_, _≤_, _<_, max};
 ghost use mathlib.Core.Path.{_≡_};
-ghost use lib.ListN.{length, getD};
+ghost use lib.ListN.{length};
 ghost use Rattle.lists.specs.First.{firstFrom, all};
 ghost use Rattle.lists.specs.Pairs.{pairwise};
-ghost use Rattle.lists.specs.Places.{places};
 ghost use Rattle.rules.specs.declared.Side.{Side};
 ghost use Rattle.rules.specs.Limits.{mostZones, mostInSet};
 ghost use Rattle.rules.specs.Tables.{configured, guestApart, offGic, soundSet, soundZone, idsDiffer, sound, checkTable};
 ghost use Rattle.zones.specs.Holding.{holds, heldOnce, heldAt, heldApart, apartAfter};
-ghost use Rattle.zones.specs.View.{storedConfig, storedTable, configIn, ConfigPassed, recordIn, setIn, zoneIn, zonesIn};
-ghost use Rattle.zones.specs.Words.{Within, Packed};
+ghost use Rattle.zones.specs.View.{storedConfig, storedTable, configIn, ConfigPassed, setIn, zoneIn, zonesIn};
+ghost use Rattle.zones.specs.Words.{Within};
 
 // Yes exactly for a sound table under a sound configuration.
 pub fn check_table(c: Config, t: Table) -> bool

@@ -7,13 +7,15 @@ use mathlib.Core.Bool.{Bool, true, false, not, true≢false}
 use mathlib.Core.List.{List, [], _∷_, _++_, map, flatMap}
 use mathlib.Core.Logic.{inl, inr, _↔_}
 use mathlib.Core.Path.{_≡_, refl, sym, ap, subst, _∙_}
-use borrow.Author.Tests.{eqb-false, not-true}
-use lib.Dec.{eqb}
+use borrow.Author.Tests.{ltb-true, eqb-false, not-true}
+use lib.Dec.{ltb, eqb}
 use lib.ListN.{length, getD, length-map, List·getD-map}
+use Rattle.lists.specs.First.{all}
 use Rattle.lists.specs.Places.{places}
 use Rattle.lists.specs.Rules.{Rule, _when_, firstRule, Silent, Given, numbered, Applies}
 use Rattle.lists.proofs.Pairs.{pairs-at}
 use Rattle.lists.proofs.Places.{getD-any, places-step, places-end}
+use Rattle.lists.proofs.Tests.{both-true}
 
 module _ {R : Type 0} where
   -- ---- what each return of a chain of rules answers
@@ -152,7 +154,19 @@ module _ {R : Type 0} where
   pub first-rule : (rs : List (Rule R)) (other : R) (d : Rule R) (a : R) → (firstRule rs other ≡ a) ↔ Given rs other d a
   first-rule rs other d a = (given rs other d a, from-given rs other d a)
 
--- ---- where the answers are numbers that differ from each other and from 0
+-- ---- where the answers are numbers
+-- none of them is 0
+unfoldable pub aboveZero : List (Rule ℕ) → Bool
+aboveZero rs = all (λ (r : Rule ℕ). ltb 0 (r .0)) rs
+
+pub numbers-tell : (rs : List (Rule ℕ)) → aboveZero rs ≡ true → Telling rs 0
+unfolding aboveZero all
+numbers-tell [] e = tt
+numbers-tell (r ∷ rs) e =
+    let b = both-true (ltb 0 (r .0)) (all (λ (q : Rule ℕ). ltb 0 (q .0)) rs) e in
+    ((λ z. let h : 0 < r .0 = ltb-true _ _ (b .0) in omega arith), numbers-tell rs (b .1))
+
+-- they differ from each other and from 0
 module _ (rs : List (Rule ℕ)) (d : Rule ℕ) (apart : numbered rs ≡ true) where
   answers : List ℕ
   answers = 0 ∷ map (λ (r : Rule ℕ). r .0) rs

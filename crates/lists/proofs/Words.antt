@@ -126,18 +126,18 @@ regroup a b c d = simp append-assoc
 -- ---- a counted list between other words
 module _ {A : Type 0} (n : ℕ) (z : A) (g : A → List ℕ) (m : ℕ) (wide : (x : A) → length (g x) ≡ m) (pre post : List ℕ) (b : ℕ) (at : length pre ≡ b) (xs : List A) where
   -- the words before element i, and those after it
-  unfoldable pub before : ℕ → List ℕ
-  before i = pre ++ (length xs ∷ flatMap g (take i (room n z xs)))
+  unfoldable pub front : ℕ → List ℕ
+  front i = pre ++ (length xs ∷ flatMap g (take i (room n z xs)))
 
-  unfoldable pub after : ℕ → List ℕ
-  after i = flatMap g (drop (suc i) (room n z xs)) ++ post
+  unfoldable pub rear : ℕ → List ℕ
+  rear i = flatMap g (drop (suc i) (room n z xs)) ++ post
 
   length-front : (c : ℕ) (ys : List A) → length (pre ++ (c ∷ flatMap g ys)) ≡ b + 1 + length ys * m
   length-front c ys = omega (arith, length-append pre (c ∷ flatMap g ys), length-flat g m wide ys)
 
-  pub length-before : (i : ℕ) → i ≤ n → length (before i) ≡ b + 1 + i * m
-  unfolding before
-  length-before i h =
+  pub length-front-of : (i : ℕ) → i ≤ n → length (front i) ≡ b + 1 + i * m
+  unfolding front
+  length-front-of i h =
       let e : length (take i (room n z xs)) ≡ i = omega (arith, length-take i (room n z xs), length-room n z xs) in
       length-front (length xs) (take i (room n z xs)) ∙ ap (λ (k : ℕ). b + 1 + k * m) e
 
@@ -145,8 +145,8 @@ module _ {A : Type 0} (n : ℕ) (z : A) (g : A → List ℕ) (m : ℕ) (wide : (
   unfolding counted
   count-at d = getD-at pre (length xs) (flatMap g (room n z xs) ++ post) d b at
 
-  pub element-at : (i : ℕ) (d : A) → i < length xs → length xs ≤ n → pre ++ (counted n z g xs ++ post) ≡ before i ++ (g (getD xs i d) ++ after i)
-  unfolding counted before after
+  pub element-at : (i : ℕ) (d : A) → i < length xs → length xs ≤ n → pre ++ (counted n z g xs ++ post) ≡ front i ++ (g (getD xs i d) ++ rear i)
+  unfolding counted front rear
   element-at i d h k =
       let p : List A = room n z xs in
       let e : flatMap g p ≡ flatMap g (take i p) ++ (g (getD xs i d) ++ flatMap g (drop (suc i) p)) =
@@ -188,13 +188,13 @@ module _ {A : Type 0} (n : ℕ) (z : A) (g : A → List ℕ) (m : ℕ) (wide : (
       ∙ fill-free x h
 
   pub cut-counted : (i : ℕ) → i < length xs → length xs ≤ n → g z ≡ replicate m 0 → set (closed (pre ++ (counted n z g xs ++ post)) (b + 1 + i * m) m (b + 1 + n * m)) b (length xs - 1) ≡ pre ++ (counted n z g (removeAt i xs) ++ post)
-  unfolding counted flatMap before after
+  unfolding counted flatMap front rear
   cut-counted i h k zeros =
       let p : List A = room n z xs in
       let s : List ℕ = flatMap g (drop (suc i) p) in
       let t : List ℕ = flatMap g (take i p) in
       let w : pre ++ (counted n z g xs ++ post) ≡ (pre ++ (length xs ∷ t)) ++ (g (getD xs i z) ++ (s ++ post)) = element-at i z h k in
-      let len : length (pre ++ (length xs ∷ t)) ≡ b + 1 + i * m = length-before i (omega arith) in
+      let len : length (pre ++ (length xs ∷ t)) ≡ b + 1 + i * m = length-front-of i (omega arith) in
       let all : b + 1 + i * m + m + length s ≡ b + 1 + n * m =
       omega (
         arith,

@@ -3,3 +3,6 @@ pub mod Addresses
 pub mod Regions
 pub mod Configuration
 pub mod Tables
+pub mod Requests
+pub mod Keeps
+pub mod Desk

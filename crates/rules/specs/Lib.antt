@@ -5,3 +5,5 @@ pub mod Regions
 pub mod Configuration
 pub mod Tables
 pub mod Changes
+pub mod Requests
+pub mod Desk

@@ -10,7 +10,7 @@ use Rattle.lists.specs.Room.{room}
 use Rattle.lists.specs.Words.{counted}
 use Rattle.lists.proofs.Places.{tab-list}
 use Rattle.lists.proofs.Room.{length-room, room-set}
-use Rattle.lists.proofs.Words.{flat-set, length-flat, length-counted, before, after, length-before, count-at, element-at}
+use Rattle.lists.proofs.Words.{flat-set, length-flat, length-counted, front, rear, length-front-of, count-at, element-at}
 use Rattle.rules.specs.Changes.{setAt, withSide, putSet}
 use Rattle.rules.specs.Limits.{mostZones, mostInSet}
 use Rattle.rules.specs.Regions.{noRegion}
@@ -114,11 +114,11 @@ module _ (m : List Zone) (in-limits : Within m) (z : ℕ) (h : z < length m) whe
       let q : length xs ≤ mostInSet = in-limits .sets z s h in
       let f : w ≡ pre m z s ++ (wordsOfSet xs ++ post m z s) = focus-same m z s h k in
       let count : getD w b 0 ≡ length xs = ap (λ (l : List ℕ). getD l b 0) f ∙ count-at mostInSet noRegion wordsOfRegion regionWords region-wide (pre m z s) (post m z s) b (pre-long m z s h k) xs 0 in
-      let a : ℕ → List ℕ = before mostInSet noRegion wordsOfRegion regionWords region-wide (pre m z s) (post m z s) b (pre-long m z s h k) xs in
-      let c : ℕ → List ℕ = after mostInSet noRegion wordsOfRegion regionWords region-wide (pre m z s) (post m z s) b (pre-long m z s h k) xs in
+      let a : ℕ → List ℕ = front mostInSet noRegion wordsOfRegion regionWords region-wide (pre m z s) (post m z s) b (pre-long m z s h k) xs in
+      let c : ℕ → List ℕ = rear mostInSet noRegion wordsOfRegion regionWords region-wide (pre m z s) (post m z s) b (pre-long m z s h k) xs in
       let each : (i : ℕ) → i < length xs → recordIn w z s i ≡ getD xs i noRegion = λ i t.
       ap (λ (l : List ℕ). regionAt l (recordBase b i)) (f ∙ element-at mostInSet noRegion wordsOfRegion regionWords region-wide (pre m z s) (post m z s) b (pre-long m z s h k) xs i noRegion t q)
-      ∙ region-read (a i) (c i) (getD xs i noRegion) (recordBase b i) (length-before mostInSet noRegion wordsOfRegion regionWords region-wide (pre m z s) (post m z s) b (pre-long m z s h k) xs i (omega arith)) in
+      ∙ region-read (a i) (c i) (getD xs i noRegion) (recordBase b i) (length-front-of mostInSet noRegion wordsOfRegion regionWords region-wide (pre m z s) (post m z s) b (pre-long m z s h k) xs i (omega arith)) in
       ap (λ (n : ℕ). tab n (recordIn w z s)) count ∙ tab-list (recordIn w z s) xs noRegion each
 
   id-read : getD (wordsOf m) (zoneBase z) 0 ≡ getD m z noZone .id

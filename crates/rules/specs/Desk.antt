@@ -1,0 +1,75 @@
+-- The desk examples that are to be proved.
+use Prim.Native.Nat.{ℕ}
+use mathlib.Core.Bool.{true}
+use mathlib.Core.List.{List, [], _∷_, map}
+use mathlib.Core.Path.{_≡_}
+use Rattle.lists.specs.Room.{room}
+use Rattle.rules.specs.Configuration.{configOf, check, StoredConfig}
+use Rattle.rules.specs.Limits.{mostRegions}
+use Rattle.rules.specs.Regions.{noRegion}
+use Rattle.rules.specs.Requests.{answers}
+use Rattle.rules.specs.Tables.{emptyZone, sound, Zone}
+use Rattle.rules.specs.declared.Checked.the-variants.{Sound}
+use Rattle.rules.specs.declared.Kind.the-variants.{AddZone, RemoveZone, Insert, Remove}
+use Rattle.rules.specs.declared.Region.{Region}
+use Rattle.rules.specs.declared.Request.{Request}
+use Rattle.rules.specs.declared.Side.{Side}
+use Rattle.rules.specs.declared.Side.the-variants.{Cpu, Iommu}
+
+-- a region by its three numbers
+abbrev pub regionOf : ℕ → ℕ → ℕ → Region
+regionOf v p n = record { v = record { 0 = v }; p = record { 0 = p }; size = n }
+
+abbrev pub A : Region
+A = regionOf 0x40000000 0x80000000 0x200000
+
+abbrev pub B : Region
+B = regionOf 0x40000000 0x80200000 0x200000
+
+abbrev pub C : Region
+C = regionOf 0x40100000 0x90000000 0x200000
+
+abbrev pub G : Region
+G = regionOf 0x08000000 0x08000000 0x10000
+
+-- the configuration, as it is stored; G is the GIC
+abbrev pub deskConfig : StoredConfig
+deskConfig = record { count = 4; gic = 3; records = room mostRegions noRegion (A ∷ B ∷ C ∷ G ∷ []) }
+
+-- zones 5 and 6 exist, empty
+abbrev pub deskZones : List Zone
+deskZones = emptyZone 5 ∷ emptyZone 6 ∷ []
+
+-- requests
+abbrev pub add : ℕ → Request
+add id = record { zone = id; kind = AddZone }
+
+abbrev pub drop : ℕ → Request
+drop id = record { zone = id; kind = RemoveZone }
+
+abbrev pub insert : Side → Region → ℕ → Request
+insert s r id = record { zone = id; kind = Insert s r }
+
+abbrev pub remove : Side → Region → ℕ → Request
+remove s r id = record { zone = id; kind = Remove s r }
+
+-- requests one after another from the desk's zones, and their numbers
+pub record Shown : Type 0 where
+  pub requests : List Request
+  pub numbers : List ℕ
+
+abbrev pub starred : List Shown
+starred =
+    record { requests = add 5 ∷ add 256 ∷ []; numbers = 5 ∷ 4 ∷ [] }
+    ∷ record { requests = insert Cpu A 5 ∷ insert Cpu A 5 ∷ insert Iommu A 5 ∷ insert Iommu A 6 ∷ []; numbers = 0 ∷ 13 ∷ 0 ∷ 14 ∷ [] }
+    ∷ record { requests = insert Cpu G 5 ∷ insert Iommu G 5 ∷ insert Iommu G 6 ∷ insert Iommu G 5 ∷ []; numbers = 12 ∷ 0 ∷ 0 ∷ 13 ∷ [] }
+    ∷ record { requests = insert Cpu A 5 ∷ insert Cpu C 5 ∷ []; numbers = 0 ∷ 15 ∷ [] }
+    ∷ record { requests = insert Iommu G 5 ∷ drop 5 ∷ remove Iommu G 5 ∷ drop 5 ∷ []; numbers = 0 ∷ 8 ∷ 0 ∷ 0 ∷ [] }
+    ∷ []
+
+-- the claim: the configuration passes its check, the zones are sound, and each example gives its numbers
+abbrev pub DeskShown : Type 0
+DeskShown =
+    (check deskConfig ≡ Sound)
+    × (sound (configOf deskConfig) deskZones ≡ true)
+    × (map (λ (s : Shown). answers (configOf deskConfig) deskZones (s .requests)) starred ≡ map (λ (s : Shown). s .numbers) starred)

@@ -119,6 +119,45 @@ module _ {A : Type 0} (p : A → Bool) where
       by true e = refl
       by false e = e
 
+-- some element passes one of two tests; a test that does not look at the element stands outside
+pub any-or : {A : Type 0} (p q : A → Bool) (xs : List A) → (any p xs || any q xs) ≡ any (λ (x : A). p x || q x) xs
+unfolding any
+any-or p q [] = refl
+any-or p q (x ∷ xs) = swap (p x) (any p xs) (q x) (any q xs) ∙ ap (λ (t : Bool). (p x || q x) || t) (any-or p q xs)
+  where
+    swap : (a b c d : Bool) → ((a || b) || (c || d)) ≡ ((a || c) || (b || d))
+    swap true b c d = refl
+    swap false true true d = refl
+    swap false true false d = refl
+    swap false false c d = refl
+
+pub any-and : {A : Type 0} (b : Bool) (p : A → Bool) (xs : List A) → any (λ (x : A). b && p x) xs ≡ (b && any p xs)
+unfolding any
+any-and true p xs = refl
+any-and false p [] = refl
+any-and false p (x ∷ xs) = any-and false p xs
+
+-- two tests that agree at every element that passes a third
+pub any-under : {A : Type 0} (c p q : A → Bool) → ((x : A) → c x ≡ true → p x ≡ q x) → (xs : List A) → all c xs ≡ true → any p xs ≡ any q xs
+unfolding any all
+any-under c p q f [] e = refl
+any-under c p q f (x ∷ xs) e =
+    let b = both-true (c x) (all c xs) e in
+    ap (λ (t : Bool). t || any p xs) (f x (b .0)) ∙ ap (λ (t : Bool). q x || t) (any-under c p q f xs (b .1))
+
+-- element k, or one of the others
+pub any-split : {A : Type 0} (p : A → Bool) (xs : List A) (k : ℕ) (d : A) → k < length xs → any p xs ≡ (p (getD xs k d) || any p (removeAt k xs))
+unfolding any removeAt
+any-split p [] k d h = absurd (omega arith)
+any-split p (x ∷ xs) zero d h = refl
+any-split p (x ∷ xs) (suc k) d h = ap (λ (t : Bool). p x || t) (any-split p xs k d (omega arith)) ∙ swap (p x) (p (getD xs k d)) (any p (removeAt k xs))
+  where
+    swap : (a b c : Bool) → (a || (b || c)) ≡ (b || (a || c))
+    swap true true c = refl
+    swap true false c = refl
+    swap false true c = refl
+    swap false false c = refl
+
 -- what follows at each element from two tests that every element passes
 pub all-from : {A : Type 0} (p q w : A → Bool) → ((x : A) → p x ≡ true → q x ≡ true → w x ≡ true) → (xs : List A) → all p xs ≡ true → all q xs ≡ true → all w xs ≡ true
 unfolding all

@@ -1,18 +1,39 @@
 -- A list in an array of n places, with one element more or one less; and a list with an element taken out.
 use Prim.Native.Nat.{ℕ, zero, suc, _+_, _-_, _≤_, _<_}
+use native.Mathlib.Decide.{decLt}
 use native.Mathlib.Omega.{arith}
+use mathlib.Core.Bool.{Bool, false, true≢false}
 use mathlib.Core.List.{List, [], _∷_, _++_, append-assoc}
 use mathlib.Core.Path.{_≡_, refl, sym, ap, ap₂, _∙_}
+use borrow.Author.Tests.{ltb-true, ltb-false}
+use lib.Dec.{ltb}
 use lib.ListN.{length, getD, take, drop, set, length-append, length-take, length-drop, length-set, replicate, length-replicate, getD-replicate, replicate-append-replicate, List·getD-append}
-use lib.Seq.{take-append-le, drop-append-le, take-append-add, set-append-left, getD-take, ext-getD, take-at}
+use lib.Seq.{take-append-le, drop-append-le, take-append-add, getD-append-add, set-append-left, getD-take, getD-drop, ext-getD, take-at}
+use Rattle.lists.specs.First.{firstIndex, firstFrom, any}
 use Rattle.lists.specs.Places.{tab}
 use Rattle.lists.specs.Room.{room, removeAt}
+use Rattle.lists.proofs.Every.{none-make, none-others, any-split}
+use Rattle.lists.proofs.First.{any-first, first-passes, before-fails, from-passes, between-fails, from-least}
 use Rattle.lists.proofs.Places.{length-tab, getD-tab}
+use Rattle.lists.proofs.Tests.{or-right, true-of, same-test}
 
 module _ {A : Type 0} where
   pub length-removed : (xs : List A) (i : ℕ) → i < length xs → length (removeAt i xs) ≡ length xs - 1
   unfolding removeAt
   length-removed xs i h = omega (arith, length-append (take i xs) (drop (suc i) xs), length-take i xs, length-drop (suc i) xs)
+
+  -- the elements that are left, before the gap and from it on
+  pub removed-low : (xs : List A) (k i : ℕ) (d : A) → k < length xs → i < k → getD (removeAt k xs) i d ≡ getD xs i d
+  unfolding removeAt
+  removed-low xs k i d h l = List·getD-append (take k xs) (drop (suc k) xs) d i (omega (arith, length-take k xs)) ∙ getD-take k xs i d l
+
+  pub removed-high : (xs : List A) (k i : ℕ) (d : A) → k < length xs → k ≤ i → getD (removeAt k xs) i d ≡ getD xs (i + 1) d
+  unfolding removeAt
+  removed-high xs k i d h l =
+      let len : length (take k xs) ≡ k = omega (arith, length-take k xs) in
+      let e : i ≡ length (take k xs) + (i - k) = omega arith in
+      let f : suc k + (i - k) ≡ i + 1 = omega arith in
+      ap (λ (j : ℕ). getD (take k xs ++ drop (suc k) xs) j d) e ∙ getD-append-add (take k xs) (drop (suc k) xs) (i - k) d ∙ getD-drop (suc k) xs (i - k) d ∙ ap (λ (j : ℕ). getD xs j d) f
 
   module _ (n : ℕ) (z : A) where
     pub length-room : (xs : List A) → length (room n z xs) ≡ n
@@ -87,3 +108,24 @@ module _ {A : Type 0} where
         ∙ ap (λ (l : List A). take i xs ++ l) (sym (append-assoc (drop (suc i) xs) rest (z ∷ [])))
         ∙ ap₂ (λ (x y : List A). x ++ (y ++ (z ∷ []))) (sym t) (sym d)
         ∙ ap (λ (l : List A). take i l ++ (drop (suc i) l ++ (z ∷ []))) (sym (room-rest xs b))
+
+-- ---- some element other than element k passes: by the first that does
+module _ {A : Type 0} (p : A → Bool) (xs : List A) (d : A) (k : ℕ) (h : k < length xs) where
+  pub others-first : (firstIndex p xs ≡ k → ⊥) → any p (removeAt k xs) ≡ ltb (firstIndex p xs) (length xs)
+  others-first ne =
+      same-test (any p (removeAt k xs)) (ltb (firstIndex p xs) (length xs))
+      (λ e. sym (any-first p xs) ∙ any-split p xs k d h ∙ or-right (p (getD xs k d)) (any p (removeAt k xs)) e)
+      (λ e. true-of _ (λ none. true≢false (sym (first-passes p xs d (ltb-true _ _ e)) ∙ none-others p xs k d none (firstIndex p xs) (ltb-true _ _ e) ne)))
+
+  pub others-later : firstIndex p xs ≡ k → any p (removeAt k xs) ≡ ltb (firstFrom p xs (k + 1)) (length xs)
+  others-later at =
+      same-test (any p (removeAt k xs)) (ltb (firstFrom p xs (k + 1)) (length xs))
+      (λ e. true-of _ (λ none. true≢false (sym e ∙ none-make p (removeAt k xs) d (λ i l. none-there none i l))))
+      (λ e. true-of _ (λ none. true≢false (sym (from-passes p xs d (k + 1) (ltb-true _ _ e)) ∙ none-others p xs k d none (firstFrom p xs (k + 1)) (ltb-true _ _ e) (λ q. let l : k + 1 ≤ firstFrom p xs (k + 1) = from-least p xs d (k + 1) in omega arith))))
+    where
+      none-there : ltb (firstFrom p xs (k + 1)) (length xs) ≡ false → (i : ℕ) → i < length (removeAt k xs) → p (getD (removeAt k xs) i d) ≡ false
+      none-there none i l =
+          let len : length (removeAt k xs) ≡ length xs - 1 = length-removed xs k h in
+          let past : length xs ≤ firstFrom p xs (k + 1) = ltb-false _ _ none in
+          elim (decLt i k) [ yes a ↦ ap p (removed-low xs k i d h a) ∙ before-fails p xs d i (omega arith) | no a ↦
+          ap p (removed-high xs k i d h (omega arith)) ∙ between-fails p xs d (k + 1) (i + 1) (omega arith) (omega arith) ]

@@ -22,7 +22,7 @@ use Rattle.rules.specs.Changes.{setAt, withSide, putSet, added, pushed, 
 use Rattle.rules.specs.Configuration.{gicOf, Configuration}
 use Rattle.rules.specs.Limits.{mostZones, highestId, mostInSet}
 use Rattle.rules.specs.Regions.{regionEq, physOverlap, guestOverlap, noRegion}
-use Rattle.rules.specs.Requests.{find, present, theSet, heldIn, onGic, forbidden, addRules, removeZoneRules, regionRules, setRules, insertRules, removeRules, kindRules, noRequest, requestRules, refusal, after, next}
+use Rattle.rules.specs.Requests.{find, present, heldIn, onGic, forbidden, addRules, removeZoneRules, regionRules, setRules, insertRules, removeRules, kindRules, noRequest, requestRules, refusal, after, next}
 use Rattle.rules.specs.Tables.{emptyZone, noZone, sideOf, hasId, regionsOf, configured, guestApart, offGic, clash, soundSet, soundZone, idsDiffer, zonesApart, sound, Zone}
 use Rattle.rules.specs.declared.Kind.{Kind}
 use Rattle.rules.specs.declared.Kind.the-variants.{AddZone, RemoveZone, Insert, Remove, NoRequest}
@@ -119,16 +119,16 @@ zone-cut c Cpu z m lt e = let h = parts _ e in whole _ (h .0, (set-cut c (z .cpu
 zone-cut c Iommu z m lt e = let h = parts _ e in whole _ (h .0, (h .1 .0, (set-cut c (z .iommu) m lt (h .1 .1 .0), (h .1 .1 .1 .0, tt))))
 
 -- ---- 14 does not apply: r clashes with no region of another zone
-others-clear : (c : Configuration) (id : ℕ) (s : Side) (r : Region) (t : List Zone) → forbidden c id s r t ≡ false → (j : ℕ) → j < length t → (j ≡ find id t → ⊥) → any (clash c r) (regionsOf (getD t j noZone)) ≡ false
+others-clear : (c : Configuration) (k : ℕ) (s : Side) (r : Region) (t : List Zone) → forbidden c k s r t ≡ false → (j : ℕ) → j < length t → (j ≡ k → ⊥) → any (clash c r) (regionsOf (getD t j noZone)) ≡ false
 unfolding forbidden
-others-clear c id Cpu r t e j h ne =
+others-clear c k Cpu r t e j h ne =
     let b = both-false _ _ e in
     let z : Zone = getD t j noZone in
     let in-cpu : any (physOverlap r) (z .cpu) ≡ false = none-at (λ (y : Zone). any (physOverlap r) (y .cpu)) t noZone (b .0) j h in
-    let in-iommu : any (physOverlap r) (z .iommu) ≡ false = none-others (λ (y : Zone). any (physOverlap r) (y .iommu)) t (find id t) noZone (b .1) j h ne in
+    let in-iommu : any (physOverlap r) (z .iommu) ≡ false = none-others (λ (y : Zone). any (physOverlap r) (y .iommu)) t k noZone (b .1) j h ne in
     let clear : any (physOverlap r) (regionsOf z) ≡ false = any-append (physOverlap r) (z .cpu) (z .iommu) ∙ false-both _ _ in-cpu in-iommu in
     none-make (clash c r) (regionsOf z) noRegion (λ i l. clear-clash c r _ (none-at (physOverlap r) (regionsOf z) noRegion clear i l))
-others-clear c id Iommu r t e j h ne = none-others (λ (y : Zone). any (clash c r) (regionsOf y)) t (find id t) noZone e j h ne
+others-clear c k Iommu r t e j h ne = none-others (λ (y : Zone). any (clash c r) (regionsOf y)) t k noZone e j h ne
 
 -- ---- another zone in the place of zone k, with its id
 module _ (c : Configuration) (t : List Zone) (k : ℕ) (kin : k < length t) (ok : SoundTable c t) (new : Zone) (same : new .id ≡ getD t k noZone .id) (fine : soundZone c new ≡ true)
@@ -142,42 +142,42 @@ module _ (c : Configuration) (t : List Zone) (k : ℕ) (kin : k < length t) (ok 
     disjoint = pairs-set (zonesApart c) t k new noZone (ok .disjoint) earlier later;
   }
 
-module _ (c : Configuration) (t : List Zone) (id : ℕ) (s : Side) (r : Region) (kin : find id t < length t) (ok : SoundTable c t) where
+module _ (c : Configuration) (t : List Zone) (k : ℕ) (s : Side) (r : Region) (kin : k < length t) (ok : SoundTable c t) where
   here : Zone
-  here = getD t (find id t) noZone
+  here = getD t k noZone
 
   here-sound : soundZone c here ≡ true
   unfolding here
-  here-sound = all-at (soundZone c) t noZone (ok .zones) (find id t) kin
+  here-sound = all-at (soundZone c) t noZone (ok .zones) k kin
 
   apart-at : (i j : ℕ) → i < j → j < length t → zonesApart c (getD t i noZone) (getD t j noZone) ≡ true
   apart-at = pairs-at (zonesApart c) t noZone (ok .disjoint)
 
   -- an accepted insert
-  pub insert-keeps : configured c r ≡ true → onGic c s r ≡ false → forbidden c id s r t ≡ false → any (guestOverlap r) (theSet id s t) ≡ false → leb mostInSet (length (theSet id s t)) ≡ false → SoundTable c (pushed (find id t) s r t)
-  unfolding pushed putSet setAt theSet zonesApart here
+  pub insert-keeps : configured c r ≡ true → onGic c s r ≡ false → forbidden c k s r t ≡ false → any (guestOverlap r) (setAt t k s) ≡ false → leb mostInSet (length (setAt t k s)) ≡ false → SoundTable c (pushed k s r t)
+  unfolding pushed putSet setAt zonesApart here
   insert-keeps conf gic forb guest room =
       let z : Zone = here in
       let new : Zone = withSide s (sideOf s z ++ r ∷ []) z in
-      replace-keeps c t (find id t) kin ok new (id-kept s (sideOf s z ++ r ∷ []) z) (zone-pushed c s z r here-sound conf gic guest room)
+      replace-keeps c t k kin ok new (id-kept s (sideOf s z ++ r ∷ []) z) (zone-pushed c s z r here-sound conf gic guest room)
       (λ j h q. all-from (λ (a : Region). not (any (clash c a) (regionsOf z))) (λ (a : Region). not (clash c r a)) (λ (a : Region). not (any (clash c a) (regionsOf new)))
       (λ a x y. none-all (clash c a) (regionsOf new) ∙ all-pushed (λ (b : Region). not (clash c a b)) s z r (sym (none-all (clash c a) (regionsOf z)) ∙ x) (ap not (clash-symmetric c a r) ∙ y))
-      (regionsOf (getD t j noZone)) (apart-at j (find id t) q kin) (sym (none-all (clash c r) (regionsOf (getD t j noZone))) ∙ ap not (others-clear c id s r t forb j h (omega arith))))
-      (λ j h q. all-pushed (λ (a : Region). not (any (clash c a) (regionsOf (getD t j noZone)))) s z r (apart-at (find id t) j q h) (ap not (others-clear c id s r t forb j h (omega arith))))
+      (regionsOf (getD t j noZone)) (apart-at j k q kin) (sym (none-all (clash c r) (regionsOf (getD t j noZone))) ∙ ap not (others-clear c k s r t forb j h (omega arith))))
+      (λ j h q. all-pushed (λ (a : Region). not (any (clash c a) (regionsOf (getD t j noZone)))) s z r (apart-at k j q h) (ap not (others-clear c k s r t forb j h (omega arith))))
 
   -- an accepted removal
-  pub remove-keeps : heldIn r (theSet id s t) ≡ true → SoundTable c (cut (find id t) s (firstIndex (regionEq r) (theSet id s t)) t)
-  unfolding cut putSet setAt theSet zonesApart here
+  pub remove-keeps : heldIn r (setAt t k s) ≡ true → SoundTable c (cut k s (firstIndex (regionEq r) (setAt t k s)) t)
+  unfolding cut putSet setAt zonesApart here
   remove-keeps there =
       let z : Zone = here in
       let m : ℕ = firstIndex (regionEq r) (sideOf s z) in
       let new : Zone = withSide s (removeAt m (sideOf s z)) z in
       let inside : m < length (sideOf s z) = ltb-true _ _ (sym (any-first (regionEq r) (sideOf s z)) ∙ there) in
-      replace-keeps c t (find id t) kin ok new (id-kept s (removeAt m (sideOf s z)) z) (zone-cut c s z m inside here-sound)
+      replace-keeps c t k kin ok new (id-kept s (removeAt m (sideOf s z)) z) (zone-cut c s z m inside here-sound)
       (λ j h q. let old : Region → Bool = λ a. not (any (clash c a) (regionsOf z)) in
       all-from old old (λ (a : Region). not (any (clash c a) (regionsOf new)))
-      (λ a x y. none-all (clash c a) (regionsOf new) ∙ all-cut (λ (b : Region). not (clash c a b)) s z m (sym (none-all (clash c a) (regionsOf z)) ∙ x)) (regionsOf (getD t j noZone)) (apart-at j (find id t) q kin) (apart-at j (find id t) q kin))
-      (λ j h q. all-cut (λ (a : Region). not (any (clash c a) (regionsOf (getD t j noZone)))) s z m (apart-at (find id t) j q h))
+      (λ a x y. none-all (clash c a) (regionsOf new) ∙ all-cut (λ (b : Region). not (clash c a b)) s z m (sym (none-all (clash c a) (regionsOf z)) ∙ x)) (regionsOf (getD t j noZone)) (apart-at j k q kin) (apart-at j k q kin))
+      (λ j h q. all-cut (λ (a : Region). not (any (clash c a) (regionsOf (getD t j noZone)))) s z m (apart-at k j q h))
 
 -- ---- zones come and go
 pub remove-zone-keeps : (c : Configuration) (t : List Zone) (k : ℕ) → k < length t → SoundTable c t → SoundTable c (dropped k t)
@@ -213,10 +213,10 @@ accepted-keeps c t RemoveZone id s e =
 accepted-keeps c t (Insert side r) id s e =
     let h = none-applies c (Insert side r) id t e in
     let w = h .1 .1 .1 .1 .1 in
-    insert-keeps c t id side r (found id t (not-false _ (h .1 .1 .0))) s (not-false _ (w .0)) (w .1 .0) (w .1 .1 .1 .0) (w .1 .1 .1 .1 .0) (w .1 .1 .1 .1 .1 .0)
+    insert-keeps c t (find id t) side r (found id t (not-false _ (h .1 .1 .0))) s (not-false _ (w .0)) (w .1 .0) (w .1 .1 .1 .0) (w .1 .1 .1 .1 .0) (w .1 .1 .1 .1 .1 .0)
 accepted-keeps c t (Remove side r) id s e =
     let h = none-applies c (Remove side r) id t e in
-    remove-keeps c t id side r (found id t (not-false _ (h .1 .1 .0))) s (not-false _ (h .1 .1 .1 .0))
+    remove-keeps c t (find id t) side r (found id t (not-false _ (h .1 .1 .0))) s (not-false _ (h .1 .1 .1 .0))
 accepted-keeps c t NoRequest id s e = s
 
 pub next-keeps : (c : Configuration) (t : List Zone) (q : Request) → SoundTable c t → SoundTable c (next c t q)

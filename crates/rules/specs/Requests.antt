@@ -32,52 +32,48 @@ present id t = any (hasId id) t
 abbrev pub others : ℕ → List Zone → List Zone
 others k t = removeAt k t
 
--- the set of a side of the zone with that id
-unfoldable pub theSet : ℕ → Side → List Zone → List Region
-theSet id s t = setAt t (find id t) s
-
 -- the set holds the region
 abbrev pub heldIn : Region → List Region → Bool
 heldIn r xs = any (regionEq r) xs
 
--- 8: either set of the zone holds a region
+-- 8: either set of the zone at k holds a region
 unfoldable pub holdsAny : ℕ → List Zone → Bool
-holdsAny id t = ltb 0 (length (theSet id Cpu t)) || ltb 0 (length (theSet id Iommu t))
+holdsAny k t = ltb 0 (length (setAt t k Cpu)) || ltb 0 (length (setAt t k Iommu))
 
 -- 12: a CPU region overlaps the GIC physically
 unfoldable pub onGic : Configuration → Side → Region → Bool
 onGic c Cpu r = physOverlap r (gicOf c)
 onGic c Iommu r = false
 
--- 14: a CPU region against all CPU sets and the other zones' IOMMU sets; an IOMMU region against the other zones' two sets, unless either
+-- 14, for the zone at k: a CPU region against all CPU sets and the other zones' IOMMU sets; an IOMMU region against the other zones' two sets, unless either
 -- region is the GIC
 unfoldable pub forbidden : Configuration → ℕ → Side → Region → List Zone → Bool
-forbidden c id Cpu r t = any (λ (z : Zone). any (physOverlap r) (z .cpu)) t || any (λ (z : Zone). any (physOverlap r) (z .iommu)) (others (find id t) t)
-forbidden c id Iommu r t = any (λ (z : Zone). any (clash c r) (regionsOf z)) (others (find id t) t)
+forbidden c k Cpu r t = any (λ (z : Zone). any (physOverlap r) (z .cpu)) t || any (λ (z : Zone). any (physOverlap r) (z .iommu)) (others k t)
+forbidden c k Iommu r t = any (λ (z : Zone). any (clash c r) (regionsOf z)) (others k t)
 
 -- ---- the numbers, in the document's order for each kind
 unfoldable pub addRules : ℕ → List Zone → List (Rule ℕ)
 addRules id t = 5 when present id t ∷ 7 when leb mostZones (length t) ∷ []
 
 unfoldable pub removeZoneRules : ℕ → List Zone → List (Rule ℕ)
-removeZoneRules id t = 6 when not (present id t) ∷ 8 when holdsAny id t ∷ []
+removeZoneRules id t = 6 when not (present id t) ∷ 8 when holdsAny (find id t) t ∷ []
 
 unfoldable pub regionRules : Configuration → Side → Region → List (Rule ℕ)
 regionRules c s r = 9 when not (wellFormed r) ∷ 10 when not (inReach r) ∷ 11 when not (configured c r) ∷ 12 when onGic c s r ∷ []
 
 unfoldable pub setRules : Configuration → ℕ → Side → Region → List Zone → List (Rule ℕ)
-setRules c id s r t =
-    13 when heldIn r (theSet id s t)
-    ∷ 14 when forbidden c id s r t
-    ∷ 15 when any (guestOverlap r) (theSet id s t)
-    ∷ 16 when leb mostInSet (length (theSet id s t))
+setRules c k s r t =
+    13 when heldIn r (setAt t k s)
+    ∷ 14 when forbidden c k s r t
+    ∷ 15 when any (guestOverlap r) (setAt t k s)
+    ∷ 16 when leb mostInSet (length (setAt t k s))
     ∷ []
 
 unfoldable pub insertRules : Configuration → ℕ → Side → Region → List Zone → List (Rule ℕ)
-insertRules c id s r t = 6 when not (present id t) ∷ (regionRules c s r ++ setRules c id s r t)
+insertRules c id s r t = 6 when not (present id t) ∷ (regionRules c s r ++ setRules c (find id t) s r t)
 
 unfoldable pub removeRules : ℕ → Side → Region → List Zone → List (Rule ℕ)
-removeRules id s r t = 6 when not (present id t) ∷ 17 when not (heldIn r (theSet id s t)) ∷ []
+removeRules id s r t = 6 when not (present id t) ∷ 17 when not (heldIn r (setAt t (find id t) s)) ∷ []
 
 unfoldable pub kindRules : Configuration → Kind → ℕ → List Zone → List (Rule ℕ)
 kindRules c AddZone id t = addRules id t
@@ -107,7 +103,7 @@ unfoldable pub after : Kind → ℕ → List Zone → List Zone
 after AddZone id t = added id t
 after RemoveZone id t = dropped (find id t) t
 after (Insert s r) id t = pushed (find id t) s r t
-after (Remove s r) id t = cut (find id t) s (firstIndex (regionEq r) (theSet id s t)) t
+after (Remove s r) id t = cut (find id t) s (firstIndex (regionEq r) (setAt t (find id t) s)) t
 after NoRequest id t = t
 
 -- the next table: a refusal returns the table that it was given

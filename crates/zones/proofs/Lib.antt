@@ -10,3 +10,5 @@ pub mod ConfigReaders
 pub mod Holding
 pub mod Checking
 pub mod Stored
+pub mod Forbidden
+pub mod Deciding

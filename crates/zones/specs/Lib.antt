@@ -6,3 +6,4 @@ pub mod View
 pub mod Words
 pub mod Packing
 pub mod Holding
+pub mod Decide

@@ -1,5 +1,6 @@
 // The configuration and the zone table as words of memory, and what is checked and done there.
 mod config;
+mod decide;
 mod layout;
 mod sound;
 mod table;

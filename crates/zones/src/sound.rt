@@ -231,7 +231,7 @@ fn held_once(t: &[u64; TABLE_WORDS], r: Region) -> bool
 }
 
 // The first zone from position z on that holds the region, or the count (or z, where that is past it).
-fn first_holder(t: &[u64; TABLE_WORDS], r: Region, z: usize) -> usize
+pub fn first_holder(t: &[u64; TABLE_WORDS], r: Region, z: usize) -> usize
     requires { ⌜ Within (zonesIn (now t)) × (z ≤ mostZones + 1) ⌝ }
     ensures { λ k. ⌜ (k ≡ firstFrom (holds r) (zonesIn (now (t .entry))) z) × (k ≤ max z mostZones) ⌝ }
 {

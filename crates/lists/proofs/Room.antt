@@ -127,5 +127,8 @@ module _ {A : Type 0} (p : A → Bool) (xs : List A) (d : A) (k : ℕ) (h : k < 
       none-there none i l =
           let len : length (removeAt k xs) ≡ length xs - 1 = length-removed xs k h in
           let past : length xs ≤ firstFrom p xs (k + 1) = ltb-false _ _ none in
-          elim (decLt i k) [ yes a ↦ ap p (removed-low xs k i d h a) ∙ before-fails p xs d i (omega arith) | no a ↦
-          ap p (removed-high xs k i d h (omega arith)) ∙ between-fails p xs d (k + 1) (i + 1) (omega arith) (omega arith) ]
+          elim (decLt i k) [
+            | yes a ↦ ap p (removed-low xs k i d h a) ∙ before-fails p xs d i (omega arith)
+            | no a ↦
+                ap p (removed-high xs k i d h (omega arith)) ∙ between-fails p xs d (k + 1) (i + 1) (omega arith) (omega arith)
+          ]

@@ -92,6 +92,19 @@ module _ {R : Type 0} where
   quiet ((a, true) ∷ rs) other z e = absurd (z .0 e)
   quiet ((a, false) ∷ rs) other z e = (refl, quiet rs other (z .1) e)
 
+  -- the answer where no rule applies matters only there
+  pub hit-whatever : (rs : List (Rule R)) (v a b : R) → v ≡ firstRule rs a → (v ≡ a → ⊥) → v ≡ firstRule rs b
+  unfolding firstRule
+  hit-whatever [] v a b e f = absurd (f e)
+  hit-whatever ((r, true) ∷ rs) v a b e f = e
+  hit-whatever ((r, false) ∷ rs) v a b e f = hit-whatever rs v a b e f
+
+  pub quiet-answer : (rs : List (Rule R)) (b : R) → Quiet rs → b ≡ firstRule rs b
+  unfolding firstRule
+  quiet-answer [] b q = refl
+  quiet-answer ((r, true) ∷ rs) b q = absurd (true≢false (q .0))
+  quiet-answer ((r, false) ∷ rs) b q = quiet-answer rs b (q .1)
+
   telling-append : (us vs : List (Rule R)) (other : R) → Telling us other → Telling vs other → Telling (us ++ vs) other
   telling-append [] vs other a b = b
   telling-append (u ∷ us) vs other a b = (a .0, telling-append us vs other (a .1) b)

@@ -41,11 +41,11 @@ abbrev pub deskZones : List Zone
 deskZones = emptyZone 5 ∷ emptyZone 6 ∷ []
 
 -- requests
-abbrev pub add : ℕ → Request
-add id = record { zone = id; kind = AddZone }
+abbrev pub addZone : ℕ → Request
+addZone id = record { zone = id; kind = AddZone }
 
-abbrev pub drop : ℕ → Request
-drop id = record { zone = id; kind = RemoveZone }
+abbrev pub dropZone : ℕ → Request
+dropZone id = record { zone = id; kind = RemoveZone }
 
 abbrev pub insert : Side → Region → ℕ → Request
 insert s r id = record { zone = id; kind = Insert s r }
@@ -60,11 +60,11 @@ pub record Shown : Type 0 where
 
 abbrev pub starred : List Shown
 starred =
-    record { requests = add 5 ∷ add 256 ∷ []; numbers = 5 ∷ 4 ∷ [] }
+    record { requests = addZone 5 ∷ addZone 256 ∷ []; numbers = 5 ∷ 4 ∷ [] }
     ∷ record { requests = insert Cpu A 5 ∷ insert Cpu A 5 ∷ insert Iommu A 5 ∷ insert Iommu A 6 ∷ []; numbers = 0 ∷ 13 ∷ 0 ∷ 14 ∷ [] }
     ∷ record { requests = insert Cpu G 5 ∷ insert Iommu G 5 ∷ insert Iommu G 6 ∷ insert Iommu G 5 ∷ []; numbers = 12 ∷ 0 ∷ 0 ∷ 13 ∷ [] }
     ∷ record { requests = insert Cpu A 5 ∷ insert Cpu C 5 ∷ []; numbers = 0 ∷ 15 ∷ [] }
-    ∷ record { requests = insert Iommu G 5 ∷ drop 5 ∷ remove Iommu G 5 ∷ drop 5 ∷ []; numbers = 0 ∷ 8 ∷ 0 ∷ 0 ∷ [] }
+    ∷ record { requests = insert Iommu G 5 ∷ dropZone 5 ∷ remove Iommu G 5 ∷ dropZone 5 ∷ []; numbers = 0 ∷ 8 ∷ 0 ∷ 0 ∷ [] }
     ∷ []
 
 -- the claim: the configuration passes its check, the zones are sound, and each example gives its numbers

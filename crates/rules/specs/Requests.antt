@@ -116,5 +116,8 @@ answers c t [] = []
 answers c t (q ∷ qs) = refusal c t q ∷ answers c (next c t q) qs
 
 -- ---- a request from outside: 1 and 2 come first
+unfoldable pub standingRules : StoredConfig → StoredTable → List (Rule ℕ)
+standingRules c t = 1 when not (isSound (check c)) ∷ 2 when not (checkTable c t) ∷ []
+
 unfoldable pub answer : StoredConfig → StoredTable → Request → ℕ
-answer c t q = firstRule (1 when not (isSound (check c)) ∷ 2 when not (checkTable c t) ∷ []) (refusal (configOf c) (tableOf t) q)
+answer c t q = firstRule (standingRules c t) (refusal (configOf c) (tableOf t) q)

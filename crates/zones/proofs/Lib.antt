@@ -12,3 +12,5 @@ pub mod Checking
 pub mod Stored
 pub mod Forbidden
 pub mod Deciding
+pub mod Committing
+pub mod Stepping

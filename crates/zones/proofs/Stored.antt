@@ -11,16 +11,20 @@ use lib.Seq.{ext-getD}
 use Rattle.lists.specs.First.{any, all}
 use Rattle.lists.specs.Places.{places, tab}
 use Rattle.lists.specs.Room.{room}
+use Rattle.lists.specs.Rules.{_when_, firstRule}
 use Rattle.lists.specs.Tests.{allOf}
 use Rattle.lists.specs.Words.{isZeroAt}
 use Rattle.lists.proofs.Every.{all-at, all-both, none-all, all-same, all-map}
 use Rattle.lists.proofs.Places.{getD-any, every-at, one-place, same-at, places-shift, places-add, every-block, length-tab, getD-tab, take-tab, drop-tab, all-tab}
 use Rattle.lists.proofs.Room.{length-room, room-tab, room-take}
+use Rattle.lists.proofs.Rules.{rule-hit, rule-skip, rule-none}
 use Rattle.lists.proofs.Tests.{false-of, Holds, parts, all-miss, all-pass, all-last}
+use Rattle.lists.proofs.Words.{front}
 use Rattle.rules.specs.Configuration.{configOf, check, isSound, Configuration, StoredConfig}
 use Rattle.rules.specs.Limits.{mostZones, mostInSet}
 use Rattle.rules.specs.Regions.{regionEq, noRegion, used}
-use Rattle.rules.specs.Tables.{noZone, sideOf, unusedZone, setOf, zoneOf, tableOf, restZero, zeroSet, tidyZone, zeroZone, tidy, soundSet, soundZone, sound, checkTable, StoredZone}
+use Rattle.rules.specs.Requests.{standingRules}
+use Rattle.rules.specs.Tables.{noZone, sideOf, unusedZone, setOf, zoneOf, tableOf, restZero, zeroSet, tidyZone, zeroZone, tidy, soundSet, soundZone, sound, checkTable, StoredZone, StoredTable}
 use Rattle.rules.specs.declared.Checked.{Checked}
 use Rattle.rules.specs.declared.Checked.the-variants.{Sound}
 use Rattle.rules.specs.declared.Region.{Region}
@@ -145,7 +149,7 @@ module _ (w : List ℕ) where
   used-zones l = take-tab mostZones (getD w 0 0) (storedZone w) (l .zones)
 
   -- the stored table is the one that readers find
-  pub table-same : Limited → tableOf (storedTable w) ≡ zonesIn w
+  table-same : Limited → tableOf (storedTable w) ≡ zonesIn w
   unfolding tableOf storedTable zonesIn
   table-same l =
       let n : ℕ = getD w 0 0 in
@@ -158,7 +162,7 @@ module _ (w : List ℕ) where
       ∙ ap zoneOf (getD-tab n (storedZone w) z unusedZone lt) ∙ zone-same w z (l .sets z lt) ∙ sym (getD-tab n (zoneIn w) z noZone lt))
 
   -- within limits, tidy is packed
-  pub tidy-is-packed : Limited → tidy (storedTable w) ≡ packed w
+  tidy-is-packed : Limited → tidy (storedTable w) ≡ packed w
   unfolding tidy storedTable packed allOf
   tidy-is-packed l =
       let n : ℕ = getD w 0 0 in
@@ -250,13 +254,47 @@ module _ (s : StoredConfig) (w : List ℕ) where
       true≢false (sym (p .1 .0) ∙ tidy-is-packed w (sound-limited w (configOf s) (p .1 .1 .0)) ∙ sym e ∙ not-true t f)))
 
   -- both are well: the answer is whether the table is sound
-  pub table-judged : (f : Checked) (t b : Bool) → f ≡ check s → f ≡ Sound → t ≡ packed w → not t ≡ false → b ≡ sound (configOf s) (zonesIn w) → b ≡ checkTable s (storedTable w)
+  pub table-judged : (t b : Bool) → check s ≡ Sound → t ≡ packed w → not t ≡ false → b ≡ sound (configOf s) (zonesIn w) → b ≡ checkTable s (storedTable w)
   unfolding checkTable
-  table-judged f t b e g q h j =
+  table-judged t b g q h j =
       let p : packed w ≡ true = sym q ∙ not-false t h in
       let l : Limited w = packed-limited w p in
-      all-pass b _ _ (ap isSound (sym e ∙ g) ∙ sound-is) (all-pass b _ _ (tidy-is-packed w l ∙ p) (all-last b _ (j ∙ ap (sound (configOf s)) (sym (table-same w l)))))
+      all-pass b _ _ (ap isSound g ∙ sound-is) (all-pass b _ _ (tidy-is-packed w l ∙ p) (all-last b _ (j ∙ ap (sound (configOf s)) (sym (table-same w l)))))
+
+  -- a table that passed is packed and sound
+  module _ (e : checkTable s (storedTable w) ≡ true) where
+    passed-limited : Limited w
+    unfolding checkTable
+    passed-limited = sound-limited w (configOf s) (parts _ e .1 .1 .0)
+
+    pub passed-packed : packed w ≡ true
+    unfolding checkTable
+    passed-packed = sym (tidy-is-packed w passed-limited) ∙ parts _ e .1 .0
+
+    pub passed-same : zonesIn w ≡ tableOf (storedTable w)
+    passed-same = sym (table-same w passed-limited)
+
+    pub passed-sound : sound (configOf s) (zonesIn w) ≡ true
+    unfolding checkTable
+    passed-sound = ap (sound (configOf s)) passed-same ∙ parts _ e .1 .1 .0
 
 -- what the private check asks
 pub packed-within : (w : List ℕ) (t : Bool) → t ≡ packed w → not t ≡ false → Within (zonesIn w)
 packed-within w t e f = within-limits w (packed-limited w (sym e ∙ not-false t f))
+
+-- ---- the number before any request
+module _ (c : StoredConfig) (t : StoredTable) where
+  pub config-first : (f : Checked) → f ≡ check c → (f ≡ Sound → ⊥) → 1 ≡ firstRule (standingRules c t) 0
+  unfolding standingRules
+  config-first f e bad = rule-hit _ _ _ _ _ (ap not (ap isSound (sym e) ∙ fault-unsound f bad)) refl
+
+  module _ (g : check c ≡ Sound) where
+    skip-config : (n : ℕ) → n ≡ firstRule (2 when not (checkTable c t) ∷ []) 0 → n ≡ firstRule (standingRules c t) 0
+    unfolding standingRules
+    skip-config n = rule-skip _ _ _ _ _ (ap not (ap isSound g ∙ sound-is))
+
+    pub table-second : (b : Bool) → b ≡ checkTable c t → not b ≡ true → 2 ≡ firstRule (standingRules c t) 0
+    table-second b e f = skip-config 2 (rule-hit _ _ _ _ _ (ap not (sym e) ∙ f) refl)
+
+    pub both-stand : (b : Bool) → b ≡ checkTable c t → not b ≡ false → 0 ≡ firstRule (standingRules c t) 0
+    both-stand b e f = skip-config 0 (rule-skip _ _ _ _ _ (ap not (sym e) ∙ f) (rule-none _ _ refl))

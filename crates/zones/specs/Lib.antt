@@ -7,3 +7,4 @@ pub mod Words
 pub mod Packing
 pub mod Holding
 pub mod Decide
+pub mod Step

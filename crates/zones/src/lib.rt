@@ -1,8 +1,10 @@
 // The configuration and the zone table as words of memory, and what is checked and done there.
+mod commit;
 mod config;
 mod decide;
 mod layout;
 mod sound;
+mod steps;
 mod table;
 mod words;
 
@@ -18,4 +20,6 @@ pub use layout::CONFIG_WORDS;
 pub use layout::REGION_WORDS;
 pub use layout::TABLE_WORDS;
 pub use sound::check_table;
+pub use steps::Answer;
+pub use steps::step;
 pub use table::Table;

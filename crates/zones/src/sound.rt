@@ -28,6 +28,8 @@ ghost use mathlib.Core.Path.{_≡_};
 ghost use lib.ListN.{length};
 ghost use Rattle.lists.specs.First.{firstFrom, all};
 ghost use Rattle.lists.specs.Pairs.{pairwise};
+ghost use Rattle.lists.specs.Rules.{firstRule};
+ghost use Rattle.rules.specs.Requests.{standingRules};
 ghost use Rattle.rules.specs.declared.Side.{Side};
 ghost use Rattle.rules.specs.Limits.{mostZones, mostInSet};
 ghost use Rattle.rules.specs.Tables.{configured, guestApart, offGic, soundSet, soundZone, idsDiffer, sound, checkTable};
@@ -52,13 +54,35 @@ pub fn is_sound(c: &[u64; CONFIG_WORDS], t: &[u64; TABLE_WORDS]) -> bool
     let Checked::Sound = found else {
         return false;
     };
+    table_sound(c, t)
+}
+
+// The number that comes before any request is looked at: 1 for the configuration, 2 for the table, or 0.
+pub fn standing(c: &[u64; CONFIG_WORDS], t: &[u64; TABLE_WORDS]) -> u32
+    ensures { λ n. ⌜ n ≡ firstRule (standingRules (storedConfig (now (c .entry))) (storedTable (now (t .entry)))) 0 ⌝ }
+{
+    let found = check_words(c);
+    let Checked::Sound = found else {
+        return 1;
+    };
+    if !table_sound(c, t) {
+        return 2;
+    }
+    0
+}
+
+// Whether the words are packed and their table is sound, under a sound configuration.
+fn table_sound(c: &[u64; CONFIG_WORDS], t: &[u64; TABLE_WORDS]) -> bool
+    requires { ⌜ ConfigPassed (now c) ⌝ }
+    ensures { λ b. ⌜ b ≡ checkTable (storedConfig (now (c .entry))) (storedTable (now (t .entry))) ⌝ }
+{
     if !is_packed(t) {
         return false;
     }
     zones_sound(c, t)
 }
 
-fn zones_sound(c: &[u64; CONFIG_WORDS], t: &[u64; TABLE_WORDS]) -> bool
+pub fn zones_sound(c: &[u64; CONFIG_WORDS], t: &[u64; TABLE_WORDS]) -> bool
     requires { ⌜ ConfigPassed (now c) × Within (zonesIn (now t)) ⌝ }
     ensures { λ b. ⌜ b ≡ sound (configIn (now (c .entry))) (zonesIn (now (t .entry))) ⌝ }
 {

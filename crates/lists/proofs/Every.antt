@@ -100,6 +100,13 @@ module _ {A : Type 0} (p : A → Bool) where
   none-others (x ∷ xs) (suc k) d e zero h ne = both-false (p x) (any p (removeAt k xs)) e .0
   none-others (x ∷ xs) (suc k) d e (suc j) h ne = none-others xs k d (both-false (p x) (any p (removeAt k xs)) e .1) j (omega arith) (λ q. ne (ap suc q))
 
+  pub none-others-make : (xs : List A) (k : ℕ) (d : A) → ((j : ℕ) → j < length xs → (j ≡ k → ⊥) → p (getD xs j d) ≡ false) → any p (removeAt k xs) ≡ false
+  unfolding any removeAt
+  none-others-make [] zero d f = refl
+  none-others-make [] (suc k) d f = refl
+  none-others-make (x ∷ xs) zero d f = none-make xs d (λ i h. f (suc i) (suc-le-suc h) (λ e. omega arith))
+  none-others-make (x ∷ xs) (suc k) d f = false-both (p x) (any p (removeAt k xs)) (f 0 (omega arith) (λ e. omega arith)) (none-others-make xs k d (λ j h ne. f (suc j) (suc-le-suc h) (λ e. ne (omega arith))))
+
   pub any-append : (xs ys : List A) → any p (xs ++ ys) ≡ (any p xs || any p ys)
   unfolding any
   any-append [] ys = refl

@@ -2,3 +2,5 @@
 pub mod Addresses
 pub mod Configuration
 pub mod Tables
+pub mod Requests
+pub mod Closure

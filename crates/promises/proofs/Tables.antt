@@ -2,7 +2,7 @@
 use Prim.Native.Nat.{ℕ, _<_}
 use native.Mathlib.Decide.{decLt}
 use native.Mathlib.Omega.{arith}
-use mathlib.Core.Bool.{Bool, true, false, not, _&&_, true≢false}
+use mathlib.Core.Bool.{Bool, true, false, not, true≢false}
 use mathlib.Core.List.{List}
 use mathlib.Core.Logic.{_⊎_, inl, inr}
 use mathlib.Core.Path.{_≡_, refl, sym, ap, subst, _∙_}
@@ -22,22 +22,22 @@ use Rattle.rules.specs.declared.Side.{Side}
 use Rattle.rules.specs.declared.Side.the-variants.{Cpu, Iommu}
 use Rattle.rules.proofs.Addresses.{overlap-shared, overlap-symmetric}
 use Rattle.rules.proofs.Configuration.{passed, SoundConfiguration}
+use Rattle.rules.proofs.Keeps.{clash-symmetric}
 use Rattle.rules.proofs.Regions.{equal-same, equal-refl}
 use Rattle.rules.proofs.Tables.{configured-at}
 use Rattle.promises.specs.Configuration.{at}
 use Rattle.promises.specs.Tables.{In, CoversPhys, NoAddressInTwoZones, NoCpuOnGic, InvZoneIds, InvZonesWf, InvRegionsInAllRegions, InvCpuDisjointFromGic, InvCrossZoneNonGicDisjoint, EmptyIsSound, SoundUnder}
 
 module _ (s : StoredConfig) (t : List Zone) (ok : SoundUnder s t) where
-  c : Configuration
+  abbrev c : Configuration
   c = configOf s
 
   config-ok : SoundConfiguration c
-  unfolding c
   config-ok = passed s (ok .config .0) (ok .config .1)
 
   -- the tests of a sound table, one by one
   zone-ok : (z : ℕ) → z < length t → soundZone c (getD t z noZone) ≡ true
-  unfolding sound c
+  unfolding sound
   zone-ok z h = all-at (soundZone (configOf s)) t noZone (parts _ (ok .table) .1 .0) z h
 
   side-ok : (z : ℕ) (side : Side) → z < length t → soundSet c (sideOf side (getD t z noZone)) ≡ true
@@ -62,30 +62,20 @@ module _ (s : StoredConfig) (t : List Zone) (ok : SoundUnder s t) where
   off-gic z r h m = not-true _ (among (offGic c) (getD t z noZone .cpu) r (parts _ (zone-ok z h) .1 .1 .1 .0) m)
 
   ids-apart : (y z : ℕ) → y < z → z < length t → getD t y noZone .id ≡ getD t z noZone .id → ⊥
-  unfolding sound c
+  unfolding sound
   ids-apart y z h l e = eqb-false _ _ (not-true _ (pairs-at idsDiffer t noZone (parts _ (ok .table) .1 .1 .0) y z h l)) e
 
   -- two zones, the earlier first
   no-clash : (y z : ℕ) → y < z → z < length t → (a b : Region) → In a (regionsOf (getD t y noZone)) → In b (regionsOf (getD t z noZone)) → clash c a b ≡ false
-  unfolding sound zonesApart c
+  unfolding sound zonesApart
   no-clash y z h l a b ma (j, lj, qj) =
       let apart = pairs-at (zonesApart (configOf s)) t noZone (parts _ (ok .table) .1 .1 .1 .0) y z h l in
       let none = not-true _ (among (λ (r : Region). not (any (clash (configOf s) r) (regionsOf (getD t z noZone)))) (regionsOf (getD t y noZone)) a apart ma) in
       ap (clash (configOf s) a) (sym qj) ∙ none-at (clash (configOf s) a) (regionsOf (getD t z noZone)) noRegion none j lj
 
-  clash-symmetric : (a b : Region) → clash c a b ≡ clash c b a
-  unfolding clash
-  clash-symmetric a b = ap (λ (o : Bool). not (regionEq a (gicOf c)) && (not (regionEq b (gicOf c)) && o)) (overlap-symmetric _ _ _ _) ∙ swap (not (regionEq a (gicOf c))) (not (regionEq b (gicOf c))) (physOverlap b a)
-    where
-      swap : (x y o : Bool) → (x && (y && o)) ≡ (y && (x && o))
-      swap true true o = refl
-      swap true false o = refl
-      swap false true o = refl
-      swap false false o = refl
-
-  never-clash : (y z : ℕ) → y < length t → z < length t → (y ≡ z → ⊥) → (a b : Region) → In a (regionsOf (getD t y noZone)) → In b (regionsOf (getD t z noZone)) → clash c a b ≡ false
+  pub never-clash : (y z : ℕ) → y < length t → z < length t → (y ≡ z → ⊥) → (a b : Region) → In a (regionsOf (getD t y noZone)) → In b (regionsOf (getD t z noZone)) → clash c a b ≡ false
   never-clash y z h l ne a b ma mb =
-      elim (decLt y z) [ yes q ↦ no-clash y z q l a b ma mb | no q ↦ clash-symmetric a b ∙ no-clash z y (omega arith) h b a mb ma ]
+      elim (decLt y z) [ yes q ↦ no-clash y z q l a b ma mb | no q ↦ clash-symmetric c a b ∙ no-clash z y (omega arith) h b a mb ma ]
 
   -- two regions that do not clash: one is the GIC, or they do not overlap
   no-clash-means : (a b : Region) → clash c a b ≡ false → (a ≡ gicOf c → ⊥) → (b ≡ gicOf c → ⊥) → physOverlap a b ≡ false
@@ -108,11 +98,9 @@ module _ (s : StoredConfig) (t : List Zone) (ok : SoundUnder s t) where
       by (inr q) (inr r) = absurd (true≢false (sym (overlap-shared (a .p .0) (a .size) (b .p .0) (b .size) .1 (x, (pa, pb))) ∙ no-clash-means a b e (differs a q) (differs b r)))
 
 pub no-address-in-two-zones : NoAddressInTwoZones
-unfolding c
 no-address-in-two-zones s t ok y z x h l ne (a, ma, pa) (b, mb, pb) = shared-by-gic s t ok a b x (never-clash s t ok y z h l ne a b ma mb) pa pb
 
 pub no-cpu-on-gic : NoCpuOnGic
-unfolding c
 no-cpu-on-gic s t ok z x h (r, m, p) g =
     true≢false (sym (overlap-shared (r .p .0) (r .size) (gicOf (configOf s) .p .0) (gicOf (configOf s) .size) .1 (x, (p, g))) ∙ off-gic s t ok z r h m)
 
@@ -125,7 +113,7 @@ inv-zone-ids s t ok y z h l e =
     ]
 
 pub inv-zones-wf : InvZonesWf
-unfolding c soundSet
+unfolding soundSet
 inv-zones-wf s t ok z side h = (
   (λ r m.
       let (i, l, q) = configured-at (configOf s) (config-ok s t ok) r (among s t ok (configured (configOf s)) (sideOf side (getD t z noZone)) r (side-configured s t ok z side h) m) in
@@ -140,17 +128,14 @@ inv-zones-wf s t ok z side h = (
 )
 
 pub inv-regions-in-all-regions : InvRegionsInAllRegions
-unfolding c
 inv-regions-in-all-regions s t ok z r h m =
     let (i, l, q) = configured-at (configOf s) (config-ok s t ok) r (among s t ok (configured (configOf s)) (regionsOf (getD t z noZone)) r (zone-configured s t ok z h) m) in
     (i, l, sym q)
 
 pub inv-cpu-disjoint-from-gic : InvCpuDisjointFromGic
-unfolding c
 inv-cpu-disjoint-from-gic s t ok z r h m = off-gic s t ok z r h m
 
 pub inv-cross-zone-non-gic-disjoint : InvCrossZoneNonGicDisjoint
-unfolding c
 inv-cross-zone-non-gic-disjoint s t ok y z a b h l ne ma mb na nb = no-clash-means s t ok a b (never-clash s t ok y z h l ne a b ma mb) na nb
 
 pub empty-is-sound : EmptyIsSound

@@ -60,7 +60,7 @@ clash-symmetric c a b = ap (λ (o : Bool). not (regionEq a (gicOf c)) && (not (r
     swap false true o = refl
     swap false false o = refl
 
-clear-clash : (c : Configuration) (a b : Region) → physOverlap a b ≡ false → clash c a b ≡ false
+pub clear-clash : (c : Configuration) (a b : Region) → physOverlap a b ≡ false → clash c a b ≡ false
 unfolding clash
 clear-clash c a b e = rw e (last (not (regionEq a (gicOf c))) (not (regionEq b (gicOf c))))
   where
@@ -90,7 +90,7 @@ unfolding withSide sideOf
 all-cut p Cpu z m e = all-append p (removeAt m (z .cpu)) (z .iommu) (all-removed p (z .cpu) m (all-left p (z .cpu) (z .iommu) e)) (all-right p (z .cpu) (z .iommu) e)
 all-cut p Iommu z m e = all-append p (z .cpu) (removeAt m (z .iommu)) (all-left p (z .cpu) (z .iommu) e) (all-removed p (z .iommu) m (all-right p (z .cpu) (z .iommu) e))
 
-id-kept : (s : Side) (xs : List Region) (z : Zone) → withSide s xs z .id ≡ z .id
+pub id-kept : (s : Side) (xs : List Region) (z : Zone) → withSide s xs z .id ≡ z .id
 unfolding withSide
 id-kept Cpu xs z = refl
 id-kept Iommu xs z = refl

@@ -6,3 +6,4 @@ pub mod Tables
 pub mod Requests
 pub mod Keeps
 pub mod Desk
+pub mod Closure

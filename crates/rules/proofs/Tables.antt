@@ -8,8 +8,9 @@ use borrow.Author.Tests.{ltb-true}
 use lib.ListN.{length, getD}
 use Rattle.lists.proofs.Every.{any-make, any-at}
 use Rattle.lists.proofs.Tests.{parts}
+use Rattle.rules.specs.Addresses.{overlaps}
 use Rattle.rules.specs.Configuration.{gicOf, Configuration}
-use Rattle.rules.specs.Regions.{wellFormed, regionEq, physOverlap, noRegion}
+use Rattle.rules.specs.Regions.{wellFormed, regionEq, physOverlap, guestOverlap, noRegion}
 use Rattle.rules.specs.Tables.{configured}
 use Rattle.rules.specs.declared.Region.{Region}
 use Rattle.rules.proofs.Addresses.{overlap-shared}
@@ -26,14 +27,19 @@ module _ (c : Configuration) (ok : SoundConfiguration c) where
   unfolding configured
   position-configured i h = any-make (regionEq (getD (c .regions) i noRegion)) (c .regions) noRegion i h (equal-refl (getD (c .regions) i noRegion))
 
-  -- it is not empty, so it overlaps itself
-  pub overlaps-itself : (r : Region) → configured c r ≡ true → physOverlap r r ≡ true
+  -- it is not empty, so it overlaps itself, in either kind of address
+  not-empty : (r : Region) → configured c r ≡ true → 0 < r .size
   unfolding wellFormed
-  overlaps-itself r e =
-      let (i, h, q) = configured-at r e in
-      let f : wellFormed r ≡ true = ap wellFormed q ∙ ok .formed i h in
-      let s : 0 < r .size = ltb-true _ _ (parts _ f .0) in
-      overlap-shared (r .p .0) (r .size) (r .p .0) (r .size) .1 (r .p .0, ((omega arith, omega arith), (omega arith, omega arith)))
+  not-empty r e = let (i, h, q) = configured-at r e in ltb-true _ _ (parts _ (ap wellFormed q ∙ ok .formed i h) .0)
+
+  self-overlap : (a : ℕ) (r : Region) → configured c r ≡ true → overlaps a (r .size) a (r .size) ≡ true
+  self-overlap a r e = let s : 0 < r .size = not-empty r e in overlap-shared a (r .size) a (r .size) .1 (a, ((omega arith, omega arith), (omega arith, omega arith)))
+
+  pub overlaps-itself : (r : Region) → configured c r ≡ true → physOverlap r r ≡ true
+  overlaps-itself r e = self-overlap (r .p .0) r e
+
+  pub guest-overlaps-itself : (r : Region) → configured c r ≡ true → guestOverlap r r ≡ true
+  guest-overlaps-itself r e = self-overlap (r .v .0) r e
 
   -- two that overlap are one
   pub overlap-same : (a b : Region) → configured c a ≡ true → configured c b ≡ true → physOverlap a b ≡ true → a ≡ b

@@ -7,3 +7,4 @@ pub mod Tables
 pub mod Changes
 pub mod Requests
 pub mod Desk
+pub mod Closure

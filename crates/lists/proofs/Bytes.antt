@@ -1,11 +1,14 @@
 -- Numbers as bytes: both round trips, stated over the width.
 use Prim.Native.Nat.{ℕ, zero, suc, _+_, _*_, _/_, _%_, _^_, _<_}
+use native.Mathlib.Decide.{decLt}
 use native.Mathlib.Omega.{arith}
 use mathlib.Core.List.{List, [], _∷_, _++_}
-use mathlib.Core.Path.{_≡_, refl, ap, ap₂, _∙_}
-use lib.ListN.{length, take, drop}
+use mathlib.Core.Path.{_≡_, refl, sym, ap, ap₂, _∙_}
+use lib.ListN.{length, getD, take, drop, List·getD-eq-default}
 use lib.Seq.{getD-drop}
 use Rattle.lists.specs.Bytes.{little, bytesOf, Bytes}
+use Rattle.lists.specs.Words.{part}
+use Rattle.lists.proofs.Words.{part-cons, part-none, part-past}
 
 -- (omega reads `256 ^ suc k`, and not `256 ^ length (x ∷ xs)`)
 one-more : (k : ℕ) → 256 ^ suc k ≡ 256 * 256 ^ k
@@ -55,3 +58,17 @@ pub little-append : (xs ys : List ℕ) → little (xs ++ ys) ≡ little xs + 256
 unfolding little
 little-append [] ys = omega arith
 little-append (x ∷ xs) ys = rw (one-more (length xs)) (omega (arith, little-append xs ys))
+
+-- the number that stands among bytes, its lowest byte first; past the end bytes count as 0
+pub little-part : (k n : ℕ) (b : List ℕ) → little (part k (suc n) b) ≡ getD b k 0 + 256 * little (part (k + 1) n b)
+unfolding little
+little-part k n b =
+    elim (decLt k (length b)) [
+      | yes h ↦ ap little (part-cons k n b 0 h)
+      | no h ↦
+          ap little (part-past k (suc n) b (omega arith)) ∙ sym (ap₂ (λ (x y : ℕ). x + 256 * y) (List·getD-eq-default b 0 (omega arith)) (ap little (part-past (k + 1) n b (omega arith))))
+    ]
+
+pub little-none : (k : ℕ) (b : List ℕ) → little (part k 0 b) ≡ 0
+unfolding little
+little-none k b = ap little (part-none k b)

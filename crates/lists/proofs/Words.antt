@@ -230,6 +230,14 @@ module _ {A : Type 0} where
   unfolding part
   part-none k l = refl
 
+  pub part-past : (k n : ℕ) (l : List A) → length l ≤ k → part k n l ≡ []
+  unfolding part
+  part-past k n l h = empty (take n (drop k l)) (omega (arith, length-take n (drop k l), length-drop k l))
+    where
+      empty : (xs : List A) → length xs ≤ 0 → xs ≡ []
+      empty [] h = refl
+      empty (x ∷ xs) h = absurd (omega arith)
+
   pub part-all : (n : ℕ) (l : List A) → length l ≡ n → part 0 n l ≡ l
   unfolding part
   part-all n l e = take-all n l (omega arith)

@@ -1,0 +1,2 @@
+-- Laws for the readers' proofs.
+pub mod Numbers

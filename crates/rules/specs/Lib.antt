@@ -6,5 +6,6 @@ pub mod Configuration
 pub mod Tables
 pub mod Changes
 pub mod Requests
+pub mod Run
 pub mod Desk
 pub mod Closure

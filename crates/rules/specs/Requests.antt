@@ -119,5 +119,9 @@ answers c t (q ∷ qs) = refusal c t q ∷ answers c (next c t q) qs
 unfoldable pub standingRules : StoredConfig → StoredTable → List (Rule ℕ)
 standingRules c t = 1 when not (isSound (check c)) ∷ 2 when not (checkTable c t) ∷ []
 
+-- the number before any request is looked at, or 0
+abbrev pub standing : StoredConfig → StoredTable → ℕ
+standing c t = firstRule (standingRules c t) 0
+
 unfoldable pub answer : StoredConfig → StoredTable → Request → ℕ
 answer c t q = firstRule (standingRules c t) (refusal (configOf c) (tableOf t) q)

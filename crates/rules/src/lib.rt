@@ -45,3 +45,10 @@ pub struct Request {
     pub zone: u32,
     pub kind: Kind,
 }
+
+// What a run of requests answers: a number, the place that it speaks of, and the number of the request that was refused, or 0.
+pub struct Outcome {
+    pub number: u32,
+    pub place: usize,
+    pub inner: u32,
+}

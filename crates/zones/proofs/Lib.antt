@@ -14,3 +14,4 @@ pub mod Forbidden
 pub mod Deciding
 pub mod Committing
 pub mod Stepping
+pub mod Running

@@ -19,7 +19,7 @@ use Rattle.rules.specs.Changes.{setAt}
 use Rattle.rules.specs.Configuration.{check, Configuration}
 use Rattle.rules.specs.Limits.{highestId, mostInSet}
 use Rattle.rules.specs.Regions.{regionEq}
-use Rattle.rules.specs.Requests.{find, present, addRules, removeZoneRules, regionRules, setRules, insertRules, removeRules, kindRules, noRequest, requestRules, refusal, after, next, standingRules, answer}
+use Rattle.rules.specs.Requests.{find, present, addRules, removeZoneRules, regionRules, setRules, insertRules, removeRules, kindRules, noRequest, requestRules, refusal, after, next, standingRules, standing, answer}
 use Rattle.rules.specs.Tables.{noZone, sideOf, hasId, tableOf, offGic, soundSet, soundZone, sound, checkTable, Zone}
 use Rattle.rules.specs.declared.Checked.the-variants.{Sound}
 use Rattle.rules.specs.declared.Kind.{Kind}
@@ -124,17 +124,14 @@ sound-within c t e = record { zones = leb-true _ _ (parts _ e .0); sets = λ z s
 
 -- ---- one request from outside
 module _ (c t : List ℕ) where
-  abbrev pub stands : ℕ
-  stands = firstRule (standingRules (storedConfig c) (storedTable t)) 0
-
   -- a number before any request: the words stay
-  pub before-any : (q : Request) (n : ℕ) → n ≡ stands → (n ≡ 0 → ⊥) → Stepped c t q n t
+  pub before-any : (q : Request) (n : ℕ) → n ≡ standing (storedConfig c) (storedTable t) → (n ≡ 0 → ⊥) → Stepped c t q n t
   unfolding answer afterwards
   before-any q n e ne =
       let k : n ≡ answer (storedConfig c) (storedTable t) q = hit-whatever (standingRules (storedConfig c) (storedTable t)) n 0 (refusal (configIn c) (tableOf (storedTable t)) q) e ne in
       record { number = k; table = sym (ap (λ (b : Bool). cond b (wordsOf (after (q .kind) (q .zone) (tableOf (storedTable t)))) t) (ne-eqb _ 0 (λ z. ne (k ∙ z)))) }
 
-  module _ (n : ℕ) (e : n ≡ stands) (z : n ≡ 0) where
+  module _ (n : ℕ) (e : n ≡ standing (storedConfig c) (storedTable t)) (z : n ≡ 0) where
     none : Quiet (standingRules (storedConfig c) (storedTable t))
     unfolding standingRules aboveZero all
     none = quiet (standingRules (storedConfig c) (storedTable t)) 0 (numbers-tell (standingRules (storedConfig c) (storedTable t)) refl) (sym e ∙ z)
@@ -143,13 +140,16 @@ module _ (c t : List ℕ) where
     unfolding standingRules
     both = (sound-answer _ (not-false _ (none .0)), not-false _ (none .1 .0))
 
+    pub stands-same : zonesIn t ≡ tableOf (storedTable t)
+    stands-same = passed-same (storedConfig c) t (both .1)
+
     module _ (l : length t ≡ tableWords) where
       pub stands-ready : Ready c t
       stands-ready = record { config = both .0; words = packed-words t l (passed-packed (storedConfig c) t (both .1)); table = passed-sound (storedConfig c) t (both .1) }
 
       number-same : (q : Request) → refusal (configIn c) (zonesIn t) q ≡ answer (storedConfig c) (storedTable t) q
       unfolding answer
-      number-same q = ap (λ (x : List Zone). refusal (configIn c) x q) (passed-same (storedConfig c) t (both .1)) ∙ quiet-answer (standingRules (storedConfig c) (storedTable t)) (refusal (configIn c) (tableOf (storedTable t)) q) none
+      number-same q = ap (λ (x : List Zone). refusal (configIn c) x q) stands-same ∙ quiet-answer (standingRules (storedConfig c) (storedTable t)) (refusal (configIn c) (tableOf (storedTable t)) q) none
 
       pub request-done : (q : Request) (m : ℕ) (u : List ℕ) → m ≡ refusal (configIn c) (zonesIn t) q → u ≡ wordsOf (next (configIn c) (zonesIn t) q) → Stepped c t q m u
       unfolding afterwards next
@@ -157,7 +157,7 @@ module _ (c t : List ℕ) where
         number = k ∙ number-same q;
         table =
             y ∙ by (eqb (refusal (configIn c) (zonesIn t) q) 0) (after (q .kind) (q .zone) (zonesIn t)) (zonesIn t)
-            ∙ (λ i. cond (eqb (number-same q i) 0) (wordsOf (after (q .kind) (q .zone) (passed-same (storedConfig c) t (both .1) i))) (sym (stands-ready .words .words) i));
+            ∙ (λ i. cond (eqb (number-same q i) 0) (wordsOf (after (q .kind) (q .zone) (stands-same i))) (sym (stands-ready .words .words) i));
       }
         where
           by : (x : Bool) (a d : List Zone) → wordsOf (cond x a d) ≡ cond x (wordsOf a) (wordsOf d)

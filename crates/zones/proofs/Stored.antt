@@ -23,7 +23,7 @@ use Rattle.lists.proofs.Words.{front}
 use Rattle.rules.specs.Configuration.{configOf, check, isSound, Configuration, StoredConfig}
 use Rattle.rules.specs.Limits.{mostZones, mostInSet}
 use Rattle.rules.specs.Regions.{regionEq, noRegion, used}
-use Rattle.rules.specs.Requests.{standingRules}
+use Rattle.rules.specs.Requests.{standingRules, standing}
 use Rattle.rules.specs.Tables.{noZone, sideOf, unusedZone, setOf, zoneOf, tableOf, restZero, zeroSet, tidyZone, zeroZone, tidy, soundSet, soundZone, sound, checkTable, StoredZone, StoredTable}
 use Rattle.rules.specs.declared.Checked.{Checked}
 use Rattle.rules.specs.declared.Checked.the-variants.{Sound}
@@ -284,17 +284,17 @@ packed-within w t e f = within-limits w (packed-limited w (sym e ∙ not-false t
 
 -- ---- the number before any request
 module _ (c : StoredConfig) (t : StoredTable) where
-  pub config-first : (f : Checked) → f ≡ check c → (f ≡ Sound → ⊥) → 1 ≡ firstRule (standingRules c t) 0
+  pub config-first : (f : Checked) → f ≡ check c → (f ≡ Sound → ⊥) → 1 ≡ standing c t
   unfolding standingRules
   config-first f e bad = rule-hit _ _ _ _ _ (ap not (ap isSound (sym e) ∙ fault-unsound f bad)) refl
 
   module _ (g : check c ≡ Sound) where
-    skip-config : (n : ℕ) → n ≡ firstRule (2 when not (checkTable c t) ∷ []) 0 → n ≡ firstRule (standingRules c t) 0
+    skip-config : (n : ℕ) → n ≡ firstRule (2 when not (checkTable c t) ∷ []) 0 → n ≡ standing c t
     unfolding standingRules
     skip-config n = rule-skip _ _ _ _ _ (ap not (ap isSound g ∙ sound-is))
 
-    pub table-second : (b : Bool) → b ≡ checkTable c t → not b ≡ true → 2 ≡ firstRule (standingRules c t) 0
+    pub table-second : (b : Bool) → b ≡ checkTable c t → not b ≡ true → 2 ≡ standing c t
     table-second b e f = skip-config 2 (rule-hit _ _ _ _ _ (ap not (sym e) ∙ f) refl)
 
-    pub both-stand : (b : Bool) → b ≡ checkTable c t → not b ≡ false → 0 ≡ firstRule (standingRules c t) 0
+    pub both-stand : (b : Bool) → b ≡ checkTable c t → not b ≡ false → 0 ≡ standing c t
     both-stand b e f = skip-config 0 (rule-skip _ _ _ _ _ (ap not (sym e) ∙ f) (rule-none _ _ refl))

@@ -8,3 +8,4 @@ pub mod Packing
 pub mod Holding
 pub mod Decide
 pub mod Step
+pub mod Run

@@ -28,8 +28,7 @@ ghost use mathlib.Core.Path.{_≡_};
 ghost use lib.ListN.{length};
 ghost use Rattle.lists.specs.First.{firstFrom, all};
 ghost use Rattle.lists.specs.Pairs.{pairwise};
-ghost use Rattle.lists.specs.Rules.{firstRule};
-ghost use Rattle.rules.specs.Requests.{standingRules};
+ghost use Rattle.rules.specs.Requests.{standing};
 ghost use Rattle.rules.specs.declared.Side.{Side};
 ghost use Rattle.rules.specs.Limits.{mostZones, mostInSet};
 ghost use Rattle.rules.specs.Tables.{configured, guestApart, offGic, soundSet, soundZone, idsDiffer, sound, checkTable};
@@ -59,7 +58,7 @@ pub fn is_sound(c: &[u64; CONFIG_WORDS], t: &[u64; TABLE_WORDS]) -> bool
 
 // The number that comes before any request is looked at: 1 for the configuration, 2 for the table, or 0.
 pub fn standing(c: &[u64; CONFIG_WORDS], t: &[u64; TABLE_WORDS]) -> u32
-    ensures { λ n. ⌜ n ≡ firstRule (standingRules (storedConfig (now (c .entry))) (storedTable (now (t .entry)))) 0 ⌝ }
+    ensures { λ n. ⌜ n ≡ standing (storedConfig (now (c .entry))) (storedTable (now (t .entry))) ⌝ }
 {
     let found = check_words(c);
     let Checked::Sound = found else {

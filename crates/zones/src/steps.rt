@@ -47,7 +47,7 @@ pub fn step_in(c: &[u64; CONFIG_WORDS], t: &mut [u64; TABLE_WORDS], q: Request) 
 }
 
 // The number of lent words: an array that is lent as a slice tells its length.
-fn count_words(s: &[u64]) -> usize
+pub fn count_words(s: &[u64]) -> usize
     ensures { λ n. ⌜ n ≡ length (now (s .entry)) ⌝ }
 {
     s.len()

@@ -1,0 +1,136 @@
+// A run of requests from lent bytes, up to the first that is refused.
+use crate::layout::CONFIG_WORDS;
+use crate::layout::TABLE_WORDS;
+use crate::sound::standing;
+use crate::steps::count_words;
+use crate::steps::step_ready;
+use crate::words::is_used;
+use fields::u32_at;
+use fields::u64_at;
+use rules::Guest;
+use rules::Kind;
+use rules::Outcome;
+use rules::Phys;
+use rules::Region;
+use rules::Request;
+use rules::Side;
+ghost use Prim.Native.Nat.{_*_, _/_, _<_};
+ghost use mathlib.Core.Path.{_≡_};
+ghost use lib.ListN.{length};
+ghost use Rattle.rules.specs.Run.{bare, makeKind, makeRequest, requestBytes, requestFrom, requestsIn, run, ended};
+ghost use Rattle.zones.specs.Decide.{Ready};
+ghost use Rattle.zones.specs.Run.{RanIn};
+ghost use Rattle.zones.specs.View.{configIn, zonesIn};
+ghost use Rattle.zones.specs.Words.{wordsOf};
+
+// A request as bytes: kind and zone id in 4 each; v, p and size in 8 each.
+pub const REQUEST_BYTES: usize = 32;
+
+// The number 27: a request was refused.
+const REQUEST_REFUSED: u32 = 27;
+
+// The requests that the bytes hold, one after another at the lent table. The first refused one ends the run and leaves the table
+// as the earlier ones made it. Bytes after the last whole request are not looked at.
+pub fn run_in(c: &[u64; CONFIG_WORDS], t: &mut [u64; TABLE_WORDS], requests: &[u8]) -> Outcome
+    ensures { λ r. ⌜ RanIn (now (c .entry)) (now (t .entry)) (now (requests .entry)) r (now (t .exit)) ⌝ }
+{
+    let n = standing(c, t);
+    if n != 0 {
+        return Outcome {
+            number: n,
+            place: 0,
+            inner: 0,
+        };
+    }
+    let width = count_words(t);
+    run_ready(c, t, requests)
+}
+
+// The same at a sound table: its soundness is carried from request to request and not looked for again.
+fn run_ready(c: &[u64; CONFIG_WORDS], t: &mut [u64; TABLE_WORDS], requests: &[u8]) -> Outcome
+    requires { ⌜ Ready (now c) (now t) ⌝ }
+    ensures { λ r. ⌜ (r ≡ ended (run (configIn (now (c .entry))) (zonesIn (now (t .entry))) (requestsIn (now (requests .entry))))) × (now (t .exit) ≡ wordsOf (run (configIn (now (c .entry))) (zonesIn (now (t .entry))) (requestsIn (now (requests .entry))) .table)) ⌝ }
+{
+    let n = requests.len() / REQUEST_BYTES;
+    let mut i = 0;
+    while i < n {
+        let q = request_at(requests, i);
+        let refused = step_ready(c, t, q);
+        if refused != 0 {
+            return Outcome {
+                number: REQUEST_REFUSED,
+                place: i,
+                inner: refused,
+            };
+        }
+        i += 1;
+    }
+    Outcome {
+        number: 0,
+        place: n,
+        inner: 0,
+    }
+}
+
+// Request i of those that are wholly there.
+fn request_at(s: &[u8], i: usize) -> Request
+    requires { ⌜ i < length (now s) / requestBytes ⌝ }
+    ensures { λ q. ⌜ q ≡ requestFrom (now (s .entry)) (i * requestBytes) ⌝ }
+{
+    let at = i * REQUEST_BYTES;
+    let kind = u32_at(s, at);
+    let zone = u32_at(s, at + 4);
+    let v = u64_at(s, at + 8);
+    let p = u64_at(s, at + 16);
+    let size = u64_at(s, at + 24);
+    let region = Region {
+        v: Guest(v),
+        p: Phys(p),
+        size,
+    };
+    make_request(kind, zone, region)
+}
+
+// The request with these numbers, or the one that is refused where they make none.
+pub fn make_request(kind: u32, zone: u32, r: Region) -> Request
+    ensures { λ q. ⌜ q ≡ makeRequest kind zone r ⌝ }
+{
+    Request {
+        zone,
+        kind: make_kind(kind, r),
+    }
+}
+
+fn make_kind(n: u32, r: Region) -> Kind
+    ensures { λ k. ⌜ k ≡ makeKind n r ⌝ }
+{
+    if n == 1 {
+        return bare(Kind::AddZone, r);
+    }
+    if n == 2 {
+        return bare(Kind::RemoveZone, r);
+    }
+    if n == 3 {
+        return Kind::Insert(Side::Cpu, r);
+    }
+    if n == 4 {
+        return Kind::Remove(Side::Cpu, r);
+    }
+    if n == 5 {
+        return Kind::Insert(Side::Iommu, r);
+    }
+    if n == 6 {
+        return Kind::Remove(Side::Iommu, r);
+    }
+    Kind::NoRequest
+}
+
+// A kind that takes no region: with a nonzero one it is no request.
+fn bare(kind: Kind, r: Region) -> Kind
+    ensures { λ k. ⌜ k ≡ bare kind r ⌝ }
+{
+    if is_used(r) {
+        return Kind::NoRequest;
+    }
+    kind
+}

@@ -1,4 +1,9 @@
 // The desk examples on regions, and each way in which two of them can lie.
+use crate::given::a;
+use crate::given::b;
+use crate::given::c;
+use crate::given::gic;
+use crate::given::made;
 use crate::report::say;
 use crate::report::text;
 use region::guest_overlap;
@@ -6,8 +11,6 @@ use region::in_reach;
 use region::phys_overlap;
 use region::region_eq;
 use region::well_formed;
-use rules::Guest;
-use rules::Phys;
 use rules::Region;
 
 // 2^48, where reach ends, and the last page of 64-bit addresses.
@@ -19,30 +22,6 @@ const LAST_PAGE: u64 = 0xffff_ffff_ffff_f000;
 const MID: u64 = 0x8000_0000;
 
 const LOW: u64 = 0x7fff_c000;
-
-fn made(v: u64, p: u64, size: u64) -> Region {
-    Region {
-        v: Guest(v),
-        p: Phys(p),
-        size,
-    }
-}
-
-fn a() -> Region {
-    made(0x4000_0000, 0x8000_0000, 0x20_0000)
-}
-
-fn b() -> Region {
-    made(0x4000_0000, 0x8020_0000, 0x20_0000)
-}
-
-fn c() -> Region {
-    made(0x4010_0000, 0x9000_0000, 0x20_0000)
-}
-
-fn gic() -> Region {
-    made(0x0800_0000, 0x0800_0000, 0x1_0000)
-}
 
 pub fn forms() {
     say(b"A is well formed", well_formed(a()));

@@ -1,0 +1,49 @@
+"""The commands that the program `vectors` reads (crates/vectors/src/commands.rt has the list), and the lines that it must print."""
+
+import struct
+from collections import Counter
+
+from reference import check_config, table_faults
+from words import CONFIG_WORDS, TABLE_WORDS, Words, config_of, table_of
+
+
+def set_commands(command: bytes, old: Words, new: Words) -> bytes:
+    changed = (k for k in range(len(new)) if old[k] != new[k])
+    return b"".join(command + struct.pack("<HQ", k, new[k]) for k in changed)
+
+
+class Stream:
+    def __init__(self):
+        self.commands = b""
+        self.lines = ""
+        self.config = [0] * CONFIG_WORDS
+        self.table = [0] * TABLE_WORDS
+        self.answers = Counter()
+
+    def ask_config(self, label: str, config: Words):
+        self._change_to(config, self.table)
+        found = check_config(config_of(config))
+        self._ask(label, b"C", "%d %d %d" % found)
+        self.answers["configuration: %d" % found.number] += 1
+
+    def ask_table(self, label: str, config: Words, table: Words):
+        self._change_to(config, table)
+        faults = list(table_faults(config_of(config), table_of(table)))
+        self._ask(label, b"T", "no" if faults else "yes")
+        self.answers["table: " + (" and ".join(faults) or "sound")] += 1
+
+    def set_past_the_end(self, command: bytes, index: int):
+        """A word that is not there: it is set to a number that would show."""
+        self.commands += command + struct.pack("<HQ", index, 1)
+
+    def _change_to(self, config: Words, table: Words):
+        """Changes the words that differ, or starts again from zero where that is shorter."""
+        change = set_commands(b"c", self.config, config) + set_commands(b"t", self.table, table)
+        anew = b"Z" + set_commands(b"c", [0] * CONFIG_WORDS, config) + set_commands(b"t", [0] * TABLE_WORDS, table)
+        self.commands += min(change, anew, key=len)
+        self.config = config
+        self.table = table
+
+    def _ask(self, label: str, command: bytes, answer: str):
+        self.commands += b"L" + struct.pack("<B", len(label)) + label.encode("ascii") + command
+        self.lines += label + ": " + answer + "\n"

@@ -2,7 +2,6 @@
 use rules::Guest;
 use rules::Phys;
 use rules::Region;
-use rules::limits::MOST_IN_SET;
 use zones::CONFIG_COUNT;
 use zones::CONFIG_GIC;
 use zones::CONFIG_RECORDS;
@@ -11,6 +10,7 @@ use zones::Config;
 use zones::REGION_WORDS;
 use zones::TABLE_WORDS;
 use zones::Table;
+use zones::ZONE_WORDS;
 ghost use Prim.Native.Nat.{_<_};
 ghost use Rattle.rules.specs.Limits.{mostRegions};
 
@@ -94,10 +94,6 @@ pub fn wider_config() -> Config {
 }
 
 // ---- tables
-
-pub const SET_WORDS: usize = 1 + MOST_IN_SET * REGION_WORDS;
-
-pub const ZONE_WORDS: usize = 1 + 2 * SET_WORDS;
 
 pub fn no_zones() -> Table {
     let words = [0u64; TABLE_WORDS];

@@ -1,11 +1,11 @@
 // What the program writes.
-use crate::given::SET_WORDS;
-use crate::given::ZONE_WORDS;
 use rules::limits::MOST_IN_SET;
 use rules::limits::MOST_ZONES;
 use zones::REGION_WORDS;
+use zones::SET_WORDS;
 use zones::TABLE_WORDS;
 use zones::Table;
+use zones::ZONE_WORDS;
 ghost use Prim.Native.Nat.{_+_, _≤_};
 ghost use Rattle.zones.specs.Layout.{tableWords, setWords, zoneWords, regionWords};
 

@@ -5,7 +5,7 @@ use mathlib.Core.Bool.{Bool, true, false, cond, not, _&&_, and-false}
 use mathlib.Core.List.{List, [], _∷_, _++_}
 use mathlib.Core.Logic.{_⊎_, inl, inr, ⊎-elim}
 use mathlib.Core.Option.{some, Option·some-injective}
-use mathlib.Core.Path.{_≡_, refl, sym, ap, subst, fun-ext, _∙_}
+use mathlib.Core.Path.{_≡_, refl, sym, ap, subst, _∙_, fun-ext}
 use borrow.Author.Tests.{ltb-true, ltb-false, leb-true, leb-false, eqb-true, not-true, not-false, le-ltb, lt-leb, eq-eqb}
 use lib.Dec.{ltb}
 use lib.ListN.{length, getD}
@@ -32,7 +32,7 @@ use Rattle.rules.specs.declared.Side.{Side}
 use Rattle.rules.specs.declared.Side.the-variants.{Cpu, Iommu}
 use Rattle.rules.proofs.Closure.{state-there, state-not, state-some, state-none, state-added, state-dropped, state-put, held-pushed, held-cut}
 use Rattle.rules.proofs.Configuration.{passed, SoundConfiguration}
-use Rattle.rules.proofs.Keeps.{sound-parts, clear-clash, id-kept, SoundTable}
+use Rattle.rules.proofs.Keeps.{sound-parts, set-sound, clear-clash, id-kept, SoundTable}
 use Rattle.rules.proofs.Regions.{equal-same, equal-refl}
 use Rattle.rules.proofs.Requests.{none-applies}
 use Rattle.promises.specs.Closure.{Corrections, AcceptedIsUpstream, UpstreamIsAccepted, InitializeIsEmpty, ZoneCpuRegionInAllRegions, ZoneIommuRegionInAllRegions, CrossZoneDisjointExceptGic}
@@ -97,9 +97,7 @@ module _ (s : StoredConfig) (t : List Zone) (ok : SoundUnder s t) where
     low-id = let h : getD t (find id t) noZone .id ≤ highestId = leb-true _ _ (parts _ zone-ok .0) in le-ltb highestId id (omega (arith, own-id))
 
     set-ok : (side : Side) → soundSet c (setAt t (find id t) side) ≡ true
-    unfolding soundZone setAt sideOf
-    set-ok Cpu = parts _ zone-ok .1 .0
-    set-ok Iommu = parts _ zone-ok .1 .1 .0
+    set-ok side = set-sound c t table-ok (find id t) side there
 
   -- every position is that of its id
   found-own : (z : ℕ) → z < length t → find (getD t z noZone .id) t ≡ z

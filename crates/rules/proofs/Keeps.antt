@@ -49,6 +49,12 @@ module _ (c : Configuration) (t : List Zone) where
   unfolding sound
   parts-sound s = whole _ (le-leb _ _ (s .few), (s .zones, (s .ids, (s .disjoint, tt))))
 
+-- the set of a zone of a sound table
+pub set-sound : (c : Configuration) (t : List Zone) → SoundTable c t → (z : ℕ) (s : Side) → z < length t → soundSet c (setAt t z s) ≡ true
+unfolding soundZone setAt sideOf
+set-sound c t ok z Cpu h = parts _ (all-at (soundZone c) t noZone (ok .zones) z h) .1 .0
+set-sound c t ok z Iommu h = parts _ (all-at (soundZone c) t noZone (ok .zones) z h) .1 .1 .0
+
 -- ---- clashes go both ways, and there is none without an overlap
 pub clash-symmetric : (c : Configuration) (a b : Region) → clash c a b ≡ clash c b a
 unfolding clash

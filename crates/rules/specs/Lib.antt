@@ -7,5 +7,6 @@ pub mod Tables
 pub mod Changes
 pub mod Requests
 pub mod Run
+pub mod Translation
 pub mod Desk
 pub mod Closure

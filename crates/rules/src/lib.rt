@@ -52,3 +52,9 @@ pub struct Outcome {
     pub place: usize,
     pub inner: u32,
 }
+
+// What a translation answers: 0 and the physical address, or a number and address 0.
+pub struct Translated {
+    pub number: u32,
+    pub phys: Phys,
+}

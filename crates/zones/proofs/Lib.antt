@@ -15,3 +15,4 @@ pub mod Deciding
 pub mod Committing
 pub mod Stepping
 pub mod Running
+pub mod Translating

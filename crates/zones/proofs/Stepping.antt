@@ -1,33 +1,31 @@
 -- One request: what is decided can be done, and gives the rules' number and next table.
-use Prim.Native.Nat.{ℕ, _≤_, _<_}
+use Prim.Native.Nat.{ℕ, _<_}
 use native.Mathlib.Omega.{arith}
 use mathlib.Core.Bool.{Bool, true, false, cond}
 use mathlib.Core.List.{List, [], _∷_}
 use mathlib.Core.Logic.{_⊎_, inl, inr, ⊎-elim}
 use mathlib.Core.Path.{_≡_, refl, sym, ap, subst, _∙_}
 use borrow.Author.Tests.{ltb-true, leb-true, leb-false, not-false, eq-eqb, ne-eqb}
-use lib.Dec.{ltb, leb, eqb}
-use lib.ListN.{length, getD}
+use lib.Dec.{ltb, eqb}
+use lib.ListN.{length}
 use lib.Seq.{sets}
 use Rattle.lists.specs.First.{firstIndex, all}
 use Rattle.lists.specs.Rules.{Rule, _when_, firstRule}
-use Rattle.lists.proofs.Every.{all-at}
 use Rattle.lists.proofs.First.{any-first}
 use Rattle.lists.proofs.Rules.{Quiet, quiet, hit-whatever, quiet-answer, aboveZero, numbers-tell}
-use Rattle.lists.proofs.Tests.{both-true, Holds, parts}
+use Rattle.lists.proofs.Tests.{both-true, parts}
 use Rattle.rules.specs.Changes.{setAt}
 use Rattle.rules.specs.Configuration.{check, Configuration}
-use Rattle.rules.specs.Limits.{highestId, mostInSet}
+use Rattle.rules.specs.Limits.{highestId}
 use Rattle.rules.specs.Regions.{regionEq}
 use Rattle.rules.specs.Requests.{find, present, addRules, removeZoneRules, regionRules, setRules, insertRules, removeRules, kindRules, noRequest, requestRules, refusal, after, next, standingRules, standing, answer}
-use Rattle.rules.specs.Tables.{noZone, sideOf, hasId, tableOf, offGic, soundSet, soundZone, sound, checkTable, Zone}
+use Rattle.rules.specs.Tables.{hasId, tableOf, soundSet, sound, checkTable, Zone}
 use Rattle.rules.specs.declared.Checked.the-variants.{Sound}
 use Rattle.rules.specs.declared.Kind.{Kind}
 use Rattle.rules.specs.declared.Kind.the-variants.{AddZone, RemoveZone, Insert, Remove, NoRequest}
 use Rattle.rules.specs.declared.Request.{Request}
-use Rattle.rules.specs.declared.Side.{Side}
-use Rattle.rules.specs.declared.Side.the-variants.{Cpu, Iommu}
 use Rattle.rules.proofs.Configuration.{sound-answer}
+use Rattle.rules.proofs.Keeps.{sound-parts, set-sound}
 use Rattle.rules.proofs.Requests.{none-applies}
 use Rattle.zones.specs.Decide.{refusing, decidedAdd, decidedDrop, decidedInsert, decidedCut, decidedKind, decided, applied, numberOf, Allowed, Ready}
 use Rattle.zones.specs.Layout.{tableWords}
@@ -115,12 +113,8 @@ module _ (c : Configuration) (t : List Zone) (q : Request) (d : Change) (e : d �
 
 -- ---- a sound table is within limits
 pub sound-within : (c : Configuration) (t : List Zone) → sound c t ≡ true → Within t
-unfolding sound soundZone soundSet setAt sideOf
-sound-within c t e = record { zones = leb-true _ _ (parts _ e .0); sets = λ z s h. small (getD t z noZone) s (parts _ (all-at (soundZone c) t noZone (parts _ e .1 .0) z h)) }
-  where
-    small : (z : Zone) (s : Side) → Holds (leb (z .id) highestId ∷ soundSet c (z .cpu) ∷ soundSet c (z .iommu) ∷ all (offGic c) (z .cpu) ∷ []) → length (sideOf s z) ≤ mostInSet
-    small z Cpu h = leb-true _ _ (parts _ (h .1 .0) .0)
-    small z Iommu h = leb-true _ _ (parts _ (h .1 .1 .0) .0)
+unfolding soundSet
+sound-within c t e = let ok = sound-parts c t e in record { zones = ok .few; sets = λ z s h. leb-true _ _ (parts _ (set-sound c t ok z s h) .0) }
 
 -- ---- one request from outside
 module _ (c t : List ℕ) where

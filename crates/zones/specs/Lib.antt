@@ -9,3 +9,4 @@ pub mod Holding
 pub mod Decide
 pub mod Step
 pub mod Run
+pub mod Translate

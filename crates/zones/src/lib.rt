@@ -7,6 +7,7 @@ mod run;
 mod sound;
 mod steps;
 mod table;
+mod translation;
 mod words;
 
 pub use config::Config;
@@ -30,3 +31,5 @@ pub use steps::Answer;
 pub use steps::step;
 pub use steps::step_in;
 pub use table::Table;
+pub use translation::translate;
+pub use translation::translate_in;

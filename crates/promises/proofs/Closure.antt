@@ -40,7 +40,7 @@ use Rattle.promises.specs.Tables.{In, SoundUnder}
 use Rattle.promises.proofs.Tables.{never-clash}
 
 -- ---- membership in a set
-held-at : (xs : List Region) (r : Region) → heldIn r xs ≡ true → (i : ℕ) × (i < length xs) × (r ≡ getD xs i noRegion)
+pub held-at : (xs : List Region) (r : Region) → heldIn r xs ≡ true → (i : ℕ) × (i < length xs) × (r ≡ getD xs i noRegion)
 held-at xs r e = let (i, h, q) = any-at (regionEq r) xs noRegion e in (i, h, equal-same r (getD xs i noRegion) q)
 
 -- a test that no element passes, each one that is held fails; and the other way round
@@ -50,7 +50,7 @@ clear-of p xs r e h = let (i, l, q) = held-at xs r h in ap p q ∙ none-at p xs 
 clear-make : (p : Region → Bool) (xs : List Region) → ((r : Region) → heldIn r xs ≡ true → p r ≡ false) → any p xs ≡ false
 clear-make p xs f = none-make p xs noRegion (λ i l. f (getD xs i noRegion) (any-make (regionEq (getD xs i noRegion)) xs noRegion i l (equal-refl _)))
 
-held-either : (z : Zone) (r : Region) → (heldIn r (z .cpu) ≡ true) ⊎ (heldIn r (z .iommu) ≡ true) → heldIn r (regionsOf z) ≡ true
+pub held-either : (z : Zone) (r : Region) → (heldIn r (z .cpu) ≡ true) ⊎ (heldIn r (z .iommu) ≡ true) → heldIn r (regionsOf z) ≡ true
 held-either z r m = any-append (regionEq r) (z .cpu) (z .iommu) ∙ ⊎-elim (or-left (heldIn r (z .cpu)) (heldIn r (z .iommu))) (or-right (heldIn r (z .cpu)) (heldIn r (z .iommu))) m
 
 -- ---- two regions that do not clash
@@ -75,15 +75,15 @@ module _ (s : StoredConfig) (t : List Zone) (ok : SoundUnder s t) where
   abbrev c : Configuration
   c = configOf s
 
-  config-ok : SoundConfiguration c
+  pub config-ok : SoundConfiguration c
   config-ok = passed s (ok .config .0) (ok .config .1)
 
-  table-ok : SoundTable c t
+  pub table-ok : SoundTable c t
   table-ok = sound-parts (configOf s) t (ok .table)
 
   -- the zone with an id that is there
   module _ (id : ℕ) (e : present id t ≡ true) where
-    there : find id t < length t
+    pub there : find id t < length t
     there = ltb-true _ _ (sym (any-first (hasId id) t) ∙ e)
 
     own-id : getD t (find id t) noZone .id ≡ id
@@ -92,11 +92,11 @@ module _ (s : StoredConfig) (t : List Zone) (ok : SoundUnder s t) where
     zone-ok : soundZone c (getD t (find id t) noZone) ≡ true
     zone-ok = all-at (soundZone c) t noZone (table-ok .zones) (find id t) there
 
-    low-id : ltb highestId id ≡ false
+    pub low-id : ltb highestId id ≡ false
     unfolding soundZone
     low-id = let h : getD t (find id t) noZone .id ≤ highestId = leb-true _ _ (parts _ zone-ok .0) in le-ltb highestId id (omega (arith, own-id))
 
-    set-ok : (side : Side) → soundSet c (setAt t (find id t) side) ≡ true
+    pub set-ok : (side : Side) → soundSet c (setAt t (find id t) side) ≡ true
     set-ok side = set-sound c t table-ok (find id t) side there
 
   -- every position is that of its id
@@ -109,7 +109,7 @@ module _ (s : StoredConfig) (t : List Zone) (ok : SoundUnder s t) where
       state-there (getD t z noZone .id) t (any-make (hasId (getD t z noZone .id)) t noZone z h (eq-eqb (getD t z noZone .id) (getD t z noZone .id) refl))
       ∙ ap (λ (k : ℕ). some (ghostOf (getD t k noZone))) (found-own z h)
 
-  other-place : (id o : ℕ) → present id t ≡ true → present o t ≡ true → (o ≡ id → ⊥) → find o t ≡ find id t → ⊥
+  pub other-place : (id o : ℕ) → present id t ≡ true → present o t ≡ true → (o ≡ id → ⊥) → find o t ≡ find id t → ⊥
   other-place id o e p ne q = ne (sym (own-id o p) ∙ ap (λ (k : ℕ). getD t k noZone .id) q ∙ own-id id e)
 
   -- ---- 14 is the overlap clause of upstream's guards

@@ -4,3 +4,4 @@ pub mod Configuration
 pub mod Tables
 pub mod Requests
 pub mod Closure
+pub mod Translation

@@ -10,6 +10,7 @@ use Rattle.rules.specs.Configuration.{gicOf, Configuration}
 use Rattle.rules.specs.Regions.{wellFormed, inReach, regionEq, physOverlap, guestOverlap}
 use Rattle.rules.specs.Requests.{heldIn}
 use Rattle.rules.specs.Tables.{configured, Zone}
+use Rattle.rules.specs.Translation.{coversGuest}
 use Rattle.rules.specs.declared.Kind.{Kind}
 use Rattle.rules.specs.declared.Kind.the-variants.{AddZone, RemoveZone, Insert, Remove, NoRequest}
 use Rattle.rules.specs.declared.Region.{Region}
@@ -33,6 +34,10 @@ remove-region-exact set region r = set r && not (regionEq r region)
 -- no region of the set overlaps the region in guest addresses
 abbrev pub not-overlaps-vmem : RegionSet → Region → Type 0
 not-overlaps-vmem set region = (r : Region) → set r ≡ true → guestOverlap region r ≡ false
+
+-- some region of the set covers the guest address
+abbrev pub contains-vaddr : RegionSet → ℕ → Type 0
+contains-vaddr set v = (r : Region) × (set r ≡ true) × (coversGuest v r ≡ true)
 
 pub record GhostZone : Type 0 where
   pub cpu-mem-set : RegionSet

@@ -1,0 +1,163 @@
+-- Translation.
+use Prim.Native.Nat.{ℕ, _<_}
+use native.Mathlib.Decide.{decLt}
+use native.Mathlib.Omega.{arith}
+use mathlib.Core.Bool.{Bool, true, false, cond, true≢false}
+use mathlib.Core.List.{List}
+use mathlib.Core.Logic.{_⊎_, inl, inr}
+use mathlib.Core.Path.{_≡_, refl, sym, ap, _∙_}
+use borrow.Author.Tests.{ltb-true, leb-true, not-true, not-false, eq-eqb}
+use lib.Dec.{ltb}
+use lib.ListN.{length, getD, set}
+use Rattle.lists.specs.First.{firstIndex, any, all}
+use Rattle.lists.specs.Rules.{firstRule}
+use Rattle.lists.proofs.Every.{all-at, any-make}
+use Rattle.lists.proofs.First.{any-first, first-passes}
+use Rattle.lists.proofs.Pairs.{pairs-at}
+use Rattle.lists.proofs.Rules.{Quiet, quiet, quiet-answer, aboveZero, numbers-tell}
+use Rattle.lists.proofs.Tests.{not-holds, parts}
+use Rattle.rules.specs.Addresses.{Covers}
+use Rattle.rules.specs.Changes.{setAt}
+use Rattle.rules.specs.Closure.{RegionSet, contains-vaddr, GhostZone}
+use Rattle.rules.specs.Configuration.{configOf, Configuration, StoredConfig}
+use Rattle.rules.specs.Limits.{highestId}
+use Rattle.rules.specs.Regions.{regionEq, noRegion}
+use Rattle.rules.specs.Requests.{find, present, heldIn}
+use Rattle.rules.specs.Tables.{noZone, sideOf, regionsOf, configured, guestApart, soundSet, Zone}
+use Rattle.rules.specs.Translation.{coversGuest, coveringIn, physIn, translationRules, translatedAs, translation}
+use Rattle.rules.specs.declared.Region.{Region}
+use Rattle.rules.specs.declared.Side.{Side}
+use Rattle.rules.specs.declared.Side.the-variants.{Cpu, Iommu}
+use Rattle.rules.proofs.Addresses.{overlap-shared}
+use Rattle.rules.proofs.Closure.{state-some}
+use Rattle.rules.proofs.Keeps.{set-sound}
+use Rattle.rules.proofs.Regions.{equal-refl}
+use Rattle.rules.proofs.Tables.{overlap-same}
+use Rattle.promises.specs.Tables.{In, CoversPhys, SoundUnder}
+use Rattle.promises.specs.Translation.{OnlyOneCovers, StaysInside, OneToOne, ZonesMeetOnGic, Isolated, ZoneIsolated, IommuZoneIsolated}
+use Rattle.promises.proofs.Closure.{held-at, held-either, config-ok, table-ok, there, low-id, set-ok, other-place}
+use Rattle.promises.proofs.Tables.{no-address-in-two-zones}
+
+-- the region covers the address: it starts at or before it, and ends after it
+covers-parts : (a : ℕ) (r : Region) → coversGuest a r ≡ true → Covers (r .v .0) (r .size) a
+unfolding coversGuest
+covers-parts a r e = let p = parts _ e in (leb-true _ _ (p .0), ltb-true _ _ (p .1 .0))
+
+-- ---- a translation that answers 0
+module _ (t : List Zone) (id : ℕ) (side : Side) (a : ℕ) where
+  number : translation t id side a .number ≡ firstRule (translationRules t id side a) 0
+  unfolding translation translatedAs
+  number = refl
+
+  xs : List Region
+  xs = setAt t (find id t) side
+
+  module _ (e : translation t id side a .number ≡ 0) where
+    none : Quiet (translationRules t id side a)
+    unfolding translationRules aboveZero all
+    none = quiet (translationRules t id side a) 0 (numbers-tell (translationRules t id side a) refl) (sym number ∙ e)
+
+    zone-there : present id t ≡ true
+    unfolding translationRules
+    zone-there = not-false _ (none .1 .0)
+
+    within : firstIndex (coversGuest a) xs < length xs
+    unfolding translationRules xs
+    within = ltb-true _ _ (sym (any-first (coversGuest a) (setAt t (find id t) side)) ∙ not-false _ (none .1 .1 .0))
+
+    covers : coversGuest a (coveringIn a xs) ≡ true
+    unfolding coveringIn
+    covers = first-passes (coversGuest a) xs noRegion within
+
+    comes-out : translation t id side a .phys .0 ≡ physIn a (coveringIn a xs)
+    unfolding translation translatedAs xs
+    comes-out = ap (λ (b : Bool). cond b (physIn a (coveringIn a (setAt t (find id t) side))) 0) (eq-eqb _ 0 (sym number ∙ e))
+
+  -- a region of the set that covers the address makes the answer 0
+  translates : ltb highestId id ≡ false → present id t ≡ true → any (coversGuest a) xs ≡ true → translation t id side a .number ≡ 0
+  unfolding translationRules xs
+  translates low there some = number ∙ sym (quiet-answer (translationRules t id side a) 0 (low, (not-holds _ there, (not-holds _ some, tt))))
+
+lies-in : (a x : ℕ) (r : Region) → coversGuest a r ≡ true → physIn a r ≡ x → CoversPhys r x
+unfolding physIn
+lies-in a x r e h = let (l, u) = covers-parts a r e in (omega arith, omega arith)
+
+pub stays-inside : StaysInside
+unfolding xs coveringIn
+stays-inside t id side a x (e, h) = (
+  coveringIn a (xs t id side a),
+  (firstIndex (coversGuest a) (xs t id side a), within t id side a e, refl),
+  covers t id side a e,
+  lies-in a x (coveringIn a (xs t id side a)) (covers t id side a e) (sym (comes-out t id side a e) ∙ h),
+)
+
+pub only-one-covers : OnlyOneCovers
+unfolding soundSet
+only-one-covers s t ok z side a i j h li lj ci cj =
+    elim (decLt i j) [
+      | yes l ↦ absurd (apart i j l lj ci cj)
+      | no l ↦
+          elim (decLt j i) [ yes m ↦ absurd (apart j i m li cj ci) | no m ↦ omega arith ]
+    ]
+  where
+    apart : (k m : ℕ) → k < m → m < length (setAt t z side) → coversGuest a (getD (setAt t z side) k noRegion) ≡ true → coversGuest a (getD (setAt t z side) m noRegion) ≡ true → ⊥
+    apart k m l u ck cm =
+        let p = parts _ (set-sound (configOf s) t (table-ok s t ok) z side h) in
+        true≢false
+        (sym (overlap-shared _ _ _ _ .1 (a, (covers-parts a (getD (setAt t z side) k noRegion) ck, covers-parts a (getD (setAt t z side) m noRegion) cm)))
+        ∙ not-true _ (pairs-at guestApart (setAt t z side) noRegion (p .1 .1 .0) k m l u))
+
+-- ---- two translations that come out at one place
+in-held : (r : Region) (xs : List Region) → In r xs → heldIn r xs ≡ true
+in-held r xs (i, l, q) = any-make (regionEq r) xs noRegion i l (ap (regionEq r) q ∙ equal-refl r)
+
+held-by : (t : List Zone) (k : ℕ) (side : Side) (r : Region) → In r (setAt t k side) → In r (regionsOf (getD t k noZone))
+unfolding setAt sideOf
+held-by t k side r m = let (i, l, q) = held-at (regionsOf (getD t k noZone)) r (held-either (getD t k noZone) r (by side (in-held r (setAt t k side) m))) in (i, l, sym q)
+  where
+    by : (s : Side) → heldIn r (setAt t k s) ≡ true → (heldIn r (getD t k noZone .cpu) ≡ true) ⊎ (heldIn r (getD t k noZone .iommu) ≡ true)
+    by Cpu h = inl h
+    by Iommu h = inr h
+
+pub zones-meet-on-gic : ZonesMeetOnGic
+zones-meet-on-gic s t ok y z one other a b x ne (ea, ha) (eb, hb) =
+    let (r, mr, cr, pr) = stays-inside t y one a x (ea, ha) in
+    let (q, mq, cq, pq) = stays-inside t z other b x (eb, hb) in
+    let py = zone-there t y one a ea in
+    let pz = zone-there t z other b eb in
+    no-address-in-two-zones s t ok (find y t) (find z t) x (there s t ok y py) (there s t ok z pz) (other-place s t ok z y pz py ne) (r, held-by t (find y t) one r mr, pr) (q, held-by t (find z t) other q mq, pq)
+
+pub one-to-one : OneToOne
+unfolding soundSet coveringIn physIn xs
+one-to-one s t ok id side a b x (ea, ha) (eb, hb) =
+    let c : Configuration = configOf s in
+    let zs : List Region = setAt t (find id t) side in
+    let ra : Region = coveringIn a zs in
+    let rb : Region = coveringIn b zs in
+    let all-configured = parts _ (set-ok s t ok id (zone-there t id side a ea) side) .1 .0 in
+    let pa : physIn a ra ≡ x = sym (comes-out t id side a ea) ∙ ha in
+    let pb : physIn b rb ≡ x = sym (comes-out t id side b eb) ∙ hb in
+    let ca = covers t id side a ea in
+    let cb = covers t id side b eb in
+    let same : ra ≡ rb = overlap-same c (config-ok s t ok) ra rb (all-at (configured c) zs noRegion all-configured _ (within t id side a ea)) (all-at (configured c) zs noRegion all-configured _ (within t id side b eb)) (overlap-shared _ _ _ _ .1 (x, (lies-in a x ra ca pa, lies-in b x rb cb pb))) in
+    equal-from a b ra rb ca cb same (pa ∙ sym pb)
+  where
+    equal-from : (a b : ℕ) (r q : Region) → coversGuest a r ≡ true → coversGuest b q ≡ true → r ≡ q → physIn a r ≡ physIn b q → a ≡ b
+    equal-from a b r q ca cb e h = let (la, ua) = covers-parts a r ca in let (lb, ub) = covers-parts b q cb in omega (arith, ap (λ (k : Region). k .v .0) e, ap (λ (k : Region). k .p .0) e)
+
+-- ---- upstream's properties
+isolated : (s : StoredConfig) (t : List Zone) (ok : SoundUnder s t) (zid : ℕ) (side : Side) (set : RegionSet) (v : ℕ) → present zid t ≡ true → ((r : Region) → set r ≡ heldIn r (setAt t (find zid t) side)) → contains-vaddr set v → Isolated t zid side set v
+unfolding xs
+isolated s t ok zid side set v p same (r, m, k) =
+    let (i, l, q) = held-at (setAt t (find zid t) side) r (sym (same r) ∙ m) in
+    let e = translates t zid side v (low-id s t ok zid p) p (any-make (coversGuest v) (setAt t (find zid t) side) noRegion i l (ap (coversGuest v) (sym q) ∙ k)) in
+    let (g, mg, cg, pg) = stays-inside t zid side v (translation t zid side v .phys .0) (e, refl) in
+    (translation t zid side v .phys .0, (e, refl), (g, same g ∙ in-held g (setAt t (find zid t) side) mg, cg, pg))
+
+pub zone-isolated : ZoneIsolated
+unfolding setAt sideOf
+zone-isolated s t ok zid zone v st k = let (p, g) = state-some zid t zone st in isolated s t ok zid Cpu (zone .cpu-mem-set) v p (λ r. sym (ap (λ (y : GhostZone). y .cpu-mem-set r) g)) k
+
+pub iommu-zone-isolated : IommuZoneIsolated
+unfolding setAt sideOf
+iommu-zone-isolated s t ok zid zone v st k = let (p, g) = state-some zid t zone st in isolated s t ok zid Iommu (zone .iommu-mem-set) v p (λ r. sym (ap (λ (y : GhostZone). y .iommu-mem-set r) g)) k

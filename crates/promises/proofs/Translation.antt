@@ -6,7 +6,7 @@ use mathlib.Core.Bool.{Bool, true, false, cond, true≢false}
 use mathlib.Core.List.{List}
 use mathlib.Core.Logic.{_⊎_, inl, inr}
 use mathlib.Core.Path.{_≡_, refl, sym, ap, _∙_}
-use borrow.Author.Tests.{ltb-true, leb-true, not-true, not-false, eq-eqb}
+use borrow.Author.Tests.{ltb-true, not-true, not-false, eq-eqb}
 use lib.Dec.{ltb}
 use lib.ListN.{length, getD, set}
 use Rattle.lists.specs.First.{firstIndex, any, all}
@@ -16,7 +16,6 @@ use Rattle.lists.proofs.First.{any-first, first-passes}
 use Rattle.lists.proofs.Pairs.{pairs-at}
 use Rattle.lists.proofs.Rules.{Quiet, quiet, quiet-answer, aboveZero, numbers-tell}
 use Rattle.lists.proofs.Tests.{not-holds, parts}
-use Rattle.rules.specs.Addresses.{Covers}
 use Rattle.rules.specs.Changes.{setAt}
 use Rattle.rules.specs.Closure.{RegionSet, contains-vaddr, GhostZone}
 use Rattle.rules.specs.Configuration.{configOf, Configuration, StoredConfig}
@@ -33,15 +32,11 @@ use Rattle.rules.proofs.Closure.{state-some}
 use Rattle.rules.proofs.Keeps.{set-sound}
 use Rattle.rules.proofs.Regions.{equal-refl}
 use Rattle.rules.proofs.Tables.{overlap-same}
-use Rattle.promises.specs.Tables.{In, CoversPhys, SoundUnder}
+use Rattle.rules.proofs.Translation.{covers-parts, lies-in}
+use Rattle.promises.specs.Tables.{In, SoundUnder}
 use Rattle.promises.specs.Translation.{OnlyOneCovers, StaysInside, OneToOne, ZonesMeetOnGic, Isolated, ZoneIsolated, IommuZoneIsolated}
 use Rattle.promises.proofs.Closure.{held-at, held-either, config-ok, table-ok, there, low-id, set-ok, other-place}
 use Rattle.promises.proofs.Tables.{no-address-in-two-zones}
-
--- the region covers the address: it starts at or before it, and ends after it
-covers-parts : (a : ℕ) (r : Region) → coversGuest a r ≡ true → Covers (r .v .0) (r .size) a
-unfolding coversGuest
-covers-parts a r e = let p = parts _ e in (leb-true _ _ (p .0), ltb-true _ _ (p .1 .0))
 
 -- ---- a translation that answers 0
 module _ (t : List Zone) (id : ℕ) (side : Side) (a : ℕ) where
@@ -77,10 +72,6 @@ module _ (t : List Zone) (id : ℕ) (side : Side) (a : ℕ) where
   translates : ltb highestId id ≡ false → present id t ≡ true → any (coversGuest a) xs ≡ true → translation t id side a .number ≡ 0
   unfolding translationRules xs
   translates low there some = number ∙ sym (quiet-answer (translationRules t id side a) 0 (low, (not-holds _ there, (not-holds _ some, tt))))
-
-lies-in : (a x : ℕ) (r : Region) → coversGuest a r ≡ true → physIn a r ≡ x → CoversPhys r x
-unfolding physIn
-lies-in a x r e h = let (l, u) = covers-parts a r e in (omega arith, omega arith)
 
 pub stays-inside : StaysInside
 unfolding xs coveringIn

@@ -5,5 +5,6 @@ pub mod Configuration
 pub mod Tables
 pub mod Requests
 pub mod Keeps
+pub mod Translation
 pub mod Desk
 pub mod Closure

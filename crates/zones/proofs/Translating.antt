@@ -3,7 +3,7 @@ use Prim.Native.Nat.{ℕ, _+_, _-_, _^_, _≤_, _<_}
 use native.Mathlib.Omega.{arith}
 use mathlib.Core.Bool.{Bool, true, false, cond, not}
 use mathlib.Core.List.{List, [], _∷_}
-use mathlib.Core.Path.{_≡_, refl, sym, ap, ap₂, fun-ext, _∙_}
+use mathlib.Core.Path.{_≡_, refl, sym, ap, ap₂, _∙_, fun-ext}
 use borrow.Author.Tests.{ltb-true, leb-true, lt-ltb, le-ltb, le-leb, ne-eqb}
 use lib.Dec.{ltb, eqb}
 use lib.ListN.{length, getD}
@@ -29,17 +29,18 @@ use Rattle.rules.proofs.Addresses.{overlap-shared}
 use Rattle.rules.proofs.Configuration.{SoundConfiguration}
 use Rattle.rules.proofs.Keeps.{sound-parts, set-sound}
 use Rattle.rules.proofs.Tables.{configured-at}
+use Rattle.rules.proofs.Translation.{covers-parts}
 use Rattle.zones.specs.Alike.{alikeBy}
 use Rattle.zones.specs.Decide.{Ready}
 use Rattle.zones.specs.Layout.{tableWords, setBase}
 use Rattle.zones.specs.Records.{recordAt, recordsAt}
 use Rattle.zones.specs.Translate.{Near}
-use Rattle.zones.specs.declared.words.By.the-variants.{Guest as ByGuest}
 use Rattle.zones.specs.View.{storedConfig, configIn, storedTable, recordIn, setIn, zonesIn}
 use Rattle.zones.proofs.ConfigReaders.{config-sound}
 use Rattle.zones.proofs.Deciding.{zone-missing, zone-not-missing}
 use Rattle.zones.proofs.Stepping.{stands-same, stands-ready}
 use Rattle.zones.proofs.Writers.{set-in}
+use Rattle.zones.specs.declared.words.By.the-variants.{Guest as ByGuest}
 
 -- a region of one byte overlaps exactly the regions that cover its address
 byte-covers : (a : ℕ) (r : Region) → overlaps a 1 (r .v .0) (r .size) ≡ coversGuest a r
@@ -101,12 +102,10 @@ module _ (w : List ℕ) (id : ℕ) (s : Side) (a : ℕ) where
         covers-here = ap (coversGuest a) (region-here ∙ ap (λ (k : ℕ). getD (setIn w z s) k noRegion) ei) ∙ first-passes (coversGuest a) (setIn w z s) noRegion (omega arith)
 
         pub from-start : x .v .0 ≤ a
-        unfolding coversGuest
-        from-start = leb-true _ _ (parts _ covers-here .0)
+        from-start = covers-parts a x covers-here .0
 
-        pub before-end : a < x .v .0 + x .size
-        unfolding coversGuest
-        before-end = ltb-true _ _ (parts _ covers-here .1 .0)
+        before-end : a < x .v .0 + x .size
+        before-end = covers-parts a x covers-here .1
 
         pub no-wrap : Near (zonesIn w) → x .p .0 + (a - x .v .0) < 2 ^ 64
         unfolding inReach

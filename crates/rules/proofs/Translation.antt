@@ -1,0 +1,20 @@
+-- Translation: what it is for a region to cover an address, and where the address comes out.
+use Prim.Native.Nat.{ℕ}
+use native.Mathlib.Omega.{arith}
+use mathlib.Core.Bool.{true}
+use mathlib.Core.Path.{_≡_}
+use borrow.Author.Tests.{ltb-true, leb-true}
+use Rattle.lists.proofs.Tests.{parts}
+use Rattle.rules.specs.Addresses.{Covers}
+use Rattle.rules.specs.Translation.{coversGuest, physIn}
+use Rattle.rules.specs.declared.Region.{Region}
+
+-- the region covers the address: it starts at or before it, and ends after it
+pub covers-parts : (a : ℕ) (r : Region) → coversGuest a r ≡ true → Covers (r .v .0) (r .size) a
+unfolding coversGuest
+covers-parts a r e = let p = parts _ e in (leb-true _ _ (p .0), ltb-true _ _ (p .1 .0))
+
+-- what comes out lies in the region's physical range
+pub lies-in : (a x : ℕ) (r : Region) → coversGuest a r ≡ true → physIn a r ≡ x → Covers (r .p .0) (r .size) x
+unfolding physIn
+lies-in a x r e h = let (l, u) = covers-parts a r e in (omega arith, omega arith)

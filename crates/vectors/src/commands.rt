@@ -6,6 +6,11 @@
 //   L length:1 bytes      prints the bytes, a colon and a space
 //   C                     prints the number, the place and the earlier place of the configuration check
 //   T                     prints `yes` or `no` of the table check
+//   R kind:4 zone:4 v:8 p:8 size:8
+//                         a request; the table becomes the next one. Prints the number, then of the table afterwards the
+//                         count of zones and a fingerprint of all its words
+//   A zone:4 side:1 address:8
+//                         prints the number and the physical address of a translation; side 0 is the CPU, any other the IOMMU
 //
 // A function of a command answers whether its operands were all there.
 use crate::input::Byte;
@@ -15,6 +20,8 @@ use crate::input::next_number;
 use crate::report::numbers;
 use crate::report::text;
 use crate::report::yes_or_no;
+use crate::requests::request;
+use crate::requests::translation;
 use libc::STDIN_FILENO;
 use zones::CONFIG_WORDS;
 use zones::Config;
@@ -33,6 +40,7 @@ pub fn run(command: u8, config: &mut [u64; CONFIG_WORDS], table: &mut [u64; TABL
         b'c' => set_word(config),
         b't' => set_word(table),
         b'L' => label(),
+        b'R' => request(config, table),
         _ => ask(command, config, table),
     }
 }
@@ -42,6 +50,7 @@ fn ask(command: u8, config: &[u64; CONFIG_WORDS], table: &[u64; TABLE_WORDS]) ->
     match command {
         b'C' => ask_config(config),
         b'T' => ask_table(config, table),
+        b'A' => translation(config, table),
         _ => false,
     }
 }

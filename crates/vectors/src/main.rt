@@ -1,8 +1,9 @@
 // Runs a stream of small commands from standard input: some set words of a configuration and of a table, some ask the core about
-// them and print its answer on a line. tools/vectors.py makes the stream and works the answers out from the document.
+// them or request a change of the table, and print the answer on a line. tools/vectors.py makes the stream and works the answers out from the document.
 mod commands;
 mod input;
 mod report;
+mod requests;
 
 use commands::run;
 use input::Byte;

@@ -5,6 +5,14 @@ pub fn text(t: &[u8]) {
     io::write_all(STDOUT_FILENO, t);
 }
 
+// A line of two numbers.
+pub fn two_numbers(a: u64, b: u64) {
+    io::print_decimal(STDOUT_FILENO, a);
+    text(b" ");
+    io::print_decimal(STDOUT_FILENO, b);
+    text(b"\n");
+}
+
 // A line of three numbers.
 pub fn numbers(a: u64, b: u64, c: u64) {
     io::print_decimal(STDOUT_FILENO, a);

@@ -1,10 +1,10 @@
 """Document 01's rules in plain Python, stated from the document and the points of docs/DECISIONS.md, not from the crates.
 
 Numbers are whole numbers of any size here, so no end wraps. A check lists the faults in the document's order, and its answer
-is the first. Requests, translation and plans are to stand below in the same way.
+is the first. Translation and plans are to stand below in the same way.
 """
 
-from typing import Iterator, List, NamedTuple, Tuple
+from typing import Iterator, List, NamedTuple, Optional, Tuple
 
 PAGE = 4096
 REACH = 2**48
@@ -175,3 +175,132 @@ def table_faults(c: Config, t: Table) -> Iterator[str]:
 
 def check_table(c: Config, t: Table) -> bool:
     return next(table_faults(c, t), None) is None
+
+
+# ---- requests
+
+
+ADD_ZONE, REMOVE_ZONE, CPU_INSERT, CPU_REMOVE, IOMMU_INSERT, IOMMU_REMOVE = range(1, 7)
+INSERTS = {CPU_INSERT: "cpu", IOMMU_INSERT: "iommu"}
+REMOVES = {CPU_REMOVE: "cpu", IOMMU_REMOVE: "iommu"}
+
+
+class Request(NamedTuple):
+    kind: int
+    zone: int
+    region: Region = ZERO
+
+
+def zone_of(t: Table, number: int) -> Optional[Zone]:
+    return next((z for z in t.zones[: t.count] if z.id == number), None)
+
+
+def request_faults(c: Config, t: Table, q: Request) -> Iterator[int]:
+    """Every number that applies, in the order of the request's kind, as far as there is something to ask."""
+    sound = check_table(c, t)
+    if not config_is_sound(c):
+        yield 1
+    if not sound:
+        yield 2
+    if not 1 <= q.kind <= 6 or (q.kind in (ADD_ZONE, REMOVE_ZONE) and q.region != ZERO):
+        yield 3
+    if q.zone > HIGHEST_ID:
+        yield 4
+    if not sound:
+        return
+    if q.kind == ADD_ZONE:
+        yield from add_faults(t, q.zone)
+    if q.kind == REMOVE_ZONE:
+        yield from remove_zone_faults(t, q.zone)
+    if q.kind in INSERTS:
+        yield from insert_faults(c, t, q.zone, INSERTS[q.kind], q.region)
+    if q.kind in REMOVES:
+        yield from remove_faults(t, q.zone, REMOVES[q.kind], q.region)
+
+
+def add_faults(t: Table, number: int) -> Iterator[int]:
+    if zone_of(t, number):
+        yield 5
+    if t.count == MOST_ZONES:
+        yield 7
+
+
+def remove_zone_faults(t: Table, number: int) -> Iterator[int]:
+    zone = zone_of(t, number)
+    if not zone:
+        yield 6
+    elif zone.held():
+        yield 8
+
+
+def insert_faults(c: Config, t: Table, number: int, side: str, r: Region) -> Iterator[int]:
+    zone = zone_of(t, number)
+    gic = c.records[c.gic]
+    if not zone:
+        yield 6
+    if not well_formed(r):
+        yield 9
+    if not in_reach(r):
+        yield 10
+    if r not in c.records[: c.count]:
+        yield 11
+    if side == "cpu" and phys_overlap(r, gic):
+        yield 12
+    if not zone:
+        return
+    there = getattr(zone, side)
+    if r in there.held():
+        yield 13
+    if any(phys_overlap(r, other) for other in forbidden(t, zone, side, r, gic)):
+        yield 14
+    if any(guest_overlap(r, other) for other in there.held()):
+        yield 15
+    if there.count == MOST_IN_SET:
+        yield 16
+
+
+def forbidden(t: Table, zone: Zone, side: str, r: Region, gic: Region) -> List[Region]:
+    """The regions that one inserted on this side must not meet: the overlap clause of the upstream guard for the side."""
+    zones = t.zones[: t.count]
+    others = [z for z in zones if z.id != zone.id]
+    if side == "cpu":
+        return [a for z in zones for a in z.cpu.held()] + [a for z in others for a in z.iommu.held()]
+    return [a for z in others for a in z.held() if r != gic and a != gic]
+
+
+def remove_faults(t: Table, number: int, side: str, r: Region) -> Iterator[int]:
+    zone = zone_of(t, number)
+    if not zone:
+        yield 6
+    elif r not in getattr(zone, side).held():
+        yield 17
+
+
+def set_with(regions: List[Region]) -> Set:
+    return Set(len(regions), regions + [ZERO] * (MOST_IN_SET - len(regions)))
+
+
+def table_with(zones: List[Zone]) -> Table:
+    return Table(len(zones), zones + [ZERO_ZONE] * (MOST_ZONES - len(zones)))
+
+
+def accepted(t: Table, q: Request) -> Table:
+    """The next table of a request that no number refuses."""
+    zones = t.zones[: t.count]
+    if q.kind == ADD_ZONE:
+        return table_with(zones + [Zone(q.zone, EMPTY_SET, EMPTY_SET)])
+    if q.kind == REMOVE_ZONE:
+        return table_with([z for z in zones if z.id != q.zone])
+    if q.kind in INSERTS:
+        side = INSERTS[q.kind]
+        held = getattr(zone_of(t, q.zone), side).held() + [q.region]
+    else:
+        side = REMOVES[q.kind]
+        held = [r for r in getattr(zone_of(t, q.zone), side).held() if r != q.region]
+    return table_with([z._replace(**{side: set_with(held)}) if z.id == q.zone else z for z in zones])
+
+
+def step(c: Config, t: Table, q: Request) -> Tuple[int, Table]:
+    """The number, and the table afterwards."""
+    number = next(request_faults(c, t, q), 0)
+    return number, t if number else accepted(t, q)

@@ -2,14 +2,20 @@
 
 import struct
 from collections import Counter
+from typing import Iterator
 
-from reference import check_config, table_faults
-from words import CONFIG_WORDS, TABLE_WORDS, Words, config_of, table_of
+from reference import Request, check_config, request_faults, step, table_faults
+from words import CONFIG_WORDS, TABLE_COUNT, TABLE_WORDS, Words, config_of, fingerprint, table_of, words_of
 
 
 def set_commands(command: bytes, old: Words, new: Words) -> bytes:
     changed = (k for k in range(len(new)) if old[k] != new[k])
     return b"".join(command + struct.pack("<HQ", k, new[k]) for k in changed)
+
+
+def listed(faults: Iterator[int]) -> str:
+    """The number answered, and the others that would apply after it."""
+    return " before ".join("%2d" % number for number in faults) or " 0"
 
 
 class Stream:
@@ -21,13 +27,13 @@ class Stream:
         self.answers = Counter()
 
     def ask_config(self, label: str, config: Words):
-        self._change_to(config, self.table)
+        self.change_to(config, self.table)
         found = check_config(config_of(config))
         self._ask(label, b"C", "%d %d %d" % found)
         self.answers["configuration: %d" % found.number] += 1
 
     def ask_table(self, label: str, config: Words, table: Words):
-        self._change_to(config, table)
+        self.change_to(config, table)
         faults = list(table_faults(config_of(config), table_of(table)))
         self._ask(label, b"T", "no" if faults else "yes")
         self.answers["table: " + (" and ".join(faults) or "sound")] += 1
@@ -36,7 +42,17 @@ class Stream:
         """A word that is not there: it is set to a number that would show."""
         self.commands += command + struct.pack("<HQ", index, 1)
 
-    def _change_to(self, config: Words, table: Words):
+    def ask_request(self, label: str, q: Request) -> int:
+        """A request at the words as they are now; the table's become the next table's."""
+        c, t = config_of(self.config), table_of(self.table)
+        number, after = step(c, t, q)
+        self.table = words_of(after)
+        operands = struct.pack("<IIQQQ", q.kind, q.zone, *q.region)
+        self._ask(label, b"R" + operands, "%d %d %d" % (number, self.table[TABLE_COUNT], fingerprint(self.table)))
+        self.answers["request: " + listed(request_faults(c, t, q))] += 1
+        return number
+
+    def change_to(self, config: Words, table: Words):
         """Changes the words that differ, or starts again from zero where that is shorter."""
         change = set_commands(b"c", self.config, config) + set_commands(b"t", self.table, table)
         anew = b"Z" + set_commands(b"c", [0] * CONFIG_WORDS, config) + set_commands(b"t", [0] * TABLE_WORDS, table)

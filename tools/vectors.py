@@ -13,6 +13,7 @@ sys.dont_write_bytecode = True
 from chance import Chance
 from config_cases import add_config_cases
 from random_cases import add_random_cases
+from request_cases import add_request_cases
 from stream import Stream
 from table_cases import add_table_cases
 
@@ -25,6 +26,7 @@ def made() -> Stream:
     add_config_cases(s)
     add_table_cases(s)
     add_random_cases(s, Chance(SEED))
+    add_request_cases(s, Chance(SEED))
     return s
 
 

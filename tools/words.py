@@ -85,3 +85,24 @@ def table_words(zones) -> Words:
     for number, cpu, iommu in zones:
         words += [number] + set_words(cpu) + set_words(iommu)
     return words + [0] * (TABLE_WORDS - len(words))
+
+
+def words_of(t: Table) -> Words:
+    """Every word, also those past a count."""
+    words = [t.count]
+    for z in t.zones:
+        words.append(z.id)
+        for held in z.cpu, z.iommu:
+            words += [held.count] + [number for r in held.records for number in r]
+    return words
+
+
+def fingerprint(words: Words) -> int:
+    """All words mixed into one, as the program does it: a step of the generator xorshift64 before each word."""
+    x = 0
+    for word in words:
+        x ^= (x << 13) % 2**64
+        x ^= x >> 7
+        x ^= (x << 17) % 2**64
+        x ^= word
+    return x

@@ -1,7 +1,7 @@
 """Document 01's rules in plain Python, stated from the document and the points of docs/DECISIONS.md, not from the crates.
 
 Numbers are whole numbers of any size here, so no end wraps. A check lists the faults in the document's order, and its answer
-is the first. Translation and plans are to stand below in the same way.
+is the first. Plans are to stand below in the same way.
 """
 
 from typing import Iterator, List, NamedTuple, Optional, Tuple
@@ -304,3 +304,36 @@ def step(c: Config, t: Table, q: Request) -> Tuple[int, Table]:
     """The number, and the table afterwards."""
     number = next(request_faults(c, t, q), 0)
     return number, t if number else accepted(t, q)
+
+
+# ---- translation
+
+
+def translation_faults(c: Config, t: Table, number: int, side: str, address: int) -> Iterator[int]:
+    sound = check_table(c, t)
+    if not config_is_sound(c):
+        yield 1
+    if not sound:
+        yield 2
+    if number > HIGHEST_ID:
+        yield 4
+    if not sound:
+        return
+    zone = zone_of(t, number)
+    if not zone:
+        yield 6
+    elif not covering(zone, side, address):
+        yield 18
+
+
+def covering(zone: Zone, side: str, address: int) -> List[Region]:
+    return [r for r in getattr(zone, side).held() if address in guest_span(r)]
+
+
+def translate(c: Config, t: Table, number: int, side: str, address: int) -> Tuple[int, int]:
+    """The number, and the physical address."""
+    refused = next(translation_faults(c, t, number, side, address), 0)
+    if refused:
+        return refused, 0
+    (r,) = covering(zone_of(t, number), side, address)
+    return 0, r.p + (address - r.v)

@@ -2,10 +2,12 @@
 
 import struct
 from collections import Counter
-from typing import Iterator
+from typing import Iterator, Optional
 
-from reference import Request, check_config, request_faults, step, table_faults
-from words import CONFIG_WORDS, TABLE_COUNT, TABLE_WORDS, Words, config_of, fingerprint, table_of, words_of
+from reference import Request, check_config, request_faults, step, table_faults, translate, translation_faults
+from words import CONFIG_WORDS, CPU, IOMMU, TABLE_COUNT, TABLE_WORDS, Words, config_of, fingerprint, table_of, words_of
+
+SIDES = {"cpu": CPU, "iommu": IOMMU}
 
 
 def set_commands(command: bytes, old: Words, new: Words) -> bytes:
@@ -51,6 +53,13 @@ class Stream:
         self._ask(label, b"R" + operands, "%d %d %d" % (number, self.table[TABLE_COUNT], fingerprint(self.table)))
         self.answers["request: " + listed(request_faults(c, t, q))] += 1
         return number
+
+    def ask_translation(self, label: str, zone: int, side: str, address: int, side_byte: Optional[int] = None):
+        """A translation at the words as they are now."""
+        c, t = config_of(self.config), table_of(self.table)
+        operands = struct.pack("<IBQ", zone, SIDES[side] if side_byte is None else side_byte, address)
+        self._ask(label, b"A" + operands, "%d %d" % translate(c, t, zone, side, address))
+        self.answers["translation: " + listed(translation_faults(c, t, zone, side, address))] += 1
 
     def change_to(self, config: Words, table: Words):
         """Changes the words that differ, or starts again from zero where that is shorter."""

@@ -16,6 +16,7 @@ from random_cases import add_random_cases
 from request_cases import add_request_cases
 from stream import Stream
 from table_cases import add_table_cases
+from translation_cases import add_translation_cases
 
 ROOT = Path(__file__).resolve().parent.parent
 SEED = 1
@@ -27,6 +28,7 @@ def made() -> Stream:
     add_table_cases(s)
     add_random_cases(s, Chance(SEED))
     add_request_cases(s, Chance(SEED))
+    add_translation_cases(s, Chance(SEED))
     return s
 
 

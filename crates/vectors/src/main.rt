@@ -1,5 +1,6 @@
 // Runs a stream of small commands from standard input: some set words of a configuration and of a table, some ask the core about
-// them or request a change of the table, and print the answer on a line. tools/vectors.py makes the stream and works the answers out from the document.
+// them or have it change the table, and print its answer on a line. tools/vectors.py makes the stream and works the answers out from
+// the document.
 mod commands;
 mod input;
 mod report;

@@ -6,5 +6,6 @@ pub mod Tables
 pub mod Requests
 pub mod Keeps
 pub mod Translation
+pub mod Plan
 pub mod Desk
 pub mod Closure

@@ -8,5 +8,6 @@ pub mod Changes
 pub mod Requests
 pub mod Run
 pub mod Translation
+pub mod Plan
 pub mod Desk
 pub mod Closure

@@ -25,3 +25,17 @@ highestId = 255
 
 abbrev pub mostInSet : ℕ
 mostInSet = 16
+
+-- a plan has up to this many requests
+abbrev pub mostRequests : ℕ
+mostRequests = 1024
+
+-- the counts that a reader of plans goes by; a terminal with other limits has other ones
+pub record Limits : Type 0 where
+  pub regions : ℕ
+  pub zones : ℕ
+  pub inSet : ℕ
+  pub requests : ℕ
+
+abbrev pub limits : Limits
+limits = record { regions = mostRegions; zones = mostZones; inSet = mostInSet; requests = mostRequests }

@@ -1,0 +1,250 @@
+-- The laws of formats. A format that is put together from formats has its laws from theirs: none is proved again for a whole plan.
+use Prim.Native.Nat.{ℕ, zero, suc, _+_, _^_, _≤_, _<_}
+use native.Mathlib.Omega.{arith}
+use mathlib.Core.Bool.{Bool, true, false}
+use mathlib.Core.List.{List, [], _∷_, _++_, append-assoc, append-nil}
+use mathlib.Core.Path.{_≡_, refl, sym, ap, ap₂, subst, _∙_}
+use borrow.Author.Tests.{le-leb, leb-true}
+use lib.Dec.{leb}
+use lib.ListN.{length, getD, take, drop, length-append, length-take, take-append-drop}
+use lib.Seq.{take-at, drop-at, getD-append-add}
+use Rattle.lists.specs.Bytes.{little, bytesOf, Bytes}
+use Rattle.lists.proofs.Bytes.{bytes-take, length-bytes, little-bytes, bytes-little, little-below}
+use Rattle.formats.specs.Formats.{Out, got, bad, left, when, then, Format, readNumber, number, readBoth, writeBoth, both, startAt, field, readAs, as-type, readMany, writeMany, many, readHeaded, writeHeaded, headed, atEnd, readFile, All, InRange}
+
+-- t is the end of b
+abbrev pub Part : List ℕ → List ℕ → Type 0
+Part t b = (w : List ℕ) × (b ≡ w ++ t)
+
+part-trans : (t s b : List ℕ) → Part t s → Part s b → Part t b
+part-trans t s b p q = (q .0 ++ p .0, q .1 ∙ ap (λ (l : List ℕ). q .0 ++ l) (p .1) ∙ sym (append-assoc (q .0) (p .0) t))
+
+pub record Lawful {A : Type 0} (F : Format A) (Fits : A → Type 0) : Type 0 where
+  -- what is written is read back, whatever follows it
+  pub back : (x : A) (t : List ℕ) → Fits x → F .read (F .write x ++ t) ≡ got x t
+  -- no slack: what is read is what is written of it, and it fits
+  pub tight : (b : List ℕ) (x : A) (t : List ℕ) → Bytes b → F .read b ≡ got x t → (b ≡ F .write x ++ t) × Fits x
+  -- a reader only goes forward, also where it refuses
+  pub part : (b : List ℕ) → Part (left (F .read b)) b
+
+-- ---- what every reader is made of
+then-part : {A B : Type 0} (o : Out A) (f : A → List ℕ → Out B) (b : List ℕ) → Part (left o) b → ((x : A) (t : List ℕ) → Part (left (f x t)) t) → Part (left (then o f)) b
+unfolding left then
+then-part (got x t) f b p h = part-trans (left (f x t)) t b (h x t) p
+then-part (bad k t) f b p h = p
+
+when-part : {A : Type 0} (c : Bool) (o : Out A) (k : ℕ) (t b : List ℕ) → Part (left o) b → Part t b → Part (left (when c o (bad k t))) b
+unfolding left when
+when-part true o k t b p q = p
+when-part false o k t b p q = q
+
+no-value : {A : Type 0} (k : ℕ) (s : List ℕ) (x : A) (t : List ℕ) → bad k s ≡ got x t → ⊥
+no-value k s x t e = let z : _≡_ {A = ℕ} 0 1 = cc in omega arith
+
+then-got : {A B : Type 0} (o : Out A) (f : A → List ℕ → Out B) (x : B) (t : List ℕ) → then o f ≡ got x t → (y : A) × (s : List ℕ) × (o ≡ got y s) × (f y s ≡ got x t)
+unfolding then
+then-got (got y s) f x t e = (y, s, refl, e)
+then-got (bad k s) f x t e = absurd (no-value k s x t e)
+
+when-got : {A : Type 0} (c : Bool) (o : Out A) (k : ℕ) (s : List ℕ) (x : A) (t : List ℕ) → when c o (bad k s) ≡ got x t → (c ≡ true) × (o ≡ got x t)
+unfolding when
+when-got true o k s x t e = (refl, e)
+when-got false o k s x t e = absurd (no-value k s x t e)
+
+-- what is left of bytes is bytes
+left-bytes : (b w t : List ℕ) → b ≡ w ++ t → Bytes b → Bytes t
+left-bytes b w t e h i = rw (getD-append-add w t i 0) at (subst (λ (l : List ℕ). getD l (length w + i) 0 < 256) e (h (length w + i)))
+
+-- ---- a number of k bytes
+module _ (k : ℕ) where
+  back-number : (n : ℕ) (t : List ℕ) → n < 256 ^ k → readNumber k (bytesOf k n ++ t) ≡ got n t
+  unfolding readNumber when
+  back-number n t h =
+      let l : length (bytesOf k n) ≡ k = length-bytes k n in
+      rw (le-leb k (length (bytesOf k n ++ t)) (omega (arith, length-append (bytesOf k n) t)), take-at (bytesOf k n) t k l, drop-at (bytesOf k n) t k l, little-bytes k n h)
+
+  tight-number : (b : List ℕ) (n : ℕ) (t : List ℕ) → Bytes b → readNumber k b ≡ got n t → (b ≡ bytesOf k n ++ t) × (n < 256 ^ k)
+  unfolding readNumber
+  tight-number b n t h e =
+      let g = when-got (leb k (length b)) (got (little (take k b)) (drop k b)) 20 b n t e in
+      let f : got (little (take k b)) (drop k b) ≡ got n t = g .1 in
+      let en : little (take k b) ≡ n = cc in
+      let et : drop k b ≡ t = cc in
+      let hb : Bytes (take k b) = bytes-take k b h in
+      let l : length (take k b) ≡ k = omega (arith, leb-true k (length b) (g .0), length-take k b) in
+      let w : bytesOf k n ≡ take k b = ap₂ (λ (i m : ℕ). bytesOf i m) (sym l) (sym en) ∙ bytes-little (take k b) hb in
+      (sym (take-append-drop k b) ∙ ap₂ (λ (x y : List ℕ). x ++ y) (sym w) et, below (little-below (take k b) hb) en l)
+    where
+      below : {x y i j : ℕ} → x < 256 ^ i → x ≡ y → i ≡ j → y < 256 ^ j
+      below p q r = rw (← q, ← r) p
+
+  part-number : (b : List ℕ) → Part (left (readNumber k b)) b
+  unfolding readNumber left
+  part-number b = when-part (leb k (length b)) (got (little (take k b)) (drop k b)) 20 b b (take k b, sym (take-append-drop k b)) ([], refl)
+
+  pub lawful-number : Lawful (number k) (λ n. n < 256 ^ k)
+  lawful-number = record { back = back-number; tight = tight-number; part = part-number }
+
+-- ---- one after another
+module _ {A B : Type 0} (F : Format A) (G : Format B) (P : A → Type 0) (Q : B → Type 0) (f : Lawful F P) (g : Lawful G Q) where
+  back-both : (p : A × B) (t : List ℕ) → P (p .0) × Q (p .1) → readBoth F G (writeBoth F G p ++ t) ≡ got p t
+  unfolding readBoth writeBoth then
+  back-both p t h = rw (append-assoc (F .write (p .0)) (G .write (p .1)) t, f .back (p .0) (G .write (p .1) ++ t) (h .0), g .back (p .1) t (h .1))
+
+  tight-both : (b : List ℕ) (p : A × B) (t : List ℕ) → Bytes b → readBoth F G b ≡ got p t → (b ≡ writeBoth F G p ++ t) × (P (p .0) × Q (p .1))
+  unfolding readBoth writeBoth then
+  tight-both b p t h e =
+      let (x, s, ex, e') = then-got (F .read b) (λ x s. then (G .read s) (λ y t. got (x, y) t)) p t e in
+      let (y, u, ey, ep) = then-got (G .read s) (λ y t. got (x, y) t) p t e' in
+      let m = f .tight b x s h ex in
+      let n = g .tight s y u (left-bytes b (F .write x) s (m .0) h) ey in
+      let q : (x, y) ≡ p = cc in
+      let eu : u ≡ t = cc in
+      let w : b ≡ (F .write x ++ G .write y) ++ u = m .0 ∙ ap (λ (l : List ℕ). F .write x ++ l) (n .0) ∙ sym (append-assoc (F .write x) (G .write y) u) in
+      subst (λ (r : A × B). (b ≡ (F .write (r .0) ++ G .write (r .1)) ++ t) × (P (r .0) × Q (r .1))) q (rw eu at w, (m .1, n .1))
+
+  part-both : (b : List ℕ) → Part (left (readBoth F G b)) b
+  unfolding readBoth left
+  part-both b =
+      then-part (F .read b) (λ x s. then (G .read s) (λ y t. got (x, y) t)) b (f .part b)
+      (λ x s. then-part (G .read s) (λ y t. got (x, y) t) s (g .part s) (λ y t. ([], refl)))
+
+  pub lawful-both : Lawful (both F G) (λ p. P (p .0) × Q (p .1))
+  lawful-both = record { back = back-both; tight = tight-both; part = part-both }
+
+-- ---- as one field
+module _ {A : Type 0} (F : Format A) (P : A → Type 0) (f : Lawful F P) where
+  back-field : (x : A) (t : List ℕ) → P x → startAt (F .write x ++ t) (F .read (F .write x ++ t)) ≡ got x t
+  unfolding startAt
+  back-field x t h = rw (f .back x t h)
+
+  start-got : (b : List ℕ) (o : Out A) (x : A) (t : List ℕ) → startAt b o ≡ got x t → o ≡ got x t
+  unfolding startAt
+  start-got b (got y s) x t e = e
+  start-got b (bad k s) x t e = absurd (no-value k b x t e)
+
+  start-part : (b : List ℕ) (o : Out A) → Part (left o) b → Part (left (startAt b o)) b
+  unfolding startAt left
+  start-part b (got x t) p = p
+  start-part b (bad k t) p = ([], refl)
+
+  pub lawful-field : Lawful (field F) P
+  lawful-field = record { back = back-field; tight = λ b x t h e. f .tight b x t h (start-got b (F .read b) x t e); part = λ b. start-part b (F .read b) (f .part b) }
+
+-- ---- seen as another type
+module _ {A B : Type 0} (F : Format A) (P : A → Type 0) (f : Lawful F P) (to : A → B) (from : B → A) (there : (y : B) → to (from y) ≡ y) (here : (x : A) → from (to x) ≡ x) where
+  back-as : (y : B) (t : List ℕ) → P (from y) → readAs F to from (F .write (from y) ++ t) ≡ got y t
+  unfolding readAs then
+  back-as y t h = rw (f .back (from y) t h, there y)
+
+  tight-as : (b : List ℕ) (y : B) (t : List ℕ) → Bytes b → readAs F to from b ≡ got y t → (b ≡ F .write (from y) ++ t) × P (from y)
+  unfolding readAs
+  tight-as b y t h e =
+      let (x, s, ex, e') = then-got (F .read b) (λ x t. got (to x) t) y t e in
+      let m = f .tight b x s h ex in
+      let q : to x ≡ y = cc in
+      let es : s ≡ t = cc in
+      let w : x ≡ from y = sym (here x) ∙ ap from q in
+      subst (λ (z : A). (b ≡ F .write z ++ t) × P z) w (rw es at (m .0), m .1)
+
+  part-as : (b : List ℕ) → Part (left (readAs F to from b)) b
+  unfolding readAs left
+  part-as b = then-part (F .read b) (λ x t. got (to x) t) b (f .part b) (λ x t. ([], refl))
+
+  pub lawful-as : Lawful (as-type F to from) (λ y. P (from y))
+  lawful-as = record { back = back-as; tight = tight-as; part = part-as }
+
+-- ---- n of one kind
+module _ {A : Type 0} (F : Format A) (P : A → Type 0) (f : Lawful F P) where
+  back-many : (xs : List A) (t : List ℕ) → All P xs → readMany F (length xs) (writeMany F xs ++ t) ≡ got xs t
+  unfolding readMany writeMany then
+  back-many [] t h = refl
+  back-many (x ∷ xs) t h = rw (append-assoc (F .write x) (writeMany F xs) t, f .back x (writeMany F xs ++ t) (h .0), back-many xs t (h .1))
+
+  tight-many : (n : ℕ) (b : List ℕ) (xs : List A) (t : List ℕ) → Bytes b → readMany F n b ≡ got xs t → (b ≡ writeMany F xs ++ t) × ((length xs ≡ n) × All P xs)
+  unfolding readMany writeMany then
+  tight-many zero b xs t h e =
+      let q : [] ≡ xs = cc in
+      let et : b ≡ t = cc in
+      subst (λ (l : List A). (b ≡ writeMany F l ++ t) × ((length l ≡ 0) × All P l)) q (et, (refl, tt))
+  tight-many (suc n) b xs t h e =
+      let (x, s, ex, e') = then-got (F .read b) (λ x s. then (readMany F n s) (λ xs t. got (x ∷ xs) t)) xs t e in
+      let (ys, u, ey, ep) = then-got (readMany F n s) (λ xs t. got (x ∷ xs) t) xs t e' in
+      let m = f .tight b x s h ex in
+      let g = tight-many n s ys u (left-bytes b (F .write x) s (m .0) h) ey in
+      let q : x ∷ ys ≡ xs = cc in
+      let eu : u ≡ t = cc in
+      let w : b ≡ (F .write x ++ writeMany F ys) ++ u = m .0 ∙ ap (λ (l : List ℕ). F .write x ++ l) (g .0) ∙ sym (append-assoc (F .write x) (writeMany F ys) u) in
+      subst (λ (l : List A). (b ≡ writeMany F l ++ t) × ((length l ≡ suc n) × All P l)) q (rw eu at w, (ap suc (g .1 .0), (m .1, g .1 .1)))
+
+  part-many : (n : ℕ) (b : List ℕ) → Part (left (readMany F n b)) b
+  unfolding readMany left
+  part-many zero b = ([], refl)
+  part-many (suc n) b =
+      then-part (F .read b) (λ x s. then (readMany F n s) (λ xs t. got (x ∷ xs) t)) b (f .part b)
+      (λ x s. then-part (readMany F n s) (λ xs t. got (x ∷ xs) t) s (part-many n s) (λ xs t. ([], refl)))
+
+  pub lawful-many : (n : ℕ) → Lawful (many F n) (λ xs. (length xs ≡ n) × All P xs)
+  lawful-many n = record { back = λ xs t h. rw (← (h .0)) (back-many xs t (h .1)); tight = tight-many n; part = part-many n }
+
+-- ---- after a count
+module _ {A : Type 0} (w lo hi : ℕ) (small : hi < 256 ^ w) (F : ℕ → Format A) (size : A → ℕ) (P : ℕ → A → Type 0) (f : (c : ℕ) → Lawful (F c) (P c))
+    (sized : (c : ℕ) (x : A) → lo ≤ c → c ≤ hi → P c x → size x ≡ c) where
+  back-headed : (x : A) (t : List ℕ) → InRange lo hi size P x → readHeaded w lo hi F size (writeHeaded w lo hi F size x ++ t) ≡ got x t
+  unfolding readHeaded writeHeaded then when
+  back-headed x t h =
+      rw (
+        append-assoc (bytesOf w (size x)) (F (size x) .write x) t,
+        back-number w (size x) (F (size x) .write x ++ t) (let m : size x ≤ hi = h .most in omega arith),
+        le-leb lo (size x) (h .least),
+        le-leb (size x) hi (h .most),
+        f (size x) .back x t (h .fits),
+      )
+
+  tight-headed : (b : List ℕ) (x : A) (t : List ℕ) → Bytes b → readHeaded w lo hi F size b ≡ got x t → (b ≡ writeHeaded w lo hi F size x ++ t) × InRange lo hi size P x
+  unfolding readHeaded writeHeaded
+  tight-headed b x t h e =
+      let (c, s, ec, e') = then-got (readNumber w b) (λ c s. when (leb lo c) (when (leb c hi) (F c .read s) (bad 21 b)) (bad 21 b)) x t e in
+      let l = when-got (leb lo c) (when (leb c hi) (F c .read s) (bad 21 b)) 21 b x t e' in
+      let m = when-got (leb c hi) (F c .read s) 21 b x t (l .1) in
+      let k = tight-number w b c s h ec in
+      let g = f c .tight s x t (left-bytes b (bytesOf w c) s (k .0) h) (m .1) in
+      let a : lo ≤ c = leb-true lo c (l .0) in
+      let z : c ≤ hi = leb-true c hi (m .0) in
+      let q : size x ≡ c = sized c x a z (g .1) in
+      let v : b ≡ (bytesOf w c ++ F c .write x) ++ t = k .0 ∙ ap (λ (r : List ℕ). bytesOf w c ++ r) (g .0) ∙ sym (append-assoc (bytesOf w c) (F c .write x) t) in
+      (rw q v, record { least = rw q a; most = rw q z; fits = rw q (g .1) })
+
+  -- (a count out of range is refused where it begins, so what is left is no end of what stands after it: hence the cases)
+  part-headed : (b : List ℕ) → Part (left (readHeaded w lo hi F size b)) b
+  unfolding readHeaded left then
+  part-headed b = by (readNumber w b) (part-number w b)
+    where
+      by : (o : Out ℕ) → Part (left o) b → Part (left (then o (λ c s. when (leb lo c) (when (leb c hi) (F c .read s) (bad 21 b)) (bad 21 b)))) b
+      by (got c s) p =
+          when-part (leb lo c) (when (leb c hi) (F c .read s) (bad 21 b)) 21 b b
+          (when-part (leb c hi) (F c .read s) 21 b b (part-trans (left (F c .read s)) s b (f c .part s) p) ([], refl)) ([], refl)
+      by (bad k t) p = p
+
+  pub lawful-headed : Lawful (headed w lo hi F size) (InRange lo hi size P)
+  lawful-headed = record { back = back-headed; tight = tight-headed; part = part-headed }
+
+-- ---- the whole file
+module _ {A : Type 0} (F : Format A) (P : A → Type 0) (f : Lawful F P) where
+  -- reading what was written gives it back
+  pub file-back : (x : A) → P x → readFile F (F .write x) ≡ got x []
+  unfolding readFile then atEnd
+  file-back x h = ap (λ (o : Out A). then o atEnd) (ap (F .read) (sym (append-nil (F .write x))) ∙ f .back x [] h)
+
+  -- whatever reads whole is what is written of it
+  pub file-tight : (b : List ℕ) (x : A) (t : List ℕ) → Bytes b → readFile F b ≡ got x t → (b ≡ F .write x) × P x
+  unfolding readFile atEnd
+  file-tight b x t h e =
+      let (y, s, ey, e') = then-got (F .read b) atEnd x t e in
+      let (q, r) = end-got y s x t e' in
+      let m = f .tight b y s h ey in
+      subst (λ (z : A). (b ≡ F .write z) × P z) q (m .0 ∙ ap (λ (l : List ℕ). F .write y ++ l) r ∙ append-nil (F .write y), m .1)
+    where
+      end-got : (y : A) (s : List ℕ) (x : A) (t : List ℕ) → atEnd y s ≡ got x t → (y ≡ x) × (s ≡ [])
+      end-got y [] x t e = (cc, refl)
+      end-got y (c ∷ s) x t e = absurd (no-value 22 (c ∷ s) x t e)

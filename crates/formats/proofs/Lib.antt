@@ -1,0 +1,2 @@
+-- The laws of formats: what is written is read back, and what is read is what was written.
+pub mod Formats

@@ -1,0 +1,138 @@
+-- The plan: four sections in a fixed order, each after its count. All numbers are little-endian; counts, ids, kinds and marks have 4 bytes, region fields 8.
+use Prim.Native.Nat.{ℕ, _^_, _<_}
+use mathlib.Core.List.{List, map}
+use Rattle.formats.specs.Formats.{Out, Format, number, both, field, as-type, headed, listed, readFile, InRange, ListFits}
+use Rattle.rules.specs.Limits.{Limits}
+use Rattle.rules.specs.Run.{makeRequest}
+use Rattle.rules.specs.Tables.{Zone}
+use Rattle.rules.specs.declared.Region.{Region}
+use Rattle.rules.specs.declared.Request.{Request}
+
+-- ---- what a plan says
+-- a request's numbers as they stand
+pub record Asked : Type 0 where
+  pub kind : ℕ
+  pub zone : ℕ
+  pub region : Region
+
+pub record Marks : Type 0 where
+  pub gic : ℕ
+  pub edition : ℕ
+
+pub record Plan : Type 0 where
+  pub marks : Marks
+  pub regions : List Region
+  pub zones : List Zone
+  pub asked : List Asked
+
+-- the requests that the numbers make
+abbrev pub requestsOf : Plan → List Request
+requestsOf p = map (λ (a : Asked). makeRequest (a .kind) (a .zone) (a .region)) (p .asked)
+
+-- ---- fields
+-- a count, a mark, an id or a kind
+abbrev pub short : Format ℕ
+short = number 4
+
+abbrev pub long : Format ℕ
+long = number 8
+
+-- v, p, size
+abbrev pub regionTo : ℕ × (ℕ × ℕ) → Region
+regionTo t = record { v = record { 0 = t .0 }; p = record { 0 = t .1 .0 }; size = t .1 .1 }
+
+abbrev pub regionFrom : Region → ℕ × (ℕ × ℕ)
+regionFrom r = (r .v .0, (r .p .0, r .size))
+
+abbrev pub regionNumbers : Format Region
+regionNumbers = as-type (both long (both long long)) regionTo regionFrom
+
+abbrev pub regionField : Format Region
+regionField = field regionNumbers
+
+-- kind, zone id, v, p, size
+abbrev pub askedTo : ℕ × (ℕ × Region) → Asked
+askedTo t = record { kind = t .0; zone = t .1 .0; region = t .1 .1 }
+
+abbrev pub askedFrom : Asked → ℕ × (ℕ × Region)
+askedFrom a = (a .kind, (a .zone, a .region))
+
+abbrev pub askedField : Format Asked
+askedField = field (as-type (both short (both short regionNumbers)) askedTo askedFrom)
+
+-- ---- sections
+-- marks: count 2; GIC position, base edition
+abbrev pub marksTo : ℕ × ℕ → Marks
+marksTo t = record { gic = t .0; edition = t .1 }
+
+abbrev pub marksFrom : Marks → ℕ × ℕ
+marksFrom m = (m .gic, m .edition)
+
+abbrev pub marksSection : Format Marks
+marksSection = headed 4 2 2 (λ c. as-type (both short short) marksTo marksFrom) (λ m. 2)
+
+-- configured regions: at least one
+abbrev pub regionsSection : Limits → Format (List Region)
+regionsSection l = listed 4 1 (l .regions) regionField
+
+-- base zones: each an id, a CPU set and an IOMMU set, both after their counts
+abbrev pub setFormat : Limits → Format (List Region)
+setFormat l = listed 4 0 (l .inSet) regionField
+
+abbrev pub zoneTo : ℕ × (List Region × List Region) → Zone
+zoneTo t = record { id = t .0; cpu = t .1 .0; iommu = t .1 .1 }
+
+abbrev pub zoneFrom : Zone → ℕ × (List Region × List Region)
+zoneFrom z = (z .id, (z .cpu, z .iommu))
+
+abbrev pub zoneFormat : Limits → Format Zone
+zoneFormat l = as-type (both short (both (setFormat l) (setFormat l))) zoneTo zoneFrom
+
+abbrev pub zonesSection : Limits → Format (List Zone)
+zonesSection l = listed 4 0 (l .zones) (zoneFormat l)
+
+-- requests
+abbrev pub requestsSection : Limits → Format (List Asked)
+requestsSection l = listed 4 0 (l .requests) askedField
+
+-- ---- the whole
+abbrev pub planTo : Marks × (List Region × (List Zone × List Asked)) → Plan
+planTo t = record { marks = t .0; regions = t .1 .0; zones = t .1 .1 .0; asked = t .1 .1 .1 }
+
+abbrev pub planFrom : Plan → Marks × (List Region × (List Zone × List Asked))
+planFrom p = (p .marks, (p .regions, (p .zones, p .asked)))
+
+abbrev pub planFormat : Limits → Format Plan
+planFormat l = as-type (both marksSection (both (regionsSection l) (both (zonesSection l) (requestsSection l)))) planTo planFrom
+
+-- the reader and the encoder
+unfoldable pub readPlan : Limits → List ℕ → Out Plan
+readPlan l b = readFile (planFormat l) b
+
+unfoldable pub encode : Limits → Plan → List ℕ
+encode l p = planFormat l .write p
+
+-- ---- a plan that can be written: numbers that their bytes can say, counts within limits
+abbrev pub Short : ℕ → Type 0
+Short n = n < 256 ^ 4
+
+abbrev pub Long : ℕ → Type 0
+Long n = n < 256 ^ 8
+
+abbrev pub RegionFits : Region → Type 0
+RegionFits r = Long (r .v .0) × (Long (r .p .0) × Long (r .size))
+
+abbrev pub AskedFits : Asked → Type 0
+AskedFits a = Short (a .kind) × (Short (a .zone) × RegionFits (a .region))
+
+abbrev pub MarksFit : Marks → Type 0
+MarksFit = InRange 2 2 (λ m. 2) (λ c m. Short (m .gic) × Short (m .edition))
+
+abbrev pub SetFits : Limits → List Region → Type 0
+SetFits l = ListFits 0 (l .inSet) RegionFits
+
+abbrev pub ZoneFits : Limits → Zone → Type 0
+ZoneFits l z = Short (z .id) × (SetFits l (z .cpu) × SetFits l (z .iommu))
+
+abbrev pub PlanFits : Limits → Plan → Type 0
+PlanFits l p = MarksFit (p .marks) × (ListFits 1 (l .regions) RegionFits (p .regions) × (ListFits 0 (l .zones) (ZoneFits l) (p .zones) × ListFits 0 (l .requests) AskedFits (p .asked)))

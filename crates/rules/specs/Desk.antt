@@ -3,7 +3,9 @@ use Prim.Native.Nat.{ℕ}
 use mathlib.Core.Bool.{true}
 use mathlib.Core.List.{List, [], _∷_, map}
 use mathlib.Core.Path.{_≡_}
+use lib.ListN.{replicate}
 use Rattle.lists.specs.Room.{room}
+use Rattle.rules.specs.Applying.{store, plain, apply, Terminal, Applied}
 use Rattle.rules.specs.Configuration.{configOf, check, StoredConfig}
 use Rattle.rules.specs.Limits.{mostRegions}
 use Rattle.rules.specs.Regions.{noRegion}
@@ -67,9 +69,33 @@ starred =
     ∷ record { requests = insert Iommu G 5 ∷ dropZone 5 ∷ remove Iommu G 5 ∷ dropZone 5 ∷ []; numbers = 0 ∷ 8 ∷ 0 ∷ 0 ∷ [] }
     ∷ []
 
--- the claim: the configuration passes its check, the zones are sound, and each example gives its numbers
+-- the whole plan: the GIC only, edition 0, add zone 5
+abbrev pub wholePlan : List ℕ
+wholePlan =
+    2 ∷ 0 ∷ 0 ∷ 0 ∷ 0 ∷ 0 ∷ 0 ∷ 0 ∷ 0 ∷ 0 ∷ 0 ∷ 0
+    ∷ 1 ∷ 0 ∷ 0 ∷ 0
+    ∷ 0 ∷ 0 ∷ 0 ∷ 8 ∷ 0 ∷ 0 ∷ 0 ∷ 0
+    ∷ 0 ∷ 0 ∷ 0 ∷ 8 ∷ 0 ∷ 0 ∷ 0 ∷ 0
+    ∷ 0 ∷ 0 ∷ 1 ∷ 0 ∷ 0 ∷ 0 ∷ 0 ∷ 0
+    ∷ 0 ∷ 0 ∷ 0 ∷ 0
+    ∷ 1 ∷ 0 ∷ 0 ∷ 0 ∷ 1 ∷ 0 ∷ 0 ∷ 0 ∷ 5 ∷ 0 ∷ 0 ∷ 0 ∷ replicate 24 0
+
+-- a terminal with its configuration, edition 0, no zones
+abbrev pub deskTerminal : Terminal
+deskTerminal = record { config = record { count = 1; gic = 0; records = room mostRegions noRegion (G ∷ []) }; table = store []; edition = 0 }
+
+-- the plan once, and again at the state that it leaves
+abbrev pub once : Applied
+once = apply deskTerminal wholePlan
+
+abbrev pub twice : Applied
+twice = apply (once .state) wholePlan
+
+-- the claim: the configuration passes its check, the zones are sound, and each example gives its numbers; the whole plan is accepted, and refused when it comes again
 abbrev pub DeskShown : Type 0
 DeskShown =
     (check deskConfig ≡ Sound)
     × (sound (configOf deskConfig) deskZones ≡ true)
     × (map (λ (s : Shown). answers (configOf deskConfig) deskZones (s .requests)) starred ≡ map (λ (s : Shown). s .numbers) starred)
+    × (once .outcome ≡ plain 0 1)
+    × (twice .outcome ≡ plain 24 0)

@@ -9,5 +9,6 @@ pub mod Requests
 pub mod Run
 pub mod Translation
 pub mod Plan
+pub mod Applying
 pub mod Desk
 pub mod Closure

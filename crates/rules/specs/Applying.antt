@@ -1,0 +1,90 @@
+-- Applying a plan to a terminal's state.
+use Prim.Native.Nat.{ℕ, _+_, _-_, _^_}
+use mathlib.Core.Bool.{Bool, true, false, cond, not, _&&_}
+use mathlib.Core.List.{List, [], _∷_, map}
+use mathlib.Core.Path.{_≡_}
+use lib.Dec.{eqb}
+use lib.ListN.{length}
+use Rattle.lists.specs.Room.{room}
+use Rattle.lists.specs.Rules.{Rule, _when_, firstRule}
+use Rattle.lists.specs.Tests.{allOf}
+use Rattle.formats.specs.Formats.{Out, got, bad}
+use Rattle.rules.specs.Configuration.{configOf, Configuration, StoredConfig}
+use Rattle.rules.specs.Limits.{mostZones, mostInSet, limits}
+use Rattle.rules.specs.Plan.{requestsOf, readPlan, Plan}
+use Rattle.rules.specs.Regions.{regionEq, noRegion}
+use Rattle.rules.specs.Requests.{standing}
+use Rattle.rules.specs.Run.{run, Run}
+use Rattle.rules.specs.Tables.{tableOf, unusedZone, Zone, StoredSet, StoredZone, StoredTable}
+use Rattle.rules.specs.declared.Outcome.{Outcome}
+use Rattle.rules.specs.declared.Region.{Region}
+
+-- the terminal's state
+pub record Terminal : Type 0 where
+  pub config : StoredConfig
+  pub table : StoredTable
+  pub edition : ℕ
+
+-- the highest edition
+abbrev pub lastEdition : ℕ
+lastEdition = 2 ^ 32 - 1
+
+-- ---- a list of zones as it is stored: what is unused is zero
+abbrev pub storeSet : List Region → StoredSet
+storeSet xs = record { count = length xs; records = room mostInSet noRegion xs }
+
+abbrev pub storeZone : Zone → StoredZone
+storeZone z = record { id = z .id; cpu = storeSet (z .cpu); iommu = storeSet (z .iommu) }
+
+abbrev pub store : List Zone → StoredTable
+store t = record { count = length t; zones = room mostZones unusedZone (map storeZone t) }
+
+-- ---- the plan's base and the terminal's
+-- as many, and equal one by one
+unfoldable pub sameList : {A : Type 0} → (A → A → Bool) → List A → List A → Bool
+sameList e [] [] = true
+sameList e [] (y ∷ ys) = false
+sameList e (x ∷ xs) [] = false
+sameList e (x ∷ xs) (y ∷ ys) = e x y && sameList e xs ys
+
+unfoldable pub sameZone : Zone → Zone → Bool
+sameZone y z = allOf (eqb (y .id) (z .id) ∷ sameList regionEq (y .cpu) (z .cpu) ∷ sameList regionEq (y .iommu) (z .iommu) ∷ [])
+
+unfoldable pub sameConfig : Configuration → Plan → Bool
+sameConfig c p = allOf (sameList regionEq (c .regions) (p .regions) ∷ eqb (c .gic) (p .marks .gic) ∷ [])
+
+-- ---- the answer
+-- a number that speaks of no request
+abbrev pub plain : ℕ → ℕ → Outcome
+plain number place = record { number = number; place = place; inner = 0 }
+
+-- 23 to 27 of a plan that reads whole; r is the run of its requests at the terminal's table
+unfoldable pub judged : Terminal → Plan → Run → Outcome
+judged s p r =
+    firstRule
+    (plain 23 0 when not (sameConfig (configOf (s .config)) p)
+    ∷ plain 24 0 when not (eqb (s .edition) (p .marks .edition))
+    ∷ plain 25 0 when eqb (s .edition) lastEdition
+    ∷ plain 26 0 when not (sameList sameZone (tableOf (s .table)) (p .zones))
+    ∷ record { number = 27; place = r .place; inner = r .inner } when not (eqb (r .inner) 0)
+    ∷ [])
+    (plain 0 (r .place))
+
+-- what a terminal answers, and its state afterwards: a refusal leaves it as it was
+pub record Applied : Type 0 where
+  pub outcome : Outcome
+  pub state : Terminal
+
+unfoldable pub moved : Terminal → Run → Terminal
+moved s r = record { config = s .config; table = store (r .table); edition = s .edition + 1 }
+
+unfoldable pub applied : Terminal → Outcome → Run → Applied
+applied s o r = cond (eqb (o .number) 0) (record { outcome = o; state = moved s r }) (record { outcome = o; state = s })
+
+unfoldable pub applyRead : Terminal → List ℕ → Out Plan → Applied
+applyRead s b (bad k left) = record { outcome = plain k (length b - length left); state = s }
+applyRead s b (got p left) = let r : Run = run (configOf (s .config)) (tableOf (s .table)) (requestsOf p) in applied s (judged s p r) r
+
+-- 1 and 2 speak of the terminal's own state, before any byte is read
+unfoldable pub apply : Terminal → List ℕ → Applied
+apply s b = cond (eqb (standing (s .config) (s .table)) 0) (applyRead s b (readPlan limits b)) (record { outcome = plain (standing (s .config) (s .table)) 0; state = s })

@@ -7,5 +7,6 @@ pub mod Requests
 pub mod Keeps
 pub mod Translation
 pub mod Plan
+pub mod Applying
 pub mod Desk
 pub mod Closure

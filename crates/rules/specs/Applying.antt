@@ -59,16 +59,17 @@ abbrev pub plain : ℕ → ℕ → Outcome
 plain number place = record { number = number; place = place; inner = 0 }
 
 -- 23 to 27 of a plan that reads whole; r is the run of its requests at the terminal's table
-unfoldable pub judged : Terminal → Plan → Run → Outcome
-judged s p r =
-    firstRule
-    (plain 23 0 when not (sameConfig (configOf (s .config)) p)
+unfoldable pub judgedRules : Terminal → Plan → Run → List (Rule Outcome)
+judgedRules s p r =
+    plain 23 0 when not (sameConfig (configOf (s .config)) p)
     ∷ plain 24 0 when not (eqb (s .edition) (p .marks .edition))
     ∷ plain 25 0 when eqb (s .edition) lastEdition
     ∷ plain 26 0 when not (sameList sameZone (tableOf (s .table)) (p .zones))
     ∷ record { number = 27; place = r .place; inner = r .inner } when not (eqb (r .inner) 0)
-    ∷ [])
-    (plain 0 (r .place))
+    ∷ []
+
+unfoldable pub judged : Terminal → Plan → Run → Outcome
+judged s p r = firstRule (judgedRules s p r) (plain 0 (r .place))
 
 -- what a terminal answers, and its state afterwards: a refusal leaves it as it was
 pub record Applied : Type 0 where
@@ -88,3 +89,10 @@ applyRead s b (got p left) = let r : Run = run (configOf (s .config)) (tableOf (
 -- 1 and 2 speak of the terminal's own state, before any byte is read
 unfoldable pub apply : Terminal → List ℕ → Applied
 apply s b = cond (eqb (standing (s .config) (s .table)) 0) (applyRead s b (readPlan limits b)) (record { outcome = plain (standing (s .config) (s .table)) 0; state = s })
+
+-- ---- a plan for the terminal's base: it gives that state's configuration, GIC position, edition and zones, order included, whatever its requests
+pub record ForBase (s : Terminal) (p : Plan) : Type 0 where
+  pub regions : configOf (s .config) .regions ≡ p .regions
+  pub gic : configOf (s .config) .gic ≡ p .marks .gic
+  pub edition : s .edition ≡ p .marks .edition
+  pub zones : tableOf (s .table) ≡ p .zones

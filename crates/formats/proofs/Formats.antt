@@ -26,6 +26,8 @@ pub record Lawful {A : Type 0} (F : Format A) (Fits : A → Type 0) : Type 0 whe
   pub tight : (b : List ℕ) (x : A) (t : List ℕ) → Bytes b → F .read b ≡ got x t → (b ≡ F .write x ++ t) × Fits x
   -- a reader only goes forward, also where it refuses
   pub part : (b : List ℕ) → Part (left (F .read b)) b
+  -- no refusal has number 0
+  pub refuses : (b : List ℕ) (k : ℕ) (t : List ℕ) → F .read b ≡ bad k t → k ≡ 0 → ⊥
 
 -- ---- what every reader is made of
 then-part : {A B : Type 0} (o : Out A) (f : A → List ℕ → Out B) (b : List ℕ) → Part (left o) b → ((x : A) (t : List ℕ) → Part (left (f x t)) t) → Part (left (then o f)) b
@@ -50,6 +52,28 @@ when-got : {A : Type 0} (c : Bool) (o : Out A) (k : ℕ) (s : List ℕ) (x : A) 
 unfolding when
 when-got true o k s x t e = (refl, e)
 when-got false o k s x t e = absurd (no-value k s x t e)
+
+-- ---- what a reader that refuses went through
+no-refusal : {A : Type 0} (x : A) (s : List ℕ) (k : ℕ) (t : List ℕ) → got x s ≡ bad k t → ⊥
+no-refusal x s k t e = let z : _≡_ {A = ℕ} 0 1 = cc in omega arith
+
+same-number : {A : Type 0} (j k : ℕ) (s t : List ℕ) → _≡_ {A = Out A} (bad j s) (bad k t) → j ≡ k
+same-number j k s t e = cc
+
+-- (P is what is known of the number of each part's refusals)
+then-bad : {A B : Type 0} (o : Out A) (f : A → List ℕ → Out B) (P : ℕ → Type 0) → ((k : ℕ) (t : List ℕ) → o ≡ bad k t → P k) → ((x : A) (s : List ℕ) (k : ℕ) (t : List ℕ) → f x s ≡ bad k t → P k) → (k : ℕ) (t : List ℕ) → then o f ≡ bad k t → P k
+unfolding then
+then-bad (got x s) f P h g k t e = g x s k t e
+then-bad (bad j s) f P h g k t e = subst P (same-number j k s t e) (h j s refl)
+
+when-bad : {A : Type 0} (c : Bool) (o : Out A) (j : ℕ) (s : List ℕ) (P : ℕ → Type 0) → ((k : ℕ) (t : List ℕ) → o ≡ bad k t → P k) → P j → (k : ℕ) (t : List ℕ) → when c o (bad j s) ≡ bad k t → P k
+unfolding when
+when-bad true o j s P h p k t e = h k t e
+when-bad false o j s P h p k t e = subst P (same-number j k s t e) p
+
+-- a number that is not 0
+abbrev Above : ℕ → Type 0
+Above k = k ≡ 0 → ⊥
 
 -- what is left of bytes is bytes
 left-bytes : (b w t : List ℕ) → b ≡ w ++ t → Bytes b → Bytes t
@@ -82,8 +106,12 @@ module _ (k : ℕ) where
   unfolding readNumber left
   part-number b = when-part (leb k (length b)) (got (little (take k b)) (drop k b)) 20 b b (take k b, sym (take-append-drop k b)) ([], refl)
 
+  refuses-number : (b : List ℕ) (j : ℕ) (t : List ℕ) → readNumber k b ≡ bad j t → Above j
+  unfolding readNumber
+  refuses-number b = when-bad (leb k (length b)) (got (little (take k b)) (drop k b)) 20 b Above (λ j t e. absurd (no-refusal (little (take k b)) (drop k b) j t e)) (λ e. omega arith)
+
   pub lawful-number : Lawful (number k) (λ n. n < 256 ^ k)
-  lawful-number = record { back = back-number; tight = tight-number; part = part-number }
+  lawful-number = record { back = back-number; tight = tight-number; part = part-number; refuses = refuses-number }
 
 -- ---- one after another
 module _ {A B : Type 0} (F : Format A) (G : Format B) (P : A → Type 0) (Q : B → Type 0) (f : Lawful F P) (g : Lawful G Q) where
@@ -109,8 +137,14 @@ module _ {A B : Type 0} (F : Format A) (G : Format B) (P : A → Type 0) (Q : B 
       then-part (F .read b) (λ x s. then (G .read s) (λ y t. got (x, y) t)) b (f .part b)
       (λ x s. then-part (G .read s) (λ y t. got (x, y) t) s (g .part s) (λ y t. ([], refl)))
 
+  refuses-both : (b : List ℕ) (k : ℕ) (t : List ℕ) → readBoth F G b ≡ bad k t → Above k
+  unfolding readBoth
+  refuses-both b =
+      then-bad (F .read b) (λ x s. then (G .read s) (λ y t. got (x, y) t)) Above (f .refuses b)
+      (λ x s. then-bad (G .read s) (λ y t. got (x, y) t) Above (g .refuses s) (λ y u k t e. absurd (no-refusal (x, y) u k t e)))
+
   pub lawful-both : Lawful (both F G) (λ p. P (p .0) × Q (p .1))
-  lawful-both = record { back = back-both; tight = tight-both; part = part-both }
+  lawful-both = record { back = back-both; tight = tight-both; part = part-both; refuses = refuses-both }
 
 -- ---- as one field
 module _ {A : Type 0} (F : Format A) (P : A → Type 0) (f : Lawful F P) where
@@ -128,8 +162,18 @@ module _ {A : Type 0} (F : Format A) (P : A → Type 0) (f : Lawful F P) where
   start-part b (got x t) p = p
   start-part b (bad k t) p = ([], refl)
 
+  start-bad : (b : List ℕ) (o : Out A) → ((k : ℕ) (t : List ℕ) → o ≡ bad k t → Above k) → (k : ℕ) (t : List ℕ) → startAt b o ≡ bad k t → Above k
+  unfolding startAt
+  start-bad b (got x s) h k t e = absurd (no-refusal x s k t e)
+  start-bad b (bad j s) h k t e = subst Above (same-number j k b t e) (h j s refl)
+
   pub lawful-field : Lawful (field F) P
-  lawful-field = record { back = back-field; tight = λ b x t h e. f .tight b x t h (start-got b (F .read b) x t e); part = λ b. start-part b (F .read b) (f .part b) }
+  lawful-field = record {
+    back = back-field;
+    tight = λ b x t h e. f .tight b x t h (start-got b (F .read b) x t e);
+    part = λ b. start-part b (F .read b) (f .part b);
+    refuses = λ b. start-bad b (F .read b) (f .refuses b);
+  }
 
 -- ---- seen as another type
 module _ {A B : Type 0} (F : Format A) (P : A → Type 0) (f : Lawful F P) (to : A → B) (from : B → A) (there : (y : B) → to (from y) ≡ y) (here : (x : A) → from (to x) ≡ x) where
@@ -151,8 +195,12 @@ module _ {A B : Type 0} (F : Format A) (P : A → Type 0) (f : Lawful F P) (to :
   unfolding readAs left
   part-as b = then-part (F .read b) (λ x t. got (to x) t) b (f .part b) (λ x t. ([], refl))
 
+  refuses-as : (b : List ℕ) (k : ℕ) (t : List ℕ) → readAs F to from b ≡ bad k t → Above k
+  unfolding readAs
+  refuses-as b = then-bad (F .read b) (λ x t. got (to x) t) Above (f .refuses b) (λ x s k t e. absurd (no-refusal (to x) s k t e))
+
   pub lawful-as : Lawful (as-type F to from) (λ y. P (from y))
-  lawful-as = record { back = back-as; tight = tight-as; part = part-as }
+  lawful-as = record { back = back-as; tight = tight-as; part = part-as; refuses = refuses-as }
 
 -- ---- n of one kind
 module _ {A : Type 0} (F : Format A) (P : A → Type 0) (f : Lawful F P) where
@@ -184,8 +232,15 @@ module _ {A : Type 0} (F : Format A) (P : A → Type 0) (f : Lawful F P) where
       then-part (F .read b) (λ x s. then (readMany F n s) (λ xs t. got (x ∷ xs) t)) b (f .part b)
       (λ x s. then-part (readMany F n s) (λ xs t. got (x ∷ xs) t) s (part-many n s) (λ xs t. ([], refl)))
 
+  refuses-many : (n : ℕ) (b : List ℕ) (k : ℕ) (t : List ℕ) → readMany F n b ≡ bad k t → Above k
+  unfolding readMany
+  refuses-many zero b k t e = absurd (no-refusal [] b k t e)
+  refuses-many (suc n) b k t e =
+      then-bad (F .read b) (λ x s. then (readMany F n s) (λ xs t. got (x ∷ xs) t)) Above (f .refuses b)
+      (λ x s. then-bad (readMany F n s) (λ xs t. got (x ∷ xs) t) Above (refuses-many n s) (λ xs u k t e. absurd (no-refusal (x ∷ xs) u k t e))) k t e
+
   pub lawful-many : (n : ℕ) → Lawful (many F n) (λ xs. (length xs ≡ n) × All P xs)
-  lawful-many n = record { back = λ xs t h. rw (← (h .0)) (back-many xs t (h .1)); tight = tight-many n; part = part-many n }
+  lawful-many n = record { back = λ xs t h. rw (← (h .0)) (back-many xs t (h .1)); tight = tight-many n; part = part-many n; refuses = refuses-many n }
 
 -- ---- after a count
 module _ {A : Type 0} (w lo hi : ℕ) (small : hi < 256 ^ w) (F : ℕ → Format A) (size : A → ℕ) (P : ℕ → A → Type 0) (f : (c : ℕ) → Lawful (F c) (P c))
@@ -226,8 +281,14 @@ module _ {A : Type 0} (w lo hi : ℕ) (small : hi < 256 ^ w) (F : ℕ → Format
           (when-part (leb c hi) (F c .read s) 21 b b (part-trans (left (F c .read s)) s b (f c .part s) p) ([], refl)) ([], refl)
       by (bad k t) p = p
 
+  refuses-headed : (b : List ℕ) (k : ℕ) (t : List ℕ) → readHeaded w lo hi F size b ≡ bad k t → Above k
+  unfolding readHeaded
+  refuses-headed b =
+      then-bad (readNumber w b) (λ c s. when (leb lo c) (when (leb c hi) (F c .read s) (bad 21 b)) (bad 21 b)) Above (refuses-number w b)
+      (λ c s. when-bad (leb lo c) (when (leb c hi) (F c .read s) (bad 21 b)) 21 b Above (when-bad (leb c hi) (F c .read s) 21 b Above (f c .refuses s) (λ e. omega arith)) (λ e. omega arith))
+
   pub lawful-headed : Lawful (headed w lo hi F size) (InRange lo hi size P)
-  lawful-headed = record { back = back-headed; tight = tight-headed; part = part-headed }
+  lawful-headed = record { back = back-headed; tight = tight-headed; part = part-headed; refuses = refuses-headed }
 
 -- ---- the whole file
 module _ {A : Type 0} (F : Format A) (P : A → Type 0) (f : Lawful F P) where
@@ -248,3 +309,21 @@ module _ {A : Type 0} (F : Format A) (P : A → Type 0) (f : Lawful F P) where
       end-got : (y : A) (s : List ℕ) (x : A) (t : List ℕ) → atEnd y s ≡ got x t → (y ≡ x) × (s ≡ [])
       end-got y [] x t e = (cc, refl)
       end-got y (c ∷ s) x t e = absurd (no-value 22 (c ∷ s) x t e)
+
+  end-bad : (x : A) (s : List ℕ) (k : ℕ) (t : List ℕ) → atEnd x s ≡ bad k t → Above k
+  unfolding atEnd
+  end-bad x [] k t e = absurd (no-refusal x [] k t e)
+  end-bad x (c ∷ s) k t e = subst Above (same-number 22 k (c ∷ s) t e) (λ z. omega arith)
+
+  pub file-refuses : (b : List ℕ) (k : ℕ) (t : List ℕ) → readFile F b ≡ bad k t → k ≡ 0 → ⊥
+  unfolding readFile
+  file-refuses b = then-bad (F .read b) atEnd Above (f .refuses b) end-bad
+
+-- a file that reads whole has nothing left
+pub file-ends : {A : Type 0} (F : Format A) (b : List ℕ) (x : A) (t : List ℕ) → readFile F b ≡ got x t → t ≡ []
+unfolding readFile atEnd
+file-ends {A} F b x t e = let (y, s, ey, e') = then-got (F .read b) atEnd x t e in by y s e'
+  where
+    by : (y : A) (s : List ℕ) → atEnd y s ≡ got x t → t ≡ []
+    by y [] h = cc
+    by y (c ∷ s) h = absurd (no-value 22 (c ∷ s) x t h)

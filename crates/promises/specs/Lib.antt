@@ -5,3 +5,4 @@ pub mod Tables
 pub mod Requests
 pub mod Closure
 pub mod Translation
+pub mod Plans

@@ -5,8 +5,8 @@ use mathlib.Core.List.{List, []}
 use mathlib.Core.Path.{_≡_, refl}
 use lib.ListN.{length}
 use Rattle.lists.specs.Bytes.{Bytes}
-use Rattle.formats.specs.Formats.{got, number, both, as-type, many, listed, Format, All, ListFits}
-use Rattle.formats.proofs.Formats.{Lawful, lawful-number, lawful-both, lawful-field, lawful-as, lawful-many, lawful-headed, file-back, file-tight}
+use Rattle.formats.specs.Formats.{got, bad, number, both, as-type, many, listed, Format, All, ListFits}
+use Rattle.formats.proofs.Formats.{Lawful, lawful-number, lawful-both, lawful-field, lawful-as, lawful-many, lawful-headed, file-back, file-tight, file-refuses, file-ends}
 use Rattle.rules.specs.Limits.{limits, Limits}
 use Rattle.rules.specs.Plan.{short, long, regionTo, regionFrom, regionNumbers, regionField, askedTo, askedFrom, askedField, marksTo, marksFrom, marksSection, regionsSection, setFormat, zoneTo, zoneFrom, zoneFormat, zonesSection, requestsSection, planTo, planFrom, planFormat, readPlan, encode, Short, Long, RegionFits, AskedFits, MarksFit, SetFits, ZoneFits, PlanFits, Asked, Plan}
 use Rattle.rules.specs.Tables.{Zone}
@@ -83,5 +83,13 @@ module _ (l : Limits) (say : Sayable l) where
   unfolding readPlan encode
   no-slack b p t h e = file-tight (planFormat l) (PlanFits l) lawful-plan b p t h e
 
+  pub plan-refuses : (b : List ℕ) (k : ℕ) (t : List ℕ) → readPlan l b ≡ bad k t → k ≡ 0 → ⊥
+  unfolding readPlan
+  plan-refuses b k t e = file-refuses (planFormat l) (PlanFits l) lawful-plan b k t e
+
 pub limits-sayable : Sayable limits
 limits-sayable = record { regions = omega arith; zones = omega arith; inSet = omega arith; requests = omega arith }
+
+pub plan-ends : (l : Limits) (b : List ℕ) (p : Plan) (t : List ℕ) → readPlan l b ≡ got p t → t ≡ []
+unfolding readPlan
+plan-ends l b p t e = file-ends (planFormat l) b p t e

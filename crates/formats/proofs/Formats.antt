@@ -9,8 +9,10 @@ use lib.Dec.{leb}
 use lib.ListN.{length, getD, take, drop, length-append, length-take, take-append-drop}
 use lib.Seq.{take-at, drop-at, getD-append-add}
 use Rattle.lists.specs.Bytes.{little, bytesOf, Bytes}
+use Rattle.lists.specs.Tests.{allOf}
+use Rattle.lists.proofs.Tests.{parts, whole}
 use Rattle.lists.proofs.Bytes.{bytes-take, length-bytes, little-bytes, bytes-little, little-below}
-use Rattle.formats.specs.Formats.{Out, got, bad, left, when, then, Format, readNumber, number, readBoth, writeBoth, both, startAt, field, readAs, as-type, readMany, writeMany, many, readHeaded, writeHeaded, headed, atEnd, readFile, All, InRange}
+use Rattle.formats.specs.Formats.{Out, got, bad, left, when, then, Format, readNumber, number, readBoth, writeBoth, both, startAt, field, readAs, as-type, readMany, writeMany, many, within, readCount, readHeaded, writeHeaded, headed, listed, atEnd, readFile, All, InRange}
 
 -- t is the end of b
 abbrev pub Part : List ℕ → List ℕ → Type 0
@@ -43,7 +45,7 @@ when-part false o k t b p q = q
 no-value : {A : Type 0} (k : ℕ) (s : List ℕ) (x : A) (t : List ℕ) → bad k s ≡ got x t → ⊥
 no-value k s x t e = let z : _≡_ {A = ℕ} 0 1 = cc in omega arith
 
-then-got : {A B : Type 0} (o : Out A) (f : A → List ℕ → Out B) (x : B) (t : List ℕ) → then o f ≡ got x t → (y : A) × (s : List ℕ) × (o ≡ got y s) × (f y s ≡ got x t)
+pub then-got : {A B : Type 0} (o : Out A) (f : A → List ℕ → Out B) (x : B) (t : List ℕ) → then o f ≡ got x t → (y : A) × (s : List ℕ) × (o ≡ got y s) × (f y s ≡ got x t)
 unfolding then
 then-got (got y s) f x t e = (y, s, refl, e)
 then-got (bad k s) f x t e = absurd (no-value k s x t e)
@@ -242,50 +244,81 @@ module _ {A : Type 0} (F : Format A) (P : A → Type 0) (f : Lawful F P) where
   pub lawful-many : (n : ℕ) → Lawful (many F n) (λ xs. (length xs ≡ n) × All P xs)
   lawful-many n = record { back = λ xs t h. rw (← (h .0)) (back-many xs t (h .1)); tight = tight-many n; part = part-many n; refuses = refuses-many n }
 
+-- ---- a count
+module _ (w lo hi : ℕ) where
+  back-count : (c : ℕ) (t : List ℕ) → hi < 256 ^ w → lo ≤ c → c ≤ hi → readCount w lo hi (bytesOf w c ++ t) ≡ got c t
+  unfolding readCount then when within
+  back-count c t small a z = rw (back-number w c t (omega arith), whole (leb lo c ∷ leb c hi ∷ []) (le-leb lo c a, (le-leb c hi z, tt)))
+
+  pub count-got : (b : List ℕ) (c : ℕ) (s : List ℕ) → readCount w lo hi b ≡ got c s → (readNumber w b ≡ got c s) × ((lo ≤ c) × (c ≤ hi))
+  unfolding readCount within
+  count-got b c s e =
+      let (n, u, en, e') = then-got (readNumber w b) (λ c s. when (within lo hi c) (got c s) (bad 21 b)) c s e in
+      let (l, g) = when-got (within lo hi n) (got n u) 21 b c s e' in
+      let q : n ≡ c = cc in
+      let (a, (z, _)) = parts (leb lo n ∷ leb n hi ∷ []) l in
+      (en ∙ g, (rw q at (leb-true lo n a), rw q at (leb-true n hi z)))
+
+  -- (a count out of range is refused where it begins, so what is left is no end of what stands after it: hence the cases)
+  part-count : (b : List ℕ) → Part (left (readCount w lo hi b)) b
+  unfolding readCount left then
+  part-count b = by (readNumber w b) (part-number w b)
+    where
+      by : (o : Out ℕ) → Part (left o) b → Part (left (then o (λ c s. when (within lo hi c) (got c s) (bad 21 b)))) b
+      by (got c s) p = when-part (within lo hi c) (got c s) 21 b b p ([], refl)
+      by (bad k t) p = p
+
+  refuses-count : (b : List ℕ) (k : ℕ) (t : List ℕ) → readCount w lo hi b ≡ bad k t → Above k
+  unfolding readCount
+  refuses-count b =
+      then-bad (readNumber w b) (λ c s. when (within lo hi c) (got c s) (bad 21 b)) Above (refuses-number w b)
+      (λ c s. when-bad (within lo hi c) (got c s) 21 b Above (λ k t e. absurd (no-refusal c s k t e)) (λ e. omega arith))
+
+-- as many are read as were asked for, and each has what every value that is read has
+module _ {A : Type 0} (F : Format A) (P : A → Type 0) (each : (b : List ℕ) (x : A) (t : List ℕ) → F .read b ≡ got x t → P x) where
+  pub many-got : (n : ℕ) (b : List ℕ) (xs : List A) (t : List ℕ) → readMany F n b ≡ got xs t → (length xs ≡ n) × All P xs
+  unfolding readMany
+  many-got zero b xs t e = let q : [] ≡ xs = cc in subst (λ (l : List A). (length l ≡ 0) × All P l) q (refl, tt)
+  many-got (suc n) b xs t e =
+      let (x, s, ex, e') = then-got (F .read b) (λ x s. then (readMany F n s) (λ xs t. got (x ∷ xs) t)) xs t e in
+      let (ys, u, ey, ep) = then-got (readMany F n s) (λ xs t. got (x ∷ xs) t) xs t e' in
+      let g = many-got n s ys u ey in
+      let q : x ∷ ys ≡ xs = cc in
+      subst (λ (l : List A). (length l ≡ suc n) × All P l) q (ap suc (g .0), (each b x s ex, g .1))
+
+  pub listed-got : (w lo hi : ℕ) (b : List ℕ) (xs : List A) (t : List ℕ) → listed w lo hi F .read b ≡ got xs t → (length xs ≤ hi) × All P xs
+  unfolding readHeaded
+  listed-got w lo hi b xs t e =
+      let (c, s, ec, e') = then-got (readCount w lo hi b) (λ c s. readMany F c s) xs t e in
+      let (l, h) = many-got c s xs t e' in
+      let m : c ≤ hi = count-got w lo hi b c s ec .1 .1 in
+      (omega arith, h)
+
 -- ---- after a count
 module _ {A : Type 0} (w lo hi : ℕ) (small : hi < 256 ^ w) (F : ℕ → Format A) (size : A → ℕ) (P : ℕ → A → Type 0) (f : (c : ℕ) → Lawful (F c) (P c))
     (sized : (c : ℕ) (x : A) → lo ≤ c → c ≤ hi → P c x → size x ≡ c) where
   back-headed : (x : A) (t : List ℕ) → InRange lo hi size P x → readHeaded w lo hi F size (writeHeaded w lo hi F size x ++ t) ≡ got x t
-  unfolding readHeaded writeHeaded then when
-  back-headed x t h =
-      rw (
-        append-assoc (bytesOf w (size x)) (F (size x) .write x) t,
-        back-number w (size x) (F (size x) .write x ++ t) (let m : size x ≤ hi = h .most in omega arith),
-        le-leb lo (size x) (h .least),
-        le-leb (size x) hi (h .most),
-        f (size x) .back x t (h .fits),
-      )
+  unfolding readHeaded writeHeaded then
+  back-headed x t h = rw (append-assoc (bytesOf w (size x)) (F (size x) .write x) t, back-count w lo hi (size x) (F (size x) .write x ++ t) small (h .least) (h .most), f (size x) .back x t (h .fits))
 
   tight-headed : (b : List ℕ) (x : A) (t : List ℕ) → Bytes b → readHeaded w lo hi F size b ≡ got x t → (b ≡ writeHeaded w lo hi F size x ++ t) × InRange lo hi size P x
   unfolding readHeaded writeHeaded
   tight-headed b x t h e =
-      let (c, s, ec, e') = then-got (readNumber w b) (λ c s. when (leb lo c) (when (leb c hi) (F c .read s) (bad 21 b)) (bad 21 b)) x t e in
-      let l = when-got (leb lo c) (when (leb c hi) (F c .read s) (bad 21 b)) 21 b x t e' in
-      let m = when-got (leb c hi) (F c .read s) 21 b x t (l .1) in
-      let k = tight-number w b c s h ec in
-      let g = f c .tight s x t (left-bytes b (bytesOf w c) s (k .0) h) (m .1) in
-      let a : lo ≤ c = leb-true lo c (l .0) in
-      let z : c ≤ hi = leb-true c hi (m .0) in
+      let (c, s, ec, e') = then-got (readCount w lo hi b) (λ c s. F c .read s) x t e in
+      let (en, (a, z)) = count-got w lo hi b c s ec in
+      let k = tight-number w b c s h en in
+      let g = f c .tight s x t (left-bytes b (bytesOf w c) s (k .0) h) e' in
       let q : size x ≡ c = sized c x a z (g .1) in
       let v : b ≡ (bytesOf w c ++ F c .write x) ++ t = k .0 ∙ ap (λ (r : List ℕ). bytesOf w c ++ r) (g .0) ∙ sym (append-assoc (bytesOf w c) (F c .write x) t) in
       (rw q v, record { least = rw q a; most = rw q z; fits = rw q (g .1) })
 
-  -- (a count out of range is refused where it begins, so what is left is no end of what stands after it: hence the cases)
   part-headed : (b : List ℕ) → Part (left (readHeaded w lo hi F size b)) b
-  unfolding readHeaded left then
-  part-headed b = by (readNumber w b) (part-number w b)
-    where
-      by : (o : Out ℕ) → Part (left o) b → Part (left (then o (λ c s. when (leb lo c) (when (leb c hi) (F c .read s) (bad 21 b)) (bad 21 b)))) b
-      by (got c s) p =
-          when-part (leb lo c) (when (leb c hi) (F c .read s) (bad 21 b)) 21 b b
-          (when-part (leb c hi) (F c .read s) 21 b b (part-trans (left (F c .read s)) s b (f c .part s) p) ([], refl)) ([], refl)
-      by (bad k t) p = p
+  unfolding readHeaded left
+  part-headed b = then-part (readCount w lo hi b) (λ c s. F c .read s) b (part-count w lo hi b) (λ c s. f c .part s)
 
   refuses-headed : (b : List ℕ) (k : ℕ) (t : List ℕ) → readHeaded w lo hi F size b ≡ bad k t → Above k
   unfolding readHeaded
-  refuses-headed b =
-      then-bad (readNumber w b) (λ c s. when (leb lo c) (when (leb c hi) (F c .read s) (bad 21 b)) (bad 21 b)) Above (refuses-number w b)
-      (λ c s. when-bad (leb lo c) (when (leb c hi) (F c .read s) (bad 21 b)) 21 b Above (when-bad (leb c hi) (F c .read s) 21 b Above (f c .refuses s) (λ e. omega arith)) (λ e. omega arith))
+  refuses-headed b = then-bad (readCount w lo hi b) (λ c s. F c .read s) Above (refuses-count w lo hi b) (λ c s. f c .refuses s)
 
   pub lawful-headed : Lawful (headed w lo hi F size) (InRange lo hi size P)
   lawful-headed = record { back = back-headed; tight = tight-headed; part = part-headed; refuses = refuses-headed }
@@ -319,6 +352,35 @@ module _ {A : Type 0} (F : Format A) (P : A → Type 0) (f : Lawful F P) where
   unfolding readFile
   file-refuses b = then-bad (F .read b) atEnd Above (f .refuses b) end-bad
 
+-- ---- what a reader that is put together went through
+pub both-got : {A B : Type 0} (F : Format A) (G : Format B) (b : List ℕ) (x : A) (y : B) (t : List ℕ) → both F G .read b ≡ got (x, y) t → (s : List ℕ) × (F .read b ≡ got x s) × (G .read s ≡ got y t)
+unfolding readBoth
+both-got {A} {B} F G b x y t e =
+    let (x0, s, ex, f) = then-got (F .read b) (λ x s. then (G .read s) (λ y t. got (x, y) t)) (x, y) t e in
+    let (y0, u, ey, g) = then-got (G .read s) (λ y t. got (x0, y) t) (x, y) t f in
+    let q : _≡_ {A = A × B} (x0, y0) (x, y) = cc in
+    let v : u ≡ t = cc in
+    (s, ex ∙ ap (λ (z : A × B). got (z .0) s) q, ey ∙ ap₂ (λ (z : A × B) (w : List ℕ). got (z .1) w) q v)
+
+pub as-got : {A B : Type 0} (F : Format A) (to : A → B) (from : B → A) → ((x : A) → from (to x) ≡ x) → (b : List ℕ) (y : B) (t : List ℕ) → as-type F to from .read b ≡ got y t → F .read b ≡ got (from y) t
+unfolding readAs
+as-got {A} F to from here b y t e =
+    let (x, s, ex, f) = then-got (F .read b) (λ x t. got (to x) t) y t e in
+    let q : to x ≡ y = cc in
+    let v : s ≡ t = cc in
+    ex ∙ ap₂ (λ (z : A) (w : List ℕ). got z w) (sym (here x) ∙ ap from q) v
+
+pub file-got : {A : Type 0} (F : Format A) (b : List ℕ) (x : A) (t : List ℕ) → readFile F b ≡ got x t → F .read b ≡ got x []
+unfolding readFile atEnd
+file-got {A} F b x t e =
+    let (y, s, ey, f) = then-got (F .read b) atEnd x t e in
+    let (q, r) = end-got y s f in
+    ey ∙ ap₂ (λ (z : A) (w : List ℕ). got z w) q r
+  where
+    end-got : (y : A) (s : List ℕ) → atEnd y s ≡ got x t → (y ≡ x) × (s ≡ [])
+    end-got y [] g = (cc, refl)
+    end-got y (c ∷ s) g = absurd (let q : bad 22 (c ∷ s) ≡ got x t = g in let z : _≡_ {A = ℕ} 0 1 = cc in omega arith)
+
 -- a file that reads whole has nothing left
 pub file-ends : {A : Type 0} (F : Format A) (b : List ℕ) (x : A) (t : List ℕ) → readFile F b ≡ got x t → t ≡ []
 unfolding readFile atEnd
@@ -327,3 +389,8 @@ file-ends {A} F b x t e = let (y, s, ey, e') = then-got (F .read b) atEnd x t e 
     by : (y : A) (s : List ℕ) → atEnd y s ≡ got x t → t ≡ []
     by y [] h = cc
     by y (c ∷ s) h = absurd (no-value 22 (c ∷ s) x t h)
+
+-- a count is judged before its elements: here they are missing, too
+count-first : listed 4 0 1 (number 4) .read (2 ∷ 0 ∷ 0 ∷ 0 ∷ []) ≡ bad 21 (2 ∷ 0 ∷ 0 ∷ 0 ∷ [])
+unfolding readHeaded readCount readNumber within allOf when then little
+count-first = refl

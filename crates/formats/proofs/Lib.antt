@@ -1,2 +1,4 @@
 -- The laws of formats: what is written is read back, and what is read is what was written.
 pub mod Formats
+pub mod Widths
+pub mod Sizes

@@ -7,6 +7,7 @@ use mathlib.Core.Path.{_≡_}
 use lib.Dec.{leb}
 use lib.ListN.{length, take, drop}
 use Rattle.lists.specs.Bytes.{little, bytesOf}
+use Rattle.lists.specs.Tests.{allOf}
 
 -- a value and what is left after it; or a refusal and what is left from the field that it speaks of
 pub data Out (A : Type 0) : Type 0 where
@@ -77,9 +78,15 @@ module _ {A : Type 0} (F : Format A) where
   many n = record { read = readMany n; write = writeMany }
 
 -- ---- a count of w bytes from lo to hi, judged before its elements; then what the count says
+unfoldable pub within : ℕ → ℕ → ℕ → Bool
+within lo hi c = allOf (leb lo c ∷ leb c hi ∷ [])
+
+unfoldable pub readCount : ℕ → ℕ → ℕ → List ℕ → Out ℕ
+readCount w lo hi b = then (readNumber w b) (λ c s. when (within lo hi c) (got c s) (bad 21 b))
+
 module _ {A : Type 0} (w lo hi : ℕ) (F : ℕ → Format A) (size : A → ℕ) where
   unfoldable pub readHeaded : List ℕ → Out A
-  readHeaded b = then (readNumber w b) (λ c s. when (leb lo c) (when (leb c hi) (F c .read s) (bad 21 b)) (bad 21 b))
+  readHeaded b = then (readCount w lo hi b) (λ c s. F c .read s)
 
   unfoldable pub writeHeaded : A → List ℕ
   writeHeaded x = bytesOf w (size x) ++ F (size x) .write x

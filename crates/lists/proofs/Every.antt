@@ -4,8 +4,8 @@ use native.Mathlib.Omega.{arith}
 use mathlib.Core.Bool.{Bool, true, false, not, _&&_, _||_, true≢false}
 use mathlib.Core.List.{List, [], _∷_, _++_, map}
 use mathlib.Core.Logic.{⊎-elim}
-use mathlib.Core.Path.{_≡_, refl, sym, ap, _∙_}
-use lib.ListN.{length, getD, set}
+use mathlib.Core.Path.{_≡_, refl, sym, ap, ap₂, _∙_}
+use lib.ListN.{length, getD, set, replicate, length-replicate, getD-replicate}
 use Rattle.lists.specs.First.{any, all}
 use Rattle.lists.specs.Room.{removeAt}
 use Rattle.lists.proofs.Tests.{both-true, true-both, both-false, false-both, one-true, or-left, or-right}
@@ -185,3 +185,13 @@ pub all-map : {A B : Type 0} (f : A → B) (p : B → Bool) (xs : List A) → al
 unfolding all
 all-map f p [] = refl
 all-map f p (x ∷ xs) = ap (λ (t : Bool). p (f x) && t) (all-map f p xs)
+
+-- as many of one
+pub all-replicate : {A : Type 0} (p : A → Bool) (n : ℕ) (x : A) → p x ≡ true → all p (replicate n x) ≡ true
+all-replicate p n x e = all-make p (replicate n x) x (λ i h. ap p (getD-replicate n i x x (omega (arith, length-replicate n x))) ∙ e)
+
+-- an image that is read back
+pub map-back : {A B : Type 0} (p : A → Bool) (f : A → B) (g : B → A) → ((x : A) → p x ≡ true → g (f x) ≡ x) → (xs : List A) → all p xs ≡ true → map g (map f xs) ≡ xs
+unfolding all
+map-back p f g back [] e = refl
+map-back {A = A} p f g back (x ∷ xs) e = let h = both-true (p x) (all p xs) e in ap₂ (λ (y : A) (ys : List A). y ∷ ys) (back x (h .0)) (map-back p f g back xs (h .1))

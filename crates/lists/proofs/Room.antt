@@ -8,7 +8,7 @@ use mathlib.Core.Path.{_≡_, refl, sym, ap, ap₂, _∙_}
 use borrow.Author.Tests.{ltb-true, ltb-false}
 use lib.Dec.{ltb}
 use lib.ListN.{length, getD, take, drop, set, length-append, length-take, length-drop, length-set, replicate, length-replicate, getD-replicate, replicate-append-replicate, List·getD-append}
-use lib.Seq.{take-append-le, drop-append-le, take-append-add, getD-append-add, set-append-left, getD-take, getD-drop, ext-getD, take-at}
+use lib.Seq.{take-append-le, drop-append-seam, drop-append-le, take-append-add, getD-append-add, set-append-left, getD-take, getD-drop, ext-getD, take-at}
 use Rattle.lists.specs.First.{firstIndex, firstFrom, any}
 use Rattle.lists.specs.Places.{tab}
 use Rattle.lists.specs.Room.{room, removeAt}
@@ -70,6 +70,10 @@ module _ {A : Type 0} where
     -- what was put there is read back
     pub room-back : (xs : List A) → length xs ≤ n → take (length xs) (room n z xs) ≡ xs
     room-back xs h = ap (take (length xs)) (room-rest xs h) ∙ take-at xs (replicate (n - length xs) z) (length xs) refl
+
+    -- and what follows it is z
+    pub room-after : (xs : List A) → length xs ≤ n → drop (length xs) (room n z xs) ≡ replicate (n - length xs) z
+    room-after xs h = ap (drop (length xs)) (room-rest xs h) ∙ drop-append-seam xs (replicate (n - length xs) z)
 
     pub room-at : (xs : List A) (k : ℕ) (d : A) → k < length xs → length xs ≤ n → getD (room n z xs) k d ≡ getD xs k d
     room-at xs k d h b = ap (λ (l : List A). getD l k d) (room-rest xs b) ∙ List·getD-append xs (replicate (n - length xs) z) d k h

@@ -1,21 +1,20 @@
 -- Applying a plan: what the comparisons of bases mean, and what each answer leaves.
-use Prim.Native.Nat.{ℕ, _<_}
+use Prim.Native.Nat.{ℕ}
 use native.Mathlib.Omega.{arith}
-use mathlib.Core.Bool.{Bool, true, false, cond, not, true≢false}
+use mathlib.Core.Bool.{Bool, true, false, cond, true≢false}
 use mathlib.Core.List.{List, [], _∷_}
 use mathlib.Core.Path.{_≡_, refl, sym, ap, ap₂, _∙_}
 use borrow.Author.Tests.{eqb-true, eqb-false, eq-eqb, ne-eqb, not-false}
 use lib.Dec.{eqb}
-use Rattle.lists.specs.Rules.{Rule, _when_, firstRule}
+use Rattle.lists.specs.Rules.{_when_, firstRule}
 use Rattle.lists.proofs.Rules.{Quiet, quiet-answer}
 use Rattle.lists.proofs.Tests.{both-true, true-both, parts, whole, not-holds}
 use Rattle.rules.specs.Applying.{lastEdition, sameList, sameZone, sameConfig, plain, judgedRules, judged, Terminal, ForBase}
 use Rattle.rules.specs.Configuration.{configOf}
 use Rattle.rules.specs.Plan.{Plan}
 use Rattle.rules.specs.Regions.{regionEq}
-use Rattle.rules.specs.Run.{Run}
+use Rattle.rules.specs.Run.{ended, Run}
 use Rattle.rules.specs.Tables.{tableOf, Zone}
-use Rattle.rules.specs.declared.Outcome.{Outcome}
 use Rattle.rules.specs.declared.Region.{Region}
 use Rattle.rules.proofs.Regions.{equal-same, equal-refl}
 
@@ -33,7 +32,7 @@ module _ {A : Type 0} (e : A → A → Bool) where
   list-same f [] = refl
   list-same f (x ∷ xs) = true-both (e x x) (sameList e xs xs) (f x) (list-same f xs)
 
-same-zone : (y z : Zone) → sameZone y z ≡ true → y ≡ z
+pub same-zone : (y z : Zone) → sameZone y z ≡ true → y ≡ z
 unfolding sameZone
 same-zone y z h =
     let p = parts _ h in
@@ -42,30 +41,40 @@ same-zone y z h =
     let d : y .iommu ≡ z .iommu = same-list regionEq equal-same (y .iommu) (z .iommu) (p .1 .1 .0) in
     (λ k. record { id = i k; cpu = c k; iommu = d k })
 
-zone-same : (z : Zone) → sameZone z z ≡ true
+pub zone-same : (z : Zone) → sameZone z z ≡ true
 unfolding sameZone
 zone-same z = whole _ (eq-eqb (z .id) (z .id) refl, (list-same regionEq equal-refl (z .cpu), (list-same regionEq equal-refl (z .iommu), tt)))
 
 -- ---- 0 is answered exactly for the base, below the last edition, with requests that are all accepted
 module _ (s : Terminal) (p : Plan) (r : Run) where
-  -- answered 0: no number applies
-  judged-well : judged s p r .number ≡ 0 → Quiet (judgedRules s p r)
+  -- answered 0: no number applies, and the run has none either
+  judged-well : judged s p r .number ≡ 0 → Quiet (judgedRules s p) × (ended r .number ≡ 0)
   unfolding judged judgedRules firstRule
-  judged-well e = by _ _ _ _ _ e
+  judged-well e = by _ _ _ _ e
     where
-      by : (u v w x y : Bool) → firstRule (plain 23 0 when u ∷ plain 24 0 when v ∷ plain 25 0 when w ∷ plain 26 0 when x ∷ record { number = 27; place = r .place; inner = r .inner } when y ∷ []) (plain 0 (r .place)) .number ≡ 0
-          → (u ≡ false) × ((v ≡ false) × ((w ≡ false) × ((x ≡ false) × ((y ≡ false) × Unit {0}))))
-      by true v w x y h = absurd (omega arith)
-      by false true w x y h = absurd (omega arith)
-      by false false true x y h = absurd (omega arith)
-      by false false false true y h = absurd (omega arith)
-      by false false false false true h = absurd (omega arith)
-      by false false false false false h = (refl, (refl, (refl, (refl, (refl, tt)))))
+      by : (u v w x : Bool) → firstRule (plain 23 0 when u ∷ plain 24 0 when v ∷ plain 25 0 when w ∷ plain 26 0 when x ∷ []) (ended r) .number ≡ 0 → ((u ≡ false) × ((v ≡ false) × ((w ≡ false) × ((x ≡ false) × Unit {0})))) × (ended r .number ≡ 0)
+      by true v w x h = absurd (omega arith)
+      by false true w x h = absurd (omega arith)
+      by false false true x h = absurd (omega arith)
+      by false false false true h = absurd (omega arith)
+      by false false false false h = ((refl, (refl, (refl, (refl, tt)))), h)
+
+  ended-well : ended r .number ≡ 0 → r .inner ≡ 0
+  unfolding ended
+  ended-well e = by (eqb (r .inner) 0) refl e
+    where
+      by : (t : Bool) → eqb (r .inner) 0 ≡ t → _≡_ {A = ℕ} (cond t 0 27) 0 → r .inner ≡ 0
+      by true h g = eqb-true _ _ h
+      by false h g = absurd (omega arith)
+
+  well-ended : r .inner ≡ 0 → ended r ≡ plain 0 (r .place)
+  unfolding ended
+  well-ended e = (λ i. record { number = cond (eqb (e i) 0) 0 27; place = r .place; inner = e i })
 
   pub accepted-for-base : judged s p r .number ≡ 0 → ForBase s p × (s .edition ≡ lastEdition → ⊥) × (r .inner ≡ 0)
   unfolding judgedRules sameConfig
   accepted-for-base e =
-      let q = judged-well e in
+      let (q, well) = judged-well e in
       let c = parts _ (not-false _ (q .0)) in (
         record {
           regions = same-list regionEq equal-same _ _ (c .0);
@@ -74,7 +83,7 @@ module _ (s : Terminal) (p : Plan) (r : Run) where
           zones = same-list sameZone same-zone _ _ (not-false _ (q .1 .1 .1 .0));
         },
         eqb-false _ _ (q .1 .1 .0),
-        eqb-true _ _ (not-false _ (q .1 .1 .1 .1 .0)),
+        ended-well well,
       )
 
   pub for-base-accepted : ForBase s p → (s .edition ≡ lastEdition → ⊥) → r .inner ≡ 0 → judged s p r ≡ plain 0 (r .place)
@@ -83,5 +92,6 @@ module _ (s : Terminal) (p : Plan) (r : Run) where
       let c : sameList regionEq (configOf (s .config) .regions) (p .regions) ≡ true = ap (λ (l : List Region). sameList regionEq l (p .regions)) (b .regions) ∙ list-same regionEq equal-refl (p .regions) in
       let z : sameList sameZone (tableOf (s .table)) (p .zones) ≡ true = ap (λ (l : List Zone). sameList sameZone l (p .zones)) (b .zones) ∙ list-same sameZone zone-same (p .zones) in
       sym
-      (quiet-answer (judgedRules s p r) (plain 0 (r .place))
-      (not-holds _ (whole _ (c, (eq-eqb _ _ (b .gic), tt))), (not-holds _ (eq-eqb _ _ (b .edition)), (ne-eqb _ _ last, (not-holds _ z, (not-holds _ (eq-eqb _ _ inner), tt))))))
+      (quiet-answer (judgedRules s p) (ended r)
+      (not-holds _ (whole _ (c, (eq-eqb _ _ (b .gic), tt))), (not-holds _ (eq-eqb _ _ (b .edition)), (ne-eqb _ _ last, (not-holds _ z, tt)))))
+      ∙ well-ended inner

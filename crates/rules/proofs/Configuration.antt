@@ -146,9 +146,13 @@ module _ (s : StoredConfig) (full : length (s .records) ≡ mostRegions) (e : ch
   unfolding check
   tests-fail = quiet (checkRules s) Sound first-telling e
 
-  few : s .count ≤ mostRegions
+  pub few-counted : s .count ≤ mostRegions
   unfolding checkRules
-  few = ltb-false _ _ (both-false (eqb (s .count) 0) _ (tests-fail .0) .1)
+  few-counted = ltb-false _ _ (both-false (eqb (s .count) 0) _ (tests-fail .0) .1)
+
+  pub rest-unused : any used (drop (s .count) (s .records)) ≡ false
+  unfolding checkRules
+  rest-unused = tests-fail .1 .1 .0
 
   at-position : (i : ℕ) → i < s .count → Quiet (positionRules (s .records) i)
   unfolding checkRules
@@ -165,7 +169,7 @@ module _ (s : StoredConfig) (full : length (s .records) ≡ mostRegions) (e : ch
   clear : (i j : ℕ) → j < i → i < s .count → physOverlap (getD (s .records) i noRegion) (getD (s .records) j noRegion) ≡ false
   unfolding positionRules
   clear i j h l =
-      let w : j < length (take i (s .records)) = omega (arith, length-take i (s .records), few) in
+      let w : j < length (take i (s .records)) = omega (arith, length-take i (s .records), few-counted) in
       ap (physOverlap (getD (s .records) i noRegion)) (sym (getD-take i (s .records) j noRegion h)) ∙ none-at (physOverlap (getD (s .records) i noRegion)) (take i (s .records)) noRegion (at-position i l .1 .1 .0) j w
 
   clear-both : (i j : ℕ) → i < s .count → j < s .count → (i ≡ j → ⊥) → physOverlap (getD (s .records) i noRegion) (getD (s .records) j noRegion) ≡ false
@@ -175,7 +179,7 @@ module _ (s : StoredConfig) (full : length (s .records) ≡ mostRegions) (e : ch
   pub passed : SoundConfiguration (configOf s)
   unfolding checkRules positionRules configOf
   passed = record {
-    most = (let f : s .count ≤ mostRegions = few in omega (arith, many));
+    most = (let f : s .count ≤ mostRegions = few-counted in omega (arith, many));
     gic = (let g : s .gic < s .count = leb-false _ _ (tests-fail .1 .0) in omega (arith, many));
     formed = λ i h. let l : i < s .count = omega (arith, many) in ap wellFormed (held-at i l) ∙ not-false _ (at-position i l .0);
     near = λ i h. let l : i < s .count = omega (arith, many) in ap inReach (held-at i l) ∙ not-false _ (at-position i l .1 .0);

@@ -5,8 +5,12 @@ pub mod Configuration
 pub mod Tables
 pub mod Requests
 pub mod Keeps
+pub mod Stored
 pub mod Translation
 pub mod Plan
+pub mod Sizes
 pub mod Applying
+pub mod Planner
 pub mod Desk
+pub mod Story
 pub mod Closure

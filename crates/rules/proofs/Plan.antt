@@ -41,7 +41,7 @@ module _ {A : Type 0} (lo hi : ℕ) (small : hi < 256 ^ 4) (F : Format A) (P : A
   lawful-list : Lawful (listed 4 lo hi F) (ListFits lo hi P)
   lawful-list = lawful-headed 4 lo hi small (many F) length (λ n xs. (length xs ≡ n) × All P xs) (lawful-many F P f) (λ c xs a z h. h .0)
 
-lawful-marks : Lawful marksSection MarksFit
+pub lawful-marks : Lawful marksSection MarksFit
 lawful-marks =
     lawful-headed 4 2 2 (omega arith) (λ c. as-type (both short short) marksTo marksFrom) (λ m. 2) (λ c m. Short (m .gic) × Short (m .edition))
     (λ c. lawful-as (both short short) (λ t. Short (t .0) × Short (t .1)) (lawful-both short short Short Short (lawful-number 4) (lawful-number 4)) marksTo marksFrom (λ m. refl) (λ t. refl))
@@ -66,12 +66,21 @@ module _ (l : Limits) (say : Sayable l) where
   abbrev Requests : List Asked → Type 0
   Requests = ListFits 0 (l .requests) AskedFits
 
+  pub lawful-regions : Lawful (regionsSection l) Regions
+  lawful-regions = lawful-list 1 (l .regions) (say .regions) regionField RegionFits lawful-region-field
+
+  pub lawful-zones : Lawful (zonesSection l) Zones
+  lawful-zones = lawful-list 0 (l .zones) (say .zones) (zoneFormat l) (ZoneFits l) lawful-zone
+
+  pub lawful-requests : Lawful (requestsSection l) Requests
+  lawful-requests = lawful-list 0 (l .requests) (say .requests) askedField AskedFits lawful-asked
+
   lawful-plan : Lawful (planFormat l) (PlanFits l)
   lawful-plan =
       lawful-as (both marksSection (both (regionsSection l) (both (zonesSection l) (requestsSection l)))) (λ t. MarksFit (t .0) × (Regions (t .1 .0) × (Zones (t .1 .1 .0) × Requests (t .1 .1 .1))))
       (lawful-both marksSection (both (regionsSection l) (both (zonesSection l) (requestsSection l))) MarksFit (λ t. Regions (t .0) × (Zones (t .1 .0) × Requests (t .1 .1))) lawful-marks
-      (lawful-both (regionsSection l) (both (zonesSection l) (requestsSection l)) Regions (λ t. Zones (t .0) × Requests (t .1)) (lawful-list 1 (l .regions) (say .regions) regionField RegionFits lawful-region-field)
-      (lawful-both (zonesSection l) (requestsSection l) Zones Requests (lawful-list 0 (l .zones) (say .zones) (zoneFormat l) (ZoneFits l) lawful-zone) (lawful-list 0 (l .requests) (say .requests) askedField AskedFits lawful-asked))))
+      (lawful-both (regionsSection l) (both (zonesSection l) (requestsSection l)) Regions (λ t. Zones (t .0) × Requests (t .1)) lawful-regions
+      (lawful-both (zonesSection l) (requestsSection l) Zones Requests lawful-zones lawful-requests)))
       planTo planFrom (λ p. refl) (λ t. refl)
 
   -- ---- the two laws

@@ -10,11 +10,11 @@ use Rattle.lists.specs.Rules.{Rule, _when_, firstRule}
 use Rattle.lists.specs.Tests.{allOf}
 use Rattle.formats.specs.Formats.{Out, got, bad}
 use Rattle.rules.specs.Configuration.{configOf, Configuration, StoredConfig}
-use Rattle.rules.specs.Limits.{mostZones, mostInSet, limits}
+use Rattle.rules.specs.Limits.{mostRegions, mostZones, mostInSet, limits}
 use Rattle.rules.specs.Plan.{requestsOf, readPlan, Plan}
 use Rattle.rules.specs.Regions.{regionEq, noRegion}
 use Rattle.rules.specs.Requests.{standing}
-use Rattle.rules.specs.Run.{run, Run}
+use Rattle.rules.specs.Run.{run, ended, Run}
 use Rattle.rules.specs.Tables.{tableOf, unusedZone, Zone, StoredSet, StoredZone, StoredTable}
 use Rattle.rules.specs.declared.Outcome.{Outcome}
 use Rattle.rules.specs.declared.Region.{Region}
@@ -58,18 +58,18 @@ sameConfig c p = allOf (sameList regionEq (c .regions) (p .regions) ∷ eqb (c .
 abbrev pub plain : ℕ → ℕ → Outcome
 plain number place = record { number = number; place = place; inner = 0 }
 
--- 23 to 27 of a plan that reads whole; r is the run of its requests at the terminal's table
-unfoldable pub judgedRules : Terminal → Plan → Run → List (Rule Outcome)
-judgedRules s p r =
+-- 23 to 26 of a plan that reads whole
+unfoldable pub judgedRules : Terminal → Plan → List (Rule Outcome)
+judgedRules s p =
     plain 23 0 when not (sameConfig (configOf (s .config)) p)
     ∷ plain 24 0 when not (eqb (s .edition) (p .marks .edition))
     ∷ plain 25 0 when eqb (s .edition) lastEdition
     ∷ plain 26 0 when not (sameList sameZone (tableOf (s .table)) (p .zones))
-    ∷ record { number = 27; place = r .place; inner = r .inner } when not (eqb (r .inner) 0)
     ∷ []
 
+-- then 27 or 0, as the run of its requests at the terminal's table ended
 unfoldable pub judged : Terminal → Plan → Run → Outcome
-judged s p r = firstRule (judgedRules s p r) (plain 0 (r .place))
+judged s p r = firstRule (judgedRules s p) (ended r)
 
 -- what a terminal answers, and its state afterwards: a refusal leaves it as it was
 pub record Applied : Type 0 where
@@ -89,6 +89,21 @@ applyRead s b (got p left) = let r : Run = run (configOf (s .config)) (tableOf (
 -- 1 and 2 speak of the terminal's own state, before any byte is read
 unfoldable pub apply : Terminal → List ℕ → Applied
 apply s b = cond (eqb (standing (s .config) (s .table)) 0) (applyRead s b (readPlan limits b)) (record { outcome = plain (standing (s .config) (s .table)) 0; state = s })
+
+-- ---- the plan's own base: a state with its configuration, edition and zones
+abbrev pub storeConfig : Configuration → StoredConfig
+storeConfig c = record { count = length (c .regions); gic = c .gic; records = room mostRegions noRegion (c .regions) }
+
+abbrev pub baseOf : Plan → Terminal
+baseOf p = record { config = storeConfig (record { regions = p .regions; gic = p .marks .gic }); table = store (p .zones); edition = p .marks .edition }
+
+-- what is answered where there is no terminal: 20, 21 or 22; then the plan applied to its own base
+unfoldable pub answerRead : List ℕ → Out Plan → Outcome
+answerRead b (bad k left) = plain k (length b - length left)
+answerRead b (got p left) = apply (baseOf p) b .outcome
+
+unfoldable pub answerAlone : List ℕ → Outcome
+answerAlone b = answerRead b (readPlan limits b)
 
 -- ---- a plan for the terminal's base: it gives that state's configuration, GIC position, edition and zones, order included, whatever its requests
 pub record ForBase (s : Terminal) (p : Plan) : Type 0 where

@@ -9,6 +9,9 @@ pub mod Requests
 pub mod Run
 pub mod Translation
 pub mod Plan
+pub mod Sizes
 pub mod Applying
+pub mod Planner
 pub mod Desk
+pub mod Story
 pub mod Closure

@@ -26,8 +26,11 @@ pub record Plan : Type 0 where
   pub asked : List Asked
 
 -- the requests that the numbers make
+abbrev pub requestsFrom : List Asked → List Request
+requestsFrom q = map (λ (a : Asked). makeRequest (a .kind) (a .zone) (a .region)) q
+
 abbrev pub requestsOf : Plan → List Request
-requestsOf p = map (λ (a : Asked). makeRequest (a .kind) (a .zone) (a .region)) (p .asked)
+requestsOf p = requestsFrom (p .asked)
 
 -- ---- fields
 -- a count, a mark, an id or a kind

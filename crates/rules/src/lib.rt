@@ -47,6 +47,7 @@ pub struct Request {
 }
 
 // What a run of requests answers: a number, the place that it speaks of, and the number of the request that was refused, or 0.
+#[repr(C)]
 pub struct Outcome {
     pub number: u32,
     pub place: usize,

@@ -12,3 +12,5 @@ pub const MOST_ZONES: usize = 8;
 pub const HIGHEST_ID: u64 = 255;
 
 pub const MOST_IN_SET: usize = 16;
+
+pub const MOST_REQUESTS: u32 = 1024;

@@ -1,0 +1,91 @@
+-- The planner's plans: one that may be asked for fits into its bytes, is for the terminal's base, and reads as what it says.
+use Prim.Native.Nat.{ℕ, suc, _+_, _≤_, _<_}
+use native.Mathlib.Omega.{arith}
+use mathlib.Core.Bool.{Bool, true}
+use mathlib.Core.List.{List, [], _∷_}
+use mathlib.Core.Path.{_≡_, refl, ap, _∙_}
+use borrow.Author.Tests.{leb-true}
+use lib.ListN.{length, getD}
+use Rattle.lists.specs.First.{all}
+use Rattle.lists.proofs.Tests.{both-true, parts}
+use Rattle.formats.specs.Formats.{got, All, ListFits}
+use Rattle.rules.specs.Applying.{lastEdition, Terminal, ForBase}
+use Rattle.rules.specs.Configuration.{configOf, Configuration}
+use Rattle.rules.specs.Limits.{guestReach, physReach, mostRegions, mostZones, highestId, limits}
+use Rattle.rules.specs.Plan.{readPlan, RegionFits, MarksFit, SetFits, ZoneFits, PlanFits, Asked}
+use Rattle.rules.specs.Planner.{planFor, planBytes, MayAsk}
+use Rattle.rules.specs.Regions.{inReach, noRegion}
+use Rattle.rules.specs.Requests.{standing}
+use Rattle.rules.specs.Tables.{tableOf, configured, soundSet, soundZone, Zone}
+use Rattle.rules.specs.declared.Region.{Region}
+use Rattle.rules.proofs.Configuration.{passed, SoundConfiguration}
+use Rattle.rules.proofs.Keeps.{SoundTable}
+use Rattle.rules.proofs.Plan.{read-encoded, limits-sayable}
+use Rattle.rules.proofs.Stored.{stands-well}
+use Rattle.rules.proofs.Tables.{configured-at}
+
+-- ---- every element, by its place or by a test
+module _ {A : Type 0} (P : A → Type 0) where
+  all-places : (xs : List A) (d : A) → ((i : ℕ) → i < length xs → P (getD xs i d)) → All P xs
+  all-places [] d f = tt
+  all-places (x ∷ xs) d f = (f 0 (omega arith), all-places xs d (λ i h. f (suc i) (omega arith)))
+
+  all-passing : (p : A → Bool) → ((x : A) → p x ≡ true → P x) → (xs : List A) → all p xs ≡ true → All P xs
+  unfolding all
+  all-passing p f [] e = tt
+  all-passing p f (x ∷ xs) e = let h = both-true (p x) (all p xs) e in (f x (h .0), all-passing p f xs (h .1))
+
+-- ---- what is sound fits
+reach-fits : (r : Region) → inReach r ≡ true → RegionFits r
+unfolding inReach
+reach-fits r e =
+    let h = parts _ e in
+    let a : r .v .0 + r .size ≤ guestReach = leb-true _ _ (h .0) in
+    let b : r .p .0 + r .size ≤ physReach = leb-true _ _ (h .1 .0) in
+    (omega arith, (omega arith, omega arith))
+
+module _ (c : Configuration) (ok : SoundConfiguration c) where
+  configured-fits : (r : Region) → configured c r ≡ true → RegionFits r
+  configured-fits r e = let (i, h, q) = configured-at c ok r e in reach-fits r (ap inReach q ∙ ok .near i h)
+
+  regions-fit : ListFits 1 mostRegions RegionFits (c .regions)
+  regions-fit = record {
+    least = (let g : c .gic < length (c .regions) = ok .gic in omega arith);
+    most = ok .most;
+    fits = (refl, all-places RegionFits (c .regions) noRegion (λ i h. reach-fits (getD (c .regions) i noRegion) (ok .near i h)));
+  }
+
+  set-fits : (xs : List Region) → soundSet c xs ≡ true → SetFits limits xs
+  unfolding soundSet
+  set-fits xs e = let h = parts _ e in record { least = omega arith; most = leb-true _ _ (h .0); fits = (refl, all-passing RegionFits (configured c) configured-fits xs (h .1 .0)) }
+
+  zone-fits : (z : Zone) → soundZone c z ≡ true → ZoneFits limits z
+  unfolding soundZone
+  zone-fits z e =
+      let h = parts _ e in
+      let i : z .id ≤ highestId = leb-true _ _ (h .0) in
+      (omega arith, (set-fits (z .cpu) (h .1 .0), set-fits (z .iommu) (h .1 .1 .0)))
+
+  zones-fit : (t : List Zone) → SoundTable c t → ListFits 0 mostZones (ZoneFits limits) t
+  zones-fit t s = record { least = omega arith; most = s .few; fits = (refl, all-passing (ZoneFits limits) (soundZone c) zone-fits t (s .zones)) }
+
+-- ---- the planner's plan
+module _ (s : Terminal) (q : List Asked) (full : length (s .config .records) ≡ mostRegions) (e : standing (s .config) (s .table) ≡ 0) (may : MayAsk s q) where
+  config-ok : SoundConfiguration (configOf (s .config))
+  config-ok = passed (s .config) full (stands-well (s .config) (s .table) e .0)
+
+  marks-fit : MarksFit (planFor s q .marks)
+  marks-fit =
+      let g : configOf (s .config) .gic < length (configOf (s .config) .regions) = config-ok .gic in
+      let l : length (configOf (s .config) .regions) ≤ mostRegions = config-ok .most in
+      let n : s .edition < lastEdition = may .edition in
+      record { least = omega arith; most = omega arith; fits = (omega arith, omega arith) }
+
+  plan-fits : PlanFits limits (planFor s q)
+  plan-fits = (marks-fit, (regions-fit (configOf (s .config)) config-ok, (zones-fit (configOf (s .config)) config-ok (tableOf (s .table)) (stands-well (s .config) (s .table) e .1), may .fits)))
+
+  pub plan-reads : readPlan limits (planBytes s q) ≡ got (planFor s q) []
+  plan-reads = read-encoded limits limits-sayable (planFor s q) plan-fits
+
+pub plan-for-base : (s : Terminal) (q : List Asked) → ForBase s (planFor s q)
+plan-for-base s q = record { regions = refl; gic = refl; edition = refl; zones = refl }

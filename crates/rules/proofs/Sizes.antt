@@ -1,0 +1,127 @@
+-- The length of a plan's bytes: what its contents say, and between the least and the longest that the limits give.
+use Prim.Native.Nat.{ℕ, _+_, _*_, _≤_}
+use native.Mathlib.Nat.{mul-le-mul-right}
+use native.Mathlib.Omega.{arith}
+use mathlib.Core.List.{List}
+use mathlib.Core.Path.{_≡_, refl, ap, _∙_}
+use lib.ListN.{length, replicate, length-replicate}
+use Rattle.lists.specs.Bytes.{Bytes}
+use Rattle.formats.specs.Formats.{got, both, as-type, listed, Format, ListFits}
+use Rattle.formats.specs.Sizes.{total}
+use Rattle.formats.proofs.Sizes.{sized-number, sized-both, sized-headed, sized-listed, total-same, total-most, total-replicate, all-replicate, Sized}
+use Rattle.rules.specs.Limits.{Limits}
+use Rattle.rules.specs.Plan.{short, long, regionNumbers, regionField, askedField, marksTo, marksFrom, marksSection, regionsSection, setFormat, zoneFormat, zonesSection, requestsSection, readPlan, encode, RegionFits, AskedFits, ZoneFits, PlanFits, Asked, Plan}
+use Rattle.rules.specs.Regions.{noRegion}
+use Rattle.rules.specs.Sizes.{shortSize, longSize, regionSize, askedSize, marksSize, regionsSize, requestsSize, setsSize, zoneSize, planSize, longestSize, leastSize, SizesShown, fullZone, noAsked, fullPlan}
+use Rattle.rules.specs.Tables.{Zone}
+use Rattle.rules.specs.declared.Region.{Region}
+use Rattle.rules.proofs.Plan.{no-slack, Sayable}
+
+-- ---- what is written
+sized-short : Sized short (λ n. shortSize)
+sized-short = sized-number 4
+
+sized-long : Sized long (λ n. longSize)
+sized-long = sized-number 8
+
+sized-region : Sized regionField (λ r. regionSize)
+sized-region r = sized-both long (both long long) (λ n. longSize) (λ p. longSize + longSize) sized-long (sized-both long long (λ n. longSize) (λ n. longSize) sized-long sized-long) (r .v .0, (r .p .0, r .size))
+
+sized-asked : Sized askedField (λ a. askedSize)
+sized-asked a = sized-both short (both short regionNumbers) (λ n. shortSize) (λ p. shortSize + regionSize) sized-short (sized-both short regionNumbers (λ n. shortSize) (λ r. regionSize) sized-short sized-region) (a .kind, (a .zone, a .region))
+
+-- a list of elements of one size
+module _ {A : Type 0} (lo hi k : ℕ) (F : Format A) (s : Sized F (λ x. k)) where
+  sized-list : Sized (listed 4 lo hi F) (λ xs. shortSize + length xs * k)
+  sized-list xs = sized-listed F (λ x. k) s 4 lo hi xs ∙ ap (λ (n : ℕ). shortSize + n) (total-same k xs)
+
+sized-marks : Sized marksSection (λ m. marksSize)
+sized-marks = sized-headed 4 2 2 (λ c. as-type (both short short) marksTo marksFrom) (λ m. 2) (λ m. shortSize + shortSize) (λ c m. sized-both short short (λ n. shortSize) (λ n. shortSize) sized-short sized-short (m .gic, m .edition))
+
+module _ (l : Limits) where
+  abbrev ofRegions : List Region → ℕ
+  ofRegions xs = regionsSize (length xs)
+
+  sized-set : Sized (setFormat l) ofRegions
+  sized-set = sized-list 0 (l .inSet) regionSize regionField sized-region
+
+  sized-zone : Sized (zoneFormat l) zoneSize
+  sized-zone z =
+      sized-both short (both (setFormat l) (setFormat l)) (λ n. shortSize) (λ t. ofRegions (t .0) + ofRegions (t .1)) sized-short
+      (sized-both (setFormat l) (setFormat l) ofRegions ofRegions sized-set sized-set) (z .id, (z .cpu, z .iommu))
+
+  abbrev ofZones : List Zone → ℕ
+  ofZones zs = shortSize + total zoneSize zs
+
+  abbrev ofAsked : List Asked → ℕ
+  ofAsked q = requestsSize (length q)
+
+  -- what is written of a plan, whether it fits or not, has the size that its contents give
+  pub encoded-length : (p : Plan) → length (encode l p) ≡ planSize p
+  unfolding encode planSize
+  encoded-length p =
+      sized-both marksSection (both (regionsSection l) (both (zonesSection l) (requestsSection l))) (λ m. marksSize) (λ t. ofRegions (t .0) + (ofZones (t .1 .0) + ofAsked (t .1 .1))) sized-marks
+      (sized-both (regionsSection l) (both (zonesSection l) (requestsSection l)) ofRegions (λ t. ofZones (t .0) + ofAsked (t .1)) (sized-list 1 (l .regions) regionSize regionField sized-region)
+      (sized-both (zonesSection l) (requestsSection l) ofZones ofAsked (sized-listed (zoneFormat l) zoneSize sized-zone 4 0 (l .zones)) (sized-list 0 (l .requests) askedSize askedField sized-asked)))
+      (p .marks, (p .regions, (p .zones, p .asked)))
+
+  -- ---- between the least and the longest
+  pub least-length : (p : Plan) → PlanFits l p → leastSize ≤ length (encode l p)
+  unfolding planSize
+  least-length p (m, (r, (z, q))) = omega (arith, encoded-length p)
+
+  most-zone : (z : Zone) → ZoneFits l z → zoneSize z ≤ setsSize (l .inSet) (l .inSet)
+  most-zone z (i, (c, d)) = omega arith
+
+  pub most-length : (p : Plan) → PlanFits l p → length (encode l p) ≤ longestSize l
+  unfolding planSize
+  most-length p (m, (r, (z, q))) =
+      let k : ℕ = setsSize (l .inSet) (l .inSet) in
+      omega (arith, encoded-length p, total-most zoneSize (ZoneFits l) k most-zone (p .zones) (z .fits .1), mul-le-mul-right k (z .most))
+
+-- whatever reads whole lies between
+pub whole-length : (l : Limits) → Sayable l → (b : List ℕ) (p : Plan) (t : List ℕ) → Bytes b → readPlan l b ≡ got p t → (leastSize ≤ length b) × (length b ≤ longestSize l)
+whole-length l say b p t h e =
+    let (w, f) = no-slack l say b p t h e in
+    rw w (least-length l p f, most-length l p f)
+
+-- ---- both are met
+pub full-length : (l m : Limits) → length (encode l (fullPlan m)) ≡ longestSize m
+unfolding planSize
+full-length l m =
+    let inSet = length-replicate (m .inSet) noRegion in
+    let zone : zoneSize (fullZone m) ≡ setsSize (m .inSet) (m .inSet) = omega arith in
+    let zones : total zoneSize (replicate (m .zones) (fullZone m)) ≡ m .zones * setsSize (m .inSet) (m .inSet) = total-replicate zoneSize (m .zones) (fullZone m) ∙ ap (λ (k : ℕ). m .zones * k) zone in
+    omega (arith, encoded-length l (fullPlan m), zones, length-replicate (m .regions) noRegion, length-replicate (m .requests) noAsked)
+
+-- m lets a plan have a region, and nothing that l does not
+pub record Within (m l : Limits) : Type 0 where
+  pub one : 1 ≤ m .regions
+  pub regions : m .regions ≤ l .regions
+  pub zones : m .zones ≤ l .zones
+  pub inSet : m .inSet ≤ l .inSet
+  pub requests : m .requests ≤ l .requests
+
+module _ {A : Type 0} (P : A → Type 0) (x : A) (h : P x) where
+  full-list : (lo hi n : ℕ) → lo ≤ n → n ≤ hi → ListFits lo hi P (replicate n x)
+  full-list lo hi n a z = record { least = omega (arith, length-replicate n x); most = omega (arith, length-replicate n x); fits = (refl, all-replicate P n x h) }
+
+zero-region : RegionFits noRegion
+zero-region = (omega arith, (omega arith, omega arith))
+
+pub full-fits : (l m : Limits) → Within m l → PlanFits l (fullPlan m)
+full-fits l m w =
+    let set = full-list RegionFits noRegion zero-region 0 (l .inSet) (m .inSet) (omega arith) (w .inSet) in (
+      record { least = omega arith; most = omega arith; fits = (omega arith, omega arith) },
+      (
+        full-list RegionFits noRegion zero-region 1 (l .regions) (m .regions) (w .one) (w .regions),
+        (
+          full-list (ZoneFits l) (fullZone m) (omega arith, (set, set)) 0 (l .zones) (m .zones) (omega arith) (w .zones),
+          full-list AskedFits noAsked (omega arith, (omega arith, zero-region)) 0 (l .requests) (m .requests) (omega arith) (w .requests),
+        ),
+      ),
+    )
+
+-- ---- by computation
+pub sizes-shown : SizesShown
+sizes-shown = (refl, refl)

@@ -1,0 +1,157 @@
+-- Configurations and tables as they are stored: what was stored is read back, and a sound list of zones is stored as a sound table.
+use Prim.Native.Nat.{ℕ, suc, _-_, _≤_}
+use native.Mathlib.Omega.{arith}
+use mathlib.Core.Bool.{Bool, true, false, cond, not, Bool·not-not}
+use mathlib.Core.List.{List, [], _∷_, _++_, map}
+use mathlib.Core.Path.{_≡_, refl, sym, ap, ap₂, _∙_}
+use borrow.Author.Tests.{leb-true, not-false}
+use lib.Dec.{eqb}
+use lib.ListN.{length, take, drop, replicate, length-map, length-take, length-drop, take-append-drop}
+use Rattle.lists.specs.First.{any, all}
+use Rattle.lists.specs.Room.{room}
+use Rattle.lists.specs.Tests.{allOf}
+use Rattle.lists.proofs.Every.{all-from, all-map, none-all, all-replicate, map-back}
+use Rattle.lists.proofs.Room.{length-room, room-rest, room-take, room-back, room-after}
+use Rattle.lists.proofs.Rules.{quiet, quiet-answer, aboveZero, numbers-tell}
+use Rattle.lists.proofs.Tests.{both-true, not-fails, not-holds, parts, whole}
+use Rattle.rules.specs.Applying.{storeSet, storeZone, store, storeConfig}
+use Rattle.rules.specs.Configuration.{configOf, check, isSound, Configuration, StoredConfig}
+use Rattle.rules.specs.Limits.{mostRegions, mostZones, mostInSet}
+use Rattle.rules.specs.Regions.{regionEq, noRegion, used}
+use Rattle.rules.specs.Requests.{refusal, next, standingRules, standing}
+use Rattle.rules.specs.Run.{runFrom}
+use Rattle.rules.specs.Tables.{unusedZone, setOf, zoneOf, tableOf, restZero, zeroSet, tidyZone, zeroZone, tidy, soundSet, soundZone, sound, checkTable, Zone, StoredZone, StoredTable}
+use Rattle.rules.specs.declared.Checked.the-variants.{Sound}
+use Rattle.rules.specs.declared.Region.{Region}
+use Rattle.rules.specs.declared.Request.{Request}
+use Rattle.rules.proofs.Configuration.{sound-is, sound-answer, few-counted, rest-unused}
+use Rattle.rules.proofs.Regions.{equal-same}
+use Rattle.rules.proofs.Keeps.{sound-parts, parts-sound, next-keeps, SoundTable}
+
+-- ---- what was stored is read back
+read-back : {A : Type 0} (n : ℕ) (z : A) (xs : List A) → length xs ≤ n → room (length xs) z (room n z xs) ≡ xs
+read-back n z xs h = room-take (length xs) z (room n z xs) (omega (arith, length-room n z xs)) ∙ room-back n z xs h
+
+set-back : (xs : List Region) → length xs ≤ mostInSet → setOf (storeSet xs) ≡ xs
+unfolding setOf
+set-back xs h = read-back mostInSet noRegion xs h
+
+set-few : (c : Configuration) (xs : List Region) → soundSet c xs ≡ true → length xs ≤ mostInSet
+unfolding soundSet
+set-few c xs e = leb-true _ _ (parts _ e .0)
+
+zone-back : (c : Configuration) (z : Zone) → soundZone c z ≡ true → zoneOf (storeZone z) ≡ z
+unfolding soundZone zoneOf
+zone-back c z e =
+    let h = parts _ e in
+    let p : setOf (storeSet (z .cpu)) ≡ z .cpu = set-back (z .cpu) (set-few c (z .cpu) (h .1 .0)) in
+    let q : setOf (storeSet (z .iommu)) ≡ z .iommu = set-back (z .iommu) (set-few c (z .iommu) (h .1 .1 .0)) in
+    (λ i. record { id = z .id; cpu = p i; iommu = q i })
+
+-- ---- what is unused is zero
+set-tidy : (c : Configuration) (xs : List Region) → soundSet c xs ≡ true → restZero (storeSet xs) ≡ true
+unfolding restZero regionEq allOf
+set-tidy c xs e =
+    none-all used (drop (length xs) (room mostInSet noRegion xs))
+    ∙ ap (all (λ (r : Region). not (used r))) (room-after mostInSet noRegion xs (set-few c xs e))
+    ∙ all-replicate (λ (r : Region). not (used r)) (mostInSet - length xs) noRegion refl
+
+zone-tidy : (c : Configuration) (z : Zone) → soundZone c z ≡ true → tidyZone (storeZone z) ≡ true
+unfolding tidyZone soundZone
+zone-tidy c z e = let h = parts _ e in whole _ (set-tidy c (z .cpu) (h .1 .0), (set-tidy c (z .iommu) (h .1 .1 .0), tt))
+
+unused-zero : zeroZone unusedZone ≡ true
+unfolding zeroZone zeroSet allOf any regionEq
+unused-zero = refl
+
+-- ---- the table
+module _ (c : Configuration) (t : List Zone) (ok : SoundTable c t) where
+  abbrev zones : List StoredZone
+  zones = map storeZone t
+
+  many : length zones ≡ length t
+  many = length-map t storeZone
+
+  few : length zones ≤ mostZones
+  few = let f : length t ≤ mostZones = ok .few in omega (arith, many)
+
+  pub table-back : tableOf (store t) ≡ t
+  unfolding tableOf
+  table-back =
+      ap (λ (n : ℕ). map zoneOf (room n unusedZone (room mostZones unusedZone zones))) (sym many)
+      ∙ ap (map zoneOf) (read-back mostZones unusedZone zones few)
+      ∙ map-back (soundZone c) storeZone zoneOf (zone-back c) t (ok .zones)
+
+  store-tidy : tidy (store t) ≡ true
+  unfolding tidy
+  store-tidy =
+      whole _ (
+        ap (all tidyZone) (ap (λ (n : ℕ). take n (room mostZones unusedZone zones)) (sym many) ∙ room-back mostZones unusedZone zones few)
+            ∙ all-map storeZone tidyZone t ∙ all-from (soundZone c) (soundZone c) (λ (z : Zone). tidyZone (storeZone z)) (λ z e f. zone-tidy c z e) t (ok .zones) (ok .zones),
+        (
+          ap (all zeroZone) (ap (λ (n : ℕ). drop n (room mostZones unusedZone zones)) (sym many) ∙ room-after mostZones unusedZone zones few)
+              ∙ all-replicate zeroZone (mostZones - length zones) unusedZone unused-zero,
+          tt,
+        ),
+      )
+
+-- ---- what is stored with zeros in what is free is what would be stored of it
+module _ {A : Type 0} (n k : ℕ) (z : A) (xs : List A) (len : length xs ≡ n) (few : k ≤ n) (free : drop k xs ≡ replicate (n - k) z) where
+  pub refilled : room n z (room k z xs) ≡ xs
+  refilled =
+      let t : room k z xs ≡ take k xs = room-take k z xs (omega arith) in
+      let l : length (take k xs) ≡ k = omega (arith, length-take k xs) in
+      let m : n - length (take k xs) ≡ n - k = omega arith in
+      ap (room n z) t ∙ room-rest n z (take k xs) (omega arith) ∙ ap (λ (j : ℕ). take k xs ++ replicate j z) m ∙ ap (λ (r : List A). take k xs ++ r) (sym free) ∙ take-append-drop k xs
+
+-- elements that are all z
+all-alike : {A : Type 0} (p : A → Bool) (z : A) → ((x : A) → p x ≡ true → x ≡ z) → (xs : List A) → all p xs ≡ true → xs ≡ replicate (length xs) z
+unfolding all
+all-alike p z f [] e = refl
+all-alike {A} p z f (x ∷ xs) e = let h = both-true (p x) (all p xs) e in ap₂ (λ (y : A) (l : List A). y ∷ l) (f x (h .0)) (all-alike p z f xs (h .1))
+
+unused-zeros : (k n : ℕ) (xs : List Region) → length xs ≡ n → any used (drop k xs) ≡ false → drop k xs ≡ replicate (n - k) noRegion
+unused-zeros k n xs len e =
+    let h : all (λ (r : Region). not (used r)) (drop k xs) ≡ true = sym (none-all used (drop k xs)) ∙ not-fails _ e in
+    let l : length (drop k xs) ≡ n - k = omega (arith, length-drop k xs) in
+    all-alike (λ (r : Region). not (used r)) noRegion (λ r f. equal-same r noRegion (not-not-true _ f)) (drop k xs) h ∙ ap (λ (j : ℕ). replicate j noRegion) l
+  where
+    not-not-true : (b : Bool) → not (not b) ≡ true → b ≡ true
+    not-not-true b f = sym (Bool·not-not b) ∙ f
+
+-- a configuration that passed
+pub config-stored : (s : StoredConfig) → length (s .records) ≡ mostRegions → check s ≡ Sound → s ≡ storeConfig (configOf s)
+unfolding configOf
+config-stored s len e =
+    let n : length (room (s .count) noRegion (s .records)) ≡ s .count = length-room (s .count) noRegion (s .records) in
+    let r : room mostRegions noRegion (room (s .count) noRegion (s .records)) ≡ s .records = refilled mostRegions (s .count) noRegion (s .records) len (few-counted s len e) (unused-zeros (s .count) mostRegions (s .records) len (rest-unused s len e)) in
+    (λ i. record { count = sym n i; gic = s .gic; records = sym r i })
+
+pub config-back : (c : Configuration) → length (c .regions) ≤ mostRegions → configOf (storeConfig c) ≡ c
+unfolding configOf
+config-back c h = (λ i. record { regions = read-back mostRegions noRegion (c .regions) h i; gic = c .gic })
+
+-- ---- standing: neither 1 nor 2
+module _ (c : StoredConfig) (t : StoredTable) where
+  pub stands-well : standing c t ≡ 0 → (check c ≡ Sound) × SoundTable (configOf c) (tableOf t)
+  unfolding standingRules aboveZero all checkTable
+  stands-well e =
+      let h = quiet (standingRules c t) 0 (numbers-tell (standingRules c t) refl) e in
+      (sound-answer _ (not-false _ (h .0)), sound-parts (configOf c) (tableOf t) (parts _ (not-false _ (h .1 .0)) .1 .1 .0))
+
+pub stored-stands : (c : StoredConfig) (t : List Zone) → check c ≡ Sound → SoundTable (configOf c) t → standing c (store t) ≡ 0
+unfolding standingRules checkTable
+stored-stands c t e ok =
+    let s : isSound (check c) ≡ true = ap isSound e ∙ sound-is in
+    let back : sound (configOf c) (tableOf (store t)) ≡ true = ap (sound (configOf c)) (table-back (configOf c) t ok) ∙ parts-sound (configOf c) t ok in
+    sym (quiet-answer (standingRules c (store t)) 0 (not-holds _ s, (not-holds _ (whole _ (s, (store-tidy (configOf c) t ok, (back, tt)))), tt)))
+
+-- ---- a run keeps a sound table sound, wherever it ends
+pub run-from-keeps : (c : Configuration) (i : ℕ) (t : List Zone) (qs : List Request) → SoundTable c t → SoundTable c (runFrom c i t qs .table)
+unfolding runFrom
+run-from-keeps c i t [] ok = ok
+run-from-keeps c i t (q ∷ qs) ok = by (run-from-keeps c (suc i) (next c t q) qs (next-keeps c t q ok)) (eqb (refusal c t q) 0)
+  where
+    by : SoundTable c (runFrom c (suc i) (next c t q) qs .table) → (b : Bool) → SoundTable c (cond b (runFrom c (suc i) (next c t q) qs) (record { place = i; inner = refusal c t q; table = t }) .table)
+    by f true = f
+    by f false = ok

@@ -1,0 +1,70 @@
+-- How many bytes a plan takes, from its contents; and the least and the longest plan, from the limits.
+use Prim.Native.Nat.{ℕ, _+_, _*_}
+use mathlib.Core.Path.{_≡_}
+use lib.ListN.{length, replicate}
+use Rattle.formats.specs.Sizes.{total}
+use Rattle.rules.specs.Limits.{limits, Limits}
+use Rattle.rules.specs.Plan.{Asked, Plan}
+use Rattle.rules.specs.Regions.{noRegion}
+use Rattle.rules.specs.Tables.{Zone}
+
+-- a count, a mark, an id or a kind; a region's field
+abbrev pub shortSize : ℕ
+shortSize = 4
+
+abbrev pub longSize : ℕ
+longSize = 8
+
+-- the marks after their count; v, p, size; kind, zone id, v, p, size
+abbrev pub marksSize : ℕ
+marksSize = 3 * shortSize
+
+abbrev pub regionSize : ℕ
+regionSize = 3 * longSize
+
+abbrev pub askedSize : ℕ
+askedSize = 2 * shortSize + regionSize
+
+-- so many regions after their count, so many requests after theirs
+abbrev pub regionsSize : ℕ → ℕ
+regionsSize n = shortSize + n * regionSize
+
+abbrev pub requestsSize : ℕ → ℕ
+requestsSize n = shortSize + n * askedSize
+
+-- a zone: its id, and so many regions in its two sets
+abbrev pub setsSize : ℕ → ℕ → ℕ
+setsSize m n = shortSize + (regionsSize m + regionsSize n)
+
+abbrev pub zoneSize : Zone → ℕ
+zoneSize z = setsSize (length (z .cpu)) (length (z .iommu))
+
+-- a plan: its four sections
+unfoldable pub planSize : Plan → ℕ
+planSize p = marksSize + (regionsSize (length (p .regions)) + ((shortSize + total zoneSize (p .zones)) + requestsSize (length (p .asked))))
+
+-- ---- the longest and the least
+-- with all that the limits let a plan have
+abbrev pub longestSize : Limits → ℕ
+longestSize l = marksSize + (regionsSize (l .regions) + ((shortSize + l .zones * setsSize (l .inSet) (l .inSet)) + requestsSize (l .requests)))
+
+-- with what every plan has: one region
+abbrev pub leastCounts : Limits
+leastCounts = record { regions = 1; zones = 0; inSet = 0; requests = 0 }
+
+abbrev pub leastSize : ℕ
+leastSize = longestSize leastCounts
+
+-- the document's two numbers
+abbrev pub SizesShown : Type 0
+SizesShown = (leastSize ≡ 48) × (longestSize limits ≡ 40568)
+
+-- ---- a plan that has all that limits let it have, each number 0
+abbrev pub fullZone : Limits → Zone
+fullZone l = record { id = 0; cpu = replicate (l .inSet) noRegion; iommu = replicate (l .inSet) noRegion }
+
+abbrev pub noAsked : Asked
+noAsked = record { kind = 0; zone = 0; region = noRegion }
+
+abbrev pub fullPlan : Limits → Plan
+fullPlan l = record { marks = record { gic = 0; edition = 0 }; regions = replicate (l .regions) noRegion; zones = replicate (l .zones) (fullZone l); asked = replicate (l .requests) noAsked }

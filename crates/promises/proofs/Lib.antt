@@ -6,3 +6,6 @@ pub mod Requests
 pub mod Closure
 pub mod Translation
 pub mod Plans
+pub mod Editions
+pub mod Terminals
+pub mod Past

@@ -14,12 +14,14 @@ use Rattle.rules.specs.Limits.{limits}
 use Rattle.rules.specs.Plan.{requestsOf, readPlan, Plan}
 use Rattle.rules.specs.Requests.{refusal, next, standing}
 use Rattle.rules.specs.Run.{runFrom, Run}
+use Rattle.rules.specs.Sizes.{leastCounts, fullPlan}
 use Rattle.rules.specs.Tables.{Zone}
 use Rattle.rules.specs.declared.Outcome.{Outcome}
 use Rattle.rules.specs.declared.Request.{Request}
 use Rattle.rules.proofs.Applying.{accepted-for-base, for-base-accepted}
 use Rattle.rules.proofs.Plan.{plan-refuses, plan-ends, limits-sayable}
-use Rattle.promises.specs.Plans.{PlanFor, runOf, RefusalStays, AcceptedIsPlan, PlanIsAccepted}
+use Rattle.rules.proofs.Sizes.{least-length, most-length, whole-length, full-length, full-fits, sizes-shown, Within}
+use Rattle.promises.specs.Plans.{PlanFor, runOf, RefusalStays, AcceptedIsPlan, PlanIsAccepted, PlanLengths}
 
 -- a run without a refusal goes through all requests
 run-through : (c : Configuration) (i : ℕ) (t : List Zone) (qs : List Request) → runFrom c i t qs .inner ≡ 0 → runFrom c i t qs .place ≡ i + length qs
@@ -90,3 +92,20 @@ plan-is-accepted s b p st (g, f) last inner =
     let j : judged s p r ≡ plain 0 (length (requestsOf p)) = for-base-accepted s p r f last inner ∙ ap (plain 0) n in
     ap (λ (c : Bool). cond c (applyRead s b (readPlan limits b)) (record { outcome = plain (standing (s .config) (s .table)) 0; state = s })) (eq-eqb _ 0 st)
     ∙ ap (applyRead s b) g ∙ ap (λ (o : Outcome). applied s o r) j
+
+-- ---- lengths
+least-within : Within leastCounts limits
+least-within = record { one = omega arith; regions = omega arith; zones = omega arith; inSet = omega arith; requests = omega arith }
+
+limits-within : Within limits limits
+limits-within = record { one = omega arith; regions = omega arith; zones = omega arith; inSet = omega arith; requests = omega arith }
+
+pub plan-lengths : PlanLengths
+plan-lengths = record {
+  least = sizes-shown .0;
+  longest = sizes-shown .1;
+  written = λ p h. (least-length limits p h, most-length limits p h);
+  whole = λ b p h e. whole-length limits limits-sayable b p [] h e;
+  least-met = (fullPlan leastCounts, full-fits limits leastCounts least-within, full-length limits leastCounts);
+  longest-met = (fullPlan limits, full-fits limits limits limits-within, full-length limits limits);
+}

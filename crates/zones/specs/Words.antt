@@ -1,12 +1,14 @@
--- The words of a table: what stands at each place, and zeros in what is free.
+-- The words of a table and of a configuration: what stands at each place, and zeros in what is free.
 use Prim.Native.Nat.{ℕ, _≤_, _<_}
-use mathlib.Core.List.{List, _∷_, _++_}
+use mathlib.Core.List.{List, _∷_, _++_, flatMap}
 use mathlib.Core.Path.{_≡_}
 use lib.ListN.{length}
+use Rattle.lists.specs.Room.{room}
 use Rattle.lists.specs.Words.{counted}
 use Rattle.rules.specs.declared.Region.{Region}
 use Rattle.rules.specs.declared.Side.{Side}
-use Rattle.rules.specs.Limits.{mostZones, mostInSet}
+use Rattle.rules.specs.Configuration.{Configuration}
+use Rattle.rules.specs.Limits.{mostRegions, mostZones, mostInSet}
 use Rattle.rules.specs.Regions.{noRegion}
 use Rattle.rules.specs.Tables.{Zone, noZone}
 use Rattle.rules.specs.Changes.{setAt}
@@ -21,6 +23,10 @@ wordsOfZone z = z .id ∷ (wordsOfSet (z .cpu) ++ wordsOfSet (z .iommu))
 
 unfoldable pub wordsOf : List Zone → List ℕ
 wordsOf t = counted mostZones noZone wordsOfZone t
+
+-- those of a configuration: its count, the GIC's position, its records and zeros
+unfoldable pub wordsOfConfig : Configuration → List ℕ
+wordsOfConfig c = length (c .regions) ∷ c .gic ∷ flatMap wordsOfRegion (room mostRegions noRegion (c .regions))
 
 -- counts within limits
 pub record Within (t : List Zone) : Type 0 where

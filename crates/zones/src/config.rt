@@ -29,6 +29,7 @@ ghost use Rattle.zones.specs.Layout.{configRecords};
 ghost use Rattle.zones.specs.Records.{recordAt};
 ghost use Rattle.zones.specs.View.{storedConfig, configIn, ConfigPassed, allRecords};
 
+#[repr(C)]
 pub struct Config {
     pub words: [u64; CONFIG_WORDS],
 }

@@ -27,6 +27,7 @@ pub use run::REQUEST_BYTES;
 pub use run::make_request;
 pub use run::run_in;
 pub use sound::check_table;
+pub use sound::standing;
 pub use steps::Answer;
 pub use steps::step;
 pub use steps::step_in;

@@ -27,6 +27,7 @@ ghost use Rattle.zones.specs.Packing.{setPacked, zonePacked, packed};
 ghost use Rattle.zones.specs.View.{recordIn, setIn, zoneIn, zonesIn};
 ghost use Rattle.zones.specs.Words.{wordsOf, Packed};
 
+#[repr(C)]
 pub struct Table {
     pub words: [u64; TABLE_WORDS],
 }

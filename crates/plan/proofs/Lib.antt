@@ -1,0 +1,12 @@
+-- Laws that the proofs of the functions cite.
+pub mod Fields
+pub mod Into
+pub mod Agreeing
+pub mod Storing
+pub mod Answers
+pub mod Whole
+pub mod Comparing
+pub mod Judging
+pub mod Spelling
+pub mod Bases
+pub mod Outcomes

@@ -1,0 +1,6 @@
+-- What the readers of plans answer.
+pub mod Fields
+pub mod Into
+pub mod Sections
+pub mod Read
+pub mod Applying

@@ -1,0 +1,72 @@
+// Fields among lent bytes: each is wholly there, or refused.
+use fields::u32_at;
+use fields::u64_at;
+use rules::Guest;
+use rules::Phys;
+use rules::Region;
+ghost use Prim.Native.Nat.{_≤_};
+ghost use mathlib.Core.Path.{_≡_};
+ghost use lib.ListN.{length, drop};
+ghost use Rattle.formats.specs.Formats.{readNumber, within};
+ghost use Rattle.rules.specs.Plan.{regionField};
+ghost use Rattle.plan.specs.Fields.{NumberRead, RegionRead};
+
+// The number 20: a field is not wholly there.
+pub const NOT_THERE: u32 = 20;
+
+// The number 21: a count is out of range.
+pub const OUT_OF_RANGE: u32 = 21;
+
+// A count, a mark or an id has 4 bytes; v, p and size of a region have 8 each.
+pub const NUMBER_BYTES: usize = 4;
+
+pub const REGION_BYTES: usize = 24;
+
+// A count, a mark or an id; or not wholly there.
+pub enum Number {
+    Is(u32),
+    Missing,
+}
+
+// A region, or not wholly there.
+pub enum RegionField {
+    Is(Region),
+    Missing,
+}
+
+pub fn number_at(s: &[u8], at: usize) -> Number
+    requires { ⌜ at ≤ length (now s) ⌝ }
+    ensures { λ r. ⌜ NumberRead (now (s .entry)) at (readNumber 4 (drop at (now (s .entry)))) r ⌝ }
+{
+    if s.len() - at < NUMBER_BYTES {
+        return Number::Missing;
+    }
+    Number::Is(u32_at(s, at))
+}
+
+// Whether a count lies from lo to hi.
+pub fn is_within(lo: u32, hi: u32, count: u32) -> bool
+    ensures { λ b. ⌜ b ≡ within lo hi count ⌝ }
+{
+    if count < lo {
+        return false;
+    }
+    count <= hi
+}
+
+pub fn region_at(s: &[u8], at: usize) -> RegionField
+    requires { ⌜ at ≤ length (now s) ⌝ }
+    ensures { λ r. ⌜ RegionRead (now (s .entry)) at (regionField .read (drop at (now (s .entry)))) r ⌝ }
+{
+    if s.len() - at < REGION_BYTES {
+        return RegionField::Missing;
+    }
+    let v = u64_at(s, at);
+    let p = u64_at(s, at + 8);
+    let size = u64_at(s, at + 16);
+    RegionField::Is(Region {
+        v: Guest(v),
+        p: Phys(p),
+        size,
+    })
+}

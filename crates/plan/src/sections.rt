@@ -1,0 +1,154 @@
+// The four sections of a plan. Each reader is lent the part of the plan that begins at its section's count, and answers offsets in that
+// part.
+use crate::field::NOT_THERE;
+use crate::field::NUMBER_BYTES;
+use crate::field::Number;
+use crate::field::OUT_OF_RANGE;
+use crate::field::is_within;
+use crate::field::number_at;
+use crate::words::Section;
+use crate::words::read_set;
+use crate::words::read_table;
+use rules::limits::MOST_REGIONS;
+use rules::limits::MOST_REQUESTS;
+use zones::CONFIG_COUNT;
+use zones::CONFIG_GIC;
+use zones::CONFIG_RECORDS;
+use zones::CONFIG_WORDS;
+use zones::Config;
+use zones::REQUEST_BYTES;
+use zones::TABLE_WORDS;
+use zones::Table;
+ghost use mathlib.Core.Path.{_≡_};
+ghost use lib.ListN.{length};
+ghost use Rattle.rules.specs.Limits.{limits};
+ghost use Rattle.rules.specs.Plan.{marksSection, regionsSection, zonesSection, requestsSection};
+ghost use Rattle.plan.specs.Sections.{marksAnswer, regionsAnswer, zonesAnswer, sectionAnswer};
+
+// The marks; or a refusal and its offset.
+pub enum Marks {
+    Are { gic: u32, edition: u32 },
+    Bad { number: u32, at: usize },
+}
+
+// Where the section ends, and the configuration; or a refusal, and zeros.
+pub struct Regions {
+    pub section: Section,
+    pub config: Config,
+}
+
+// Where the section ends, and the table of the base zones; or a refusal, and zeros.
+pub struct Zones {
+    pub section: Section,
+    pub table: Table,
+}
+
+// There are two marks.
+const MARKS: u32 = 2;
+
+// Marks: the GIC's position and the base edition.
+pub fn read_marks(s: &[u8]) -> Marks
+    ensures { λ r. ⌜ r ≡ marksAnswer (length (now (s .entry))) (marksSection .read (now (s .entry))) ⌝ }
+{
+    let Number::Is(count) = number_at(s, 0) else {
+        return Marks::Bad {
+            number: NOT_THERE,
+            at: 0,
+        };
+    };
+    if !is_within(MARKS, MARKS, count) {
+        return Marks::Bad {
+            number: OUT_OF_RANGE,
+            at: 0,
+        };
+    }
+    let Number::Is(gic) = number_at(s, 4) else {
+        return Marks::Bad {
+            number: NOT_THERE,
+            at: 4,
+        };
+    };
+    let Number::Is(edition) = number_at(s, 8) else {
+        return Marks::Bad {
+            number: NOT_THERE,
+            at: 8,
+        };
+    };
+    Marks::Are { gic, edition }
+}
+
+// Configured regions: with the GIC's position they make the configuration.
+pub fn read_regions(s: &[u8], gic: u32) -> Regions
+    ensures { λ r. ⌜ r ≡ regionsAnswer gic (length (now (s .entry))) (regionsSection limits .read (now (s .entry))) ⌝ }
+{
+    let mut words = [0u64; CONFIG_WORDS];
+    words[CONFIG_GIC] = gic as u64;
+    let section = read_set(
+        s,
+        0,
+        1,
+        MOST_REGIONS as u32,
+        &mut words,
+        CONFIG_COUNT,
+        CONFIG_RECORDS,
+    );
+    let Section::End(end) = section else {
+        return Regions {
+            section,
+            config: Config {
+                words: [0u64; CONFIG_WORDS],
+            },
+        };
+    };
+    Regions {
+        section: Section::End(end),
+        config: Config { words },
+    }
+}
+
+// Base zones.
+pub fn read_zones(s: &[u8]) -> Zones
+    ensures { λ r. ⌜ r ≡ zonesAnswer (length (now (s .entry))) (zonesSection limits .read (now (s .entry))) ⌝ }
+{
+    let mut words = [0u64; TABLE_WORDS];
+    let section = read_table(s, &mut words);
+    let Section::End(end) = section else {
+        return Zones {
+            section,
+            table: Table {
+                words: [0u64; TABLE_WORDS],
+            },
+        };
+    };
+    Zones {
+        section: Section::End(end),
+        table: Table { words },
+    }
+}
+
+// Requests: only where the section ends. All have one width, so none is looked at.
+pub fn find_requests(s: &[u8]) -> Section
+    ensures { λ r. ⌜ r ≡ sectionAnswer (length (now (s .entry))) (requestsSection limits .read (now (s .entry))) ⌝ }
+{
+    let Number::Is(n) = number_at(s, 0) else {
+        return Section::Bad {
+            number: NOT_THERE,
+            at: 0,
+        };
+    };
+    if !is_within(0, MOST_REQUESTS, n) {
+        return Section::Bad {
+            number: OUT_OF_RANGE,
+            at: 0,
+        };
+    }
+    let count = n as usize;
+    let whole = (s.len() - NUMBER_BYTES) / REQUEST_BYTES;
+    if whole < count {
+        return Section::Bad {
+            number: NOT_THERE,
+            at: NUMBER_BYTES + whole * REQUEST_BYTES,
+        };
+    }
+    Section::End(NUMBER_BYTES + count * REQUEST_BYTES)
+}

@@ -1,0 +1,2 @@
+-- What an agent that lends its state may count on.
+pub mod Lending

@@ -1,7 +1,7 @@
 """Document 01's rules in plain Python, stated from the document and the points of docs/DECISIONS.md, not from the crates.
 
 Numbers are whole numbers of any size here, so no end wraps. A check lists the faults in the document's order, and its answer
-is the first. Plans are to stand below in the same way.
+is the first. Plans are stated in the same way in plan_format.py and applying.py.
 """
 
 from typing import Iterator, List, NamedTuple, Optional, Tuple
@@ -202,12 +202,25 @@ def request_faults(c: Config, t: Table, q: Request) -> Iterator[int]:
         yield 1
     if not sound:
         yield 2
+    yield from number_faults(q)
+    if sound:
+        yield from kind_faults(c, t, q)
+
+
+def refusals(c: Config, t: Table, q: Request) -> Iterator[int]:
+    """The same at a configuration and a table that are known to be sound."""
+    yield from number_faults(q)
+    yield from kind_faults(c, t, q)
+
+
+def number_faults(q: Request) -> Iterator[int]:
     if not 1 <= q.kind <= 6 or (q.kind in (ADD_ZONE, REMOVE_ZONE) and q.region != ZERO):
         yield 3
     if q.zone > HIGHEST_ID:
         yield 4
-    if not sound:
-        return
+
+
+def kind_faults(c: Config, t: Table, q: Request) -> Iterator[int]:
     if q.kind == ADD_ZONE:
         yield from add_faults(t, q.zone)
     if q.kind == REMOVE_ZONE:

@@ -4,6 +4,7 @@ import struct
 from collections import Counter
 from typing import Iterator, Optional
 
+from applying import State, apply_plan, terminal_faults
 from reference import Request, check_config, request_faults, step, table_faults, translate, translation_faults
 from words import CONFIG_WORDS, CPU, IOMMU, TABLE_COUNT, TABLE_WORDS, Words, config_of, fingerprint, table_of, words_of
 
@@ -13,6 +14,10 @@ SIDES = {"cpu": CPU, "iommu": IOMMU}
 def set_commands(command: bytes, old: Words, new: Words) -> bytes:
     changed = (k for k in range(len(new)) if old[k] != new[k])
     return b"".join(command + struct.pack("<HQ", k, new[k]) for k in changed)
+
+
+def edition_command(old: int, new: int) -> bytes:
+    return b"" if old == new else b"e" + struct.pack("<I", new)
 
 
 def listed(faults: Iterator[int]) -> str:
@@ -26,6 +31,7 @@ class Stream:
         self.lines = ""
         self.config = [0] * CONFIG_WORDS
         self.table = [0] * TABLE_WORDS
+        self.edition = 0
         self.answers = Counter()
 
     def ask_config(self, label: str, config: Words):
@@ -61,10 +67,29 @@ class Stream:
         self._ask(label, b"A" + operands, "%d %d" % translate(c, t, zone, side, address))
         self.answers["translation: " + listed(translation_faults(c, t, zone, side, address))] += 1
 
+    def ask_plan(self, label: str, data: bytes) -> int:
+        """The bytes applied as a plan to the state as it is now, which becomes the next state."""
+        state = State(config_of(self.config), table_of(self.table), self.edition)
+        answer, after = apply_plan(state, data)
+        self.table, self.edition = words_of(after.table), after.edition
+        told = (*answer, self.edition, self.table[TABLE_COUNT], fingerprint(self.table))
+        self._ask(label, b"P" + struct.pack("<I", len(data)) + data, "%d %d %d %d %d %d" % told)
+        self.answers["plan: " + listed(fault.number for fault in terminal_faults(state, data))] += 1
+        return answer.number
+
+    def set_edition(self, edition: int):
+        self.commands += edition_command(self.edition, edition)
+        self.edition = edition
+
+    def clear(self):
+        self.commands += b"Z"
+        self.config, self.table, self.edition = [0] * CONFIG_WORDS, [0] * TABLE_WORDS, 0
+
     def change_to(self, config: Words, table: Words):
-        """Changes the words that differ, or starts again from zero where that is shorter."""
+        """Changes the words that differ, or starts again from zero where that is shorter. The edition stays."""
         change = set_commands(b"c", self.config, config) + set_commands(b"t", self.table, table)
-        anew = b"Z" + set_commands(b"c", [0] * CONFIG_WORDS, config) + set_commands(b"t", [0] * TABLE_WORDS, table)
+        words = set_commands(b"c", [0] * CONFIG_WORDS, config) + set_commands(b"t", [0] * TABLE_WORDS, table)
+        anew = b"Z" + edition_command(0, self.edition) + words
         self.commands += min(change, anew, key=len)
         self.config = config
         self.table = table

@@ -10,6 +10,7 @@ from pathlib import Path
 
 sys.dont_write_bytecode = True
 
+from apply_cases import add_apply_cases
 from chance import Chance
 from config_cases import add_config_cases
 from random_cases import add_random_cases
@@ -29,6 +30,7 @@ def made() -> Stream:
     add_random_cases(s, Chance(SEED))
     add_request_cases(s, Chance(SEED))
     add_translation_cases(s, Chance(SEED))
+    add_apply_cases(s, Chance(SEED))
     return s
 
 

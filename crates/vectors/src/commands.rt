@@ -1,14 +1,18 @@
 // The commands. Each is a byte with its operands; numbers are little-endian.
 //
-//   Z                     every word of the configuration and of the table becomes 0
+//   Z                     every word of the configuration and of the table, and the edition, become 0
 //   c index:2 value:8     a word of the configuration; an index past the end sets nothing
 //   t index:2 value:8     a word of the table, the same way
+//   e edition:4           the terminal's edition
 //   L length:1 bytes      prints the bytes, a colon and a space
 //   C                     prints the number, the place and the earlier place of the configuration check
 //   T                     prints `yes` or `no` of the table check
 //   R kind:4 zone:4 v:8 p:8 size:8
 //                         a request; the table becomes the next one. Prints the number, then of the table afterwards the
 //                         count of zones and a fingerprint of all its words
+//   P length:4 bytes      a plan, applied to configuration, table and edition, which become the next state; a length that no plan
+//                         has is a bad command. Prints the number, the place and the inner number, then of the state afterwards
+//                         the edition, the count of zones and the fingerprint
 //   A zone:4 side:1 address:8
 //                         prints the number and the physical address of a translation; side 0 is the CPU, any other the IOMMU
 //
@@ -17,6 +21,8 @@ use crate::input::Byte;
 use crate::input::Number;
 use crate::input::next_byte;
 use crate::input::next_number;
+use crate::plans::plan;
+use crate::plans::set_edition;
 use crate::report::numbers;
 use crate::report::text;
 use crate::report::yes_or_no;
@@ -34,13 +40,20 @@ use zones::check_place;
 use zones::check_table;
 
 // Runs the command; false for a byte that is no command too.
-pub fn run(command: u8, config: &mut [u64; CONFIG_WORDS], table: &mut [u64; TABLE_WORDS]) -> bool {
+pub fn run(
+    command: u8,
+    config: &mut [u64; CONFIG_WORDS],
+    table: &mut [u64; TABLE_WORDS],
+    edition: &mut u32,
+) -> bool {
     match command {
-        b'Z' => clear(config, table),
+        b'Z' => clear(config, table, edition),
         b'c' => set_word(config),
         b't' => set_word(table),
+        b'e' => set_edition(edition),
         b'L' => label(),
         b'R' => request(config, table),
+        b'P' => plan(config, table, edition),
         _ => ask(command, config, table),
     }
 }
@@ -55,9 +68,14 @@ fn ask(command: u8, config: &[u64; CONFIG_WORDS], table: &[u64; TABLE_WORDS]) ->
     }
 }
 
-fn clear(config: &mut [u64; CONFIG_WORDS], table: &mut [u64; TABLE_WORDS]) -> bool {
+fn clear(
+    config: &mut [u64; CONFIG_WORDS],
+    table: &mut [u64; TABLE_WORDS],
+    edition: &mut u32,
+) -> bool {
     *config = [0; CONFIG_WORDS];
     *table = [0; TABLE_WORDS];
+    *edition = 0;
     true
 }
 

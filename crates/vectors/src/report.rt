@@ -13,13 +13,18 @@ pub fn two_numbers(a: u64, b: u64) {
     text(b"\n");
 }
 
-// A line of three numbers.
-pub fn numbers(a: u64, b: u64, c: u64) {
+// Three numbers, and no end of the line yet.
+pub fn begin_numbers(a: u64, b: u64, c: u64) {
     io::print_decimal(STDOUT_FILENO, a);
     text(b" ");
     io::print_decimal(STDOUT_FILENO, b);
     text(b" ");
     io::print_decimal(STDOUT_FILENO, c);
+}
+
+// A line of three numbers.
+pub fn numbers(a: u64, b: u64, c: u64) {
+    begin_numbers(a, b, c);
     text(b"\n");
 }
 

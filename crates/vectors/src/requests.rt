@@ -39,7 +39,7 @@ pub fn request(config: &[u64; CONFIG_WORDS], table: &mut [u64; TABLE_WORDS]) -> 
 }
 
 // All words mixed into one: the step of a generator of period 2^64 - 1 before each word, so that every place counts differently.
-fn fingerprint(words: &[u64]) -> u64 {
+pub fn fingerprint(words: &[u64]) -> u64 {
     let mut x: u64 = 0;
     let mut i: usize = 0;
     while i < words.len() {

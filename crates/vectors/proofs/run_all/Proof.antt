@@ -3,10 +3,10 @@ use Rattle.vectors.proofs.run_all.Statement.{statement}
 use Rattle.vectors.proofs.run_all.Tie as tie
 
 abbrev Inv-loop : tie.InvT-loop
-Inv-loop config₀ table₀ turns₀ t5 config table turns = Unit {0}
+Inv-loop config₀ table₀ edition₀ turns₀ t5 config table edition turns = Unit {0}
 
 abbrev μ-loop : tie.MeasureT-loop
-μ-loop config₀ table₀ turns₀ t5 config table turns = turns
+μ-loop config₀ table₀ edition₀ turns₀ t5 config table edition turns = turns
 
 loop-holds : tie.Need-loop-holds Inv-loop μ-loop
 loop-holds c = search needs

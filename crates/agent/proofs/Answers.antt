@@ -1,0 +1,96 @@
+-- What each return answers.
+use Prim.Native.Nat.{ℕ}
+use native.Mathlib.Omega.{arith}
+use mathlib.Core.Bool.{Bool, true, false, cond}
+use mathlib.Core.List.{List, [], _∷_}
+use mathlib.Core.Path.{_≡_, refl, sym, ap, subst, _∙_}
+use borrow.Author.Tests.{eq-eqb, ne-eqb}
+use lib.ListN.{length, set}
+use Rattle.rules.specs.Configuration.{checkNumber, checkPlace, checkEarlier, StoredConfig}
+use Rattle.rules.specs.Limits.{limits}
+use Rattle.rules.specs.Plan.{readPlan}
+use Rattle.rules.specs.Tables.{StoredTable}
+use Rattle.rules.specs.Translation.{translated}
+use Rattle.rules.specs.declared.Checked.{Checked}
+use Rattle.rules.specs.declared.Guest.{Guest}
+use Rattle.rules.specs.declared.Request.{Request}
+use Rattle.rules.specs.declared.Side.{Side}
+use Rattle.rules.specs.declared.Side.the-variants.{Cpu, Iommu}
+use Rattle.rules.specs.declared.Translated.{Translated}
+use Rattle.zones.specs.Step.{Stepped}
+use Rattle.plan.specs.Read.{readAnswer}
+use Rattle.plan.specs.declared.read.Read.{Read}
+use Rattle.plan.specs.declared.words.Section.{Section}
+use Rattle.plan.specs.declared.words.Section.the-variants.{End, Bad}
+use Rattle.agent.specs.Agent.{placesOf, yesOrNo, sideOf, numberOf, placeOf, readNumber, readPlace}
+
+-- one word, and two
+pub one-word : (w : List ℕ) (x : ℕ) → length w ≡ 1 → set w 0 x ≡ x ∷ []
+one-word [] x e = absurd (omega arith)
+one-word (a ∷ []) x e = refl
+one-word (a ∷ (b ∷ w)) x e = absurd (omega arith)
+
+pub two-words : (w : List ℕ) (x y : ℕ) → length w ≡ 2 → set (set w 0 x) 1 y ≡ x ∷ y ∷ []
+two-words [] x y e = absurd (omega arith)
+two-words (a ∷ []) x y e = absurd (omega arith)
+two-words (a ∷ (b ∷ [])) x y e = refl
+two-words (a ∷ (b ∷ (c ∷ w))) x y e = absurd (omega arith)
+
+pub places-told : (u : List ℕ) (x y : ℕ) (f g : Checked) → u ≡ x ∷ y ∷ [] → f ≡ g → x ≡ checkPlace f → y ≡ checkEarlier f → u ≡ placesOf g
+unfolding placesOf
+places-told u x y f g h e p q = h ∙ (λ i. (p ∙ ap checkPlace e) i ∷ (q ∙ ap checkEarlier e) i ∷ [])
+
+pub number-told : (n : ℕ) (f g : Checked) → f ≡ g → n ≡ checkNumber f → n ≡ checkNumber g
+number-told n f g e p = p ∙ ap checkNumber e
+
+pub yes : (t b : Bool) → t ≡ b → t ≡ true → 1 ≡ yesOrNo b
+unfolding yesOrNo
+yes t b e h = sym (ap (λ (x : Bool). cond x 1 0) (sym e ∙ h))
+
+pub no : (t b : Bool) → t ≡ b → t ≡ false → 0 ≡ yesOrNo b
+unfolding yesOrNo
+no t b e h = sym (ap (λ (x : Bool). cond x 1 0) (sym e ∙ h))
+
+pub cpu-side : (n : ℕ) → n ≡ 0 → Cpu ≡ sideOf n
+unfolding sideOf
+cpu-side n e = sym (ap (λ (x : Bool). cond x Cpu Iommu) (eq-eqb n 0 e))
+
+pub iommu-side : (n : ℕ) → (n ≡ 0 → ⊥) → Iommu ≡ sideOf n
+unfolding sideOf
+iommu-side n ne = sym (ap (λ (x : Bool). cond x Cpu Iommu) (ne-eqb n 0 ne))
+
+-- a request by its numbers
+pub request-told : (c t u : List ℕ) (q r : Request) (n : ℕ) → q ≡ r → Stepped c t q n u → Stepped c t r n u
+request-told c t u q r n e h = subst (λ (x : Request). Stepped c t x n u) e h
+
+-- a translation on a side by its number
+module _ (c : StoredConfig) (t : StoredTable) (zone : ℕ) (s : Side) (n : ℕ) (a : Guest) (r : Translated) (e : s ≡ sideOf n) (h : r ≡ translated c t zone s a) where
+  same : r ≡ translated c t zone (sideOf n) a
+  same = h ∙ ap (λ (x : Side). translated c t zone x a) e
+
+  pub translation-number : r .number ≡ translated c t zone (sideOf n) a .number
+  translation-number = ap (λ (x : Translated). x .number) same
+
+  pub translation-address : (u : List ℕ) → u ≡ r .phys .0 ∷ [] → u ≡ translated c t zone (sideOf n) a .phys .0 ∷ []
+  translation-address u k = k ∙ ap (λ (x : Translated). x .phys .0 ∷ []) same
+
+-- a plan that was read: r is what the reader answered
+module _ (b : List ℕ) (r : Read) (er : r ≡ readAnswer (length b) (readPlan limits b)) where
+  told : r .section ≡ readAnswer (length b) (readPlan limits b) .section
+  told = ap (λ (x : Read). x .section) er
+
+  pub read-bad : (k a : ℕ) → r .section ≡ Bad k a → k ≡ readNumber b
+  unfolding numberOf
+  read-bad k a f = ap numberOf (sym f ∙ told)
+
+  pub read-bad-place : (k a : ℕ) (u : List ℕ) → r .section ≡ Bad k a → u ≡ a ∷ [] → u ≡ readPlace b ∷ []
+  unfolding placeOf
+  read-bad-place k a u f l = l ∙ ap (λ (x : Section). placeOf x ∷ []) (sym f ∙ told)
+
+  pub read-end : (a : ℕ) → r .section ≡ End a → 0 ≡ readNumber b
+  unfolding numberOf
+  read-end a f = ap numberOf (sym f ∙ told)
+
+  pub read-end-place : (a : ℕ) (u : List ℕ) → r .section ≡ End a → u ≡ a ∷ [] → u ≡ readPlace b ∷ []
+  unfolding placeOf
+  read-end-place a u f l = l ∙ ap (λ (x : Section). placeOf x ∷ []) (sym f ∙ told)

@@ -1,0 +1,41 @@
+-- What the library's functions answer, in numbers that C can hold.
+use Prim.Native.Nat.{ℕ}
+use mathlib.Core.Bool.{Bool, cond}
+use mathlib.Core.List.{List, [], _∷_}
+use lib.Dec.{eqb}
+use lib.ListN.{length}
+use Rattle.rules.specs.Configuration.{checkPlace, checkEarlier}
+use Rattle.rules.specs.Limits.{limits}
+use Rattle.rules.specs.Plan.{readPlan}
+use Rattle.rules.specs.declared.Checked.{Checked}
+use Rattle.rules.specs.declared.Side.{Side}
+use Rattle.rules.specs.declared.Side.the-variants.{Cpu, Iommu}
+use Rattle.plan.specs.Read.{readAnswer}
+use Rattle.plan.specs.declared.words.Section.{Section}
+use Rattle.plan.specs.declared.words.Section.the-variants.{End, Bad}
+
+-- the two places of a configuration's check
+unfoldable pub placesOf : Checked → List ℕ
+placesOf f = checkPlace f ∷ checkEarlier f ∷ []
+
+unfoldable pub yesOrNo : Bool → ℕ
+yesOrNo b = cond b 1 0
+
+-- side 0 is the CPU, any other the IOMMU
+unfoldable pub sideOf : ℕ → Side
+sideOf n = cond (eqb n 0) Cpu Iommu
+
+-- of a plan that is only read: the number, and its offset or that of the first request
+unfoldable pub numberOf : Section → ℕ
+numberOf (End at) = 0
+numberOf (Bad k at) = k
+
+unfoldable pub placeOf : Section → ℕ
+placeOf (End at) = at
+placeOf (Bad k at) = at
+
+abbrev pub readNumber : List ℕ → ℕ
+readNumber b = numberOf (readAnswer (length b) (readPlan limits b) .section)
+
+abbrev pub readPlace : List ℕ → ℕ
+readPlace b = placeOf (readAnswer (length b) (readPlan limits b) .section)

@@ -1,0 +1,162 @@
+// The library for an update agent, for C and Rust to link: include/peatmitten.h has the same functions and layouts. Each function
+// answers on every argument; nothing is asked of the caller beyond pointers and lengths that are valid.
+use plan::Section;
+use plan::State;
+use plan::read_plan;
+use rules::Guest;
+use rules::Outcome;
+use rules::Phys;
+use rules::Region;
+use rules::Side;
+use zones::CONFIG_WORDS;
+use zones::Config;
+use zones::TABLE_WORDS;
+use zones::Table;
+use zones::check_config;
+use zones::check_earlier;
+use zones::check_number;
+use zones::check_place;
+use zones::check_table;
+use zones::make_request;
+use zones::step_in;
+use zones::translate_in;
+ghost use mathlib.Core.List.{[], _∷_};
+ghost use mathlib.Core.Path.{_≡_};
+ghost use lib.ListN.{length};
+ghost use Rattle.rules.specs.Configuration.{check, checkNumber};
+ghost use Rattle.rules.specs.Run.{makeRequest};
+ghost use Rattle.rules.specs.Tables.{checkTable};
+ghost use Rattle.rules.specs.Translation.{translated};
+ghost use Rattle.zones.specs.Step.{Stepped};
+ghost use Rattle.zones.specs.View.{storedConfig, storedTable};
+ghost use Rattle.terminal.specs.Terminal.{Applies};
+ghost use Rattle.agent.specs.Agent.{placesOf, yesOrNo, sideOf, readNumber, readPlace};
+
+// The number of a configuration's check, 1 to 6 for C1 to C6; and its two places.
+#[no_mangle]
+pub extern "C" fn peatmitten_check_config(
+    config: &[u64; CONFIG_WORDS],
+    places: &mut [u64; 2],
+) -> u32
+    ensures { λ n. ⌜ (n ≡ checkNumber (check (storedConfig (now (config .entry))))) × (now (places .exit) ≡ placesOf (check (storedConfig (now (config .entry))))) ⌝ }
+{
+    let words = *config;
+    let found = check_config(Config { words });
+    put_two(
+        places,
+        check_place(found) as u64,
+        check_earlier(found) as u64,
+    );
+    check_number(found)
+}
+
+// 1 for a sound table under a sound configuration, else 0.
+#[no_mangle]
+pub extern "C" fn peatmitten_check_table(
+    config: &[u64; CONFIG_WORDS],
+    table: &[u64; TABLE_WORDS],
+) -> u32
+    ensures { λ n. ⌜ n ≡ yesOrNo (checkTable (storedConfig (now (config .entry))) (storedTable (now (table .entry)))) ⌝ }
+{
+    let c = *config;
+    let t = *table;
+    if check_table(Config { words: c }, Table { words: t }) {
+        return 1;
+    }
+    0
+}
+
+// One request; the table is changed where it lies.
+#[no_mangle]
+pub extern "C" fn peatmitten_request(
+    config: &[u64; CONFIG_WORDS],
+    table: &mut [u64; TABLE_WORDS],
+    kind: u32,
+    zone: u32,
+    v: u64,
+    p: u64,
+    size: u64,
+) -> u32
+    ensures { λ n. ⌜ Stepped (now (config .entry)) (now (table .entry)) (makeRequest kind zone (record { v = record { 0 = v }; p = record { 0 = p }; size = size })) n (now (table .exit)) ⌝ }
+{
+    let region = Region {
+        v: Guest(v),
+        p: Phys(p),
+        size,
+    };
+    let request = make_request(kind, zone, region);
+    step_in(config, table, request)
+}
+
+// Where a guest address of a zone comes out. Side 0 is the CPU, any other the IOMMU.
+#[no_mangle]
+pub extern "C" fn peatmitten_translate(
+    config: &[u64; CONFIG_WORDS],
+    table: &[u64; TABLE_WORDS],
+    zone: u32,
+    side: u32,
+    address: u64,
+    physical: &mut [u64; 1],
+) -> u32
+    ensures { λ n. ⌜ (n ≡ translated (storedConfig (now (config .entry))) (storedTable (now (table .entry))) zone (sideOf side) (record { 0 = address }) .number) × (now (physical .exit) ≡ translated (storedConfig (now (config .entry))) (storedTable (now (table .entry))) zone (sideOf side) (record { 0 = address }) .phys .0 ∷ []) ⌝ }
+{
+    let asked = side_of(side);
+    let found = translate_in(config, table, zone, asked, Guest(address));
+    put_one(physical, found.phys.0);
+    found.number
+}
+
+fn side_of(number: u32) -> Side
+    ensures { λ s. ⌜ s ≡ sideOf number ⌝ }
+{
+    if number == 0 {
+        return Side::Cpu;
+    }
+    Side::Iommu
+}
+
+// Applies a plan to the state that is lent: the number, its place and the inner number. The state is changed where it lies, and only
+// where the number is 0.
+#[no_mangle]
+pub extern "C" fn peatmitten_apply(state: &mut State, plan: &[u8]) -> Outcome
+    ensures { λ r. ⌜ Applies (now (state .entry)) (now (plan .entry)) (now (state .exit)) r ⌝ }
+{
+    let done = plan::apply(*state, plan);
+    *state = done.state;
+    done.outcome
+}
+
+// Reads a plan and applies nothing: 20, 21 or 22 with its offset, or 0 with the offset of the first request.
+#[no_mangle]
+pub extern "C" fn peatmitten_read(plan: &[u8], place: &mut [u64; 1]) -> u32
+    ensures { λ n. ⌜ (n ≡ readNumber (now (plan .entry))) × (now (place .exit) ≡ readPlace (now (plan .entry)) ∷ []) ⌝ }
+{
+    let read = read_plan(plan);
+    let section = read.section;
+    match section {
+        Section::Bad { number, at } => {
+            put_one(place, at as u64);
+            number
+        }
+        Section::End(at) => {
+            put_one(place, at as u64);
+            0
+        }
+    }
+}
+
+// An array that is lent as a slice tells its length.
+fn put_one(w: &mut [u64], x: u64)
+    requires { ⌜ length (now w) ≡ 1 ⌝ }
+    ensures { λ r. ⌜ now (w .exit) ≡ x ∷ [] ⌝ }
+{
+    w[0] = x;
+}
+
+fn put_two(w: &mut [u64], x: u64, y: u64)
+    requires { ⌜ length (now w) ≡ 2 ⌝ }
+    ensures { λ r. ⌜ now (w .exit) ≡ x ∷ y ∷ [] ⌝ }
+{
+    w[0] = x;
+    w[1] = y;
+}

@@ -1,0 +1,184 @@
+/*
+ * Peatmitten: a verified core for update agents of card terminals.
+ *
+ * The functions of libagent.a, a static library for x86-64 Linux. Usable from C11 and from C++11.
+ *
+ * A terminal's hypervisor gives each zone regions of memory: one set for the processor (CPU), one for devices (IOMMU). A plan
+ * is a file that changes them. An agent keeps one peatmitten_state and lends it, with each plan that arrives, to
+ * peatmitten_apply; the other functions answer single questions.
+ *
+ * Every function is total: whatever numbers the memory holds, it ends and gives the answer that is written here. It asks only
+ * that each pointer is valid, aligned and not null, and that memory which it writes overlaps no other argument.
+ */
+#ifndef PEATMITTEN_H
+#define PEATMITTEN_H
+
+#include <stddef.h>
+#include <stdint.h>
+
+#ifdef __cplusplus
+extern "C" {
+#define PEATMITTEN_ASSERT(condition, text) static_assert(condition, text)
+#else
+#define PEATMITTEN_ASSERT(condition, text) _Static_assert(condition, text)
+#endif
+
+/* Limits. */
+enum {
+    PEATMITTEN_MOST_REGIONS = 64,   /* regions of a configuration */
+    PEATMITTEN_MOST_ZONES = 8,      /* zones of a table */
+    PEATMITTEN_MOST_IN_SET = 16,    /* regions of one set of a zone */
+    PEATMITTEN_HIGHEST_ID = 255,    /* the highest zone id */
+    PEATMITTEN_LONGEST_PLAN = 40568 /* bytes; a longer file is no plan */
+};
+
+/*
+ * Where things stand among words.
+ *
+ * A region is three words: v, its guest (virtual) start; p, its physical start; its size in bytes. All are multiples of 4,096.
+ *
+ * A configuration is 194 words: how many regions it has, the position of the GIC's region among them (from 0), then 64 regions.
+ * A table is 793 words: how many zones it has, then 8 zones of 99 words: the id, how many CPU regions, 16 regions, how many IOMMU
+ * regions, 16 regions. Regions and zones past their count are all zero.
+ */
+enum {
+    PEATMITTEN_REGION_WORDS = 3,
+    PEATMITTEN_CONFIG_COUNT = 0,
+    PEATMITTEN_CONFIG_GIC = 1,
+    PEATMITTEN_CONFIG_REGIONS = 2,
+    PEATMITTEN_CONFIG_WORDS = PEATMITTEN_CONFIG_REGIONS + PEATMITTEN_MOST_REGIONS * PEATMITTEN_REGION_WORDS,
+
+    PEATMITTEN_SET_WORDS = 1 + PEATMITTEN_MOST_IN_SET * PEATMITTEN_REGION_WORDS,
+    PEATMITTEN_ZONE_ID = 0,                           /* within a zone */
+    PEATMITTEN_ZONE_CPU = 1,                          /* within a zone: the CPU set, a count and then regions */
+    PEATMITTEN_ZONE_IOMMU = 1 + PEATMITTEN_SET_WORDS, /* within a zone: the IOMMU set */
+    PEATMITTEN_ZONE_WORDS = 1 + 2 * PEATMITTEN_SET_WORDS,
+    PEATMITTEN_TABLE_COUNT = 0,
+    PEATMITTEN_TABLE_ZONES = 1,
+    PEATMITTEN_TABLE_WORDS = PEATMITTEN_TABLE_ZONES + PEATMITTEN_MOST_ZONES * PEATMITTEN_ZONE_WORDS
+};
+
+/* What a terminal keeps: its configuration, its table, and its edition, which each accepted plan raises by one. */
+typedef struct peatmitten_state {
+    uint64_t config[PEATMITTEN_CONFIG_WORDS];
+    uint64_t table[PEATMITTEN_TABLE_WORDS];
+    uint32_t edition;
+} peatmitten_state;
+
+/* What peatmitten_apply answers. */
+typedef struct peatmitten_outcome {
+    uint32_t number; /* a peatmitten_answer: 0, 1, 2 or 20 to 27 */
+    size_t place;    /* on 0 how many requests the plan had, on 20 to 22 an offset, on 27 the index of the refused request, else 0 */
+    uint32_t inner;  /* on 27 why that request is refused, else 0 */
+} peatmitten_outcome;
+
+PEATMITTEN_ASSERT(PEATMITTEN_CONFIG_WORDS == 194, "a configuration is 194 words");
+PEATMITTEN_ASSERT(PEATMITTEN_ZONE_WORDS == 99, "a zone is 99 words");
+PEATMITTEN_ASSERT(PEATMITTEN_TABLE_WORDS == 793, "a table is 793 words");
+PEATMITTEN_ASSERT(offsetof(peatmitten_state, config) == 0, "the configuration stands first");
+PEATMITTEN_ASSERT(offsetof(peatmitten_state, table) == 1552, "the table stands after the configuration");
+PEATMITTEN_ASSERT(offsetof(peatmitten_state, edition) == 7896, "the edition stands after the table");
+PEATMITTEN_ASSERT(sizeof(peatmitten_state) == 7904, "a state is 7,904 bytes, the last 4 of them padding");
+PEATMITTEN_ASSERT(offsetof(peatmitten_outcome, place) == 8, "the place stands after the number");
+PEATMITTEN_ASSERT(offsetof(peatmitten_outcome, inner) == 16, "the inner number stands after the place");
+PEATMITTEN_ASSERT(sizeof(peatmitten_outcome) == 24, "an outcome is 24 bytes");
+PEATMITTEN_ASSERT(sizeof(size_t) == 8, "the library is for a 64-bit machine");
+
+/* What peatmitten_check_config answers: the first fault, C1 to C6. C4 to C6 are looked for position by position. */
+enum peatmitten_config_fault {
+    PEATMITTEN_CONFIG_SOUND = 0,
+    PEATMITTEN_C1_COUNT = 1,    /* no region, or more than 64 */
+    PEATMITTEN_C2_GIC = 2,      /* the GIC's position is not below the count */
+    PEATMITTEN_C3_NOT_ZERO = 3, /* a region past the count is not all zero */
+    PEATMITTEN_C4_FORM = 4,     /* the size is 0, or a number is no multiple of 4,096 */
+    PEATMITTEN_C5_REACH = 5,    /* it ends above 2^48, in guest or in physical addresses */
+    PEATMITTEN_C6_OVERLAP = 6   /* it overlaps an earlier region physically */
+};
+
+/* Kinds of request. */
+enum peatmitten_kind {
+    PEATMITTEN_ADD_ZONE = 1,
+    PEATMITTEN_REMOVE_ZONE = 2,
+    PEATMITTEN_CPU_INSERT = 3,
+    PEATMITTEN_CPU_REMOVE = 4,
+    PEATMITTEN_IOMMU_INSERT = 5,
+    PEATMITTEN_IOMMU_REMOVE = 6
+};
+
+/* Sides of a zone. Any number but 0 is the IOMMU. */
+enum peatmitten_side { PEATMITTEN_CPU = 0, PEATMITTEN_IOMMU = 1 };
+
+/* What the other functions answer. */
+enum peatmitten_answer {
+    PEATMITTEN_ACCEPTED = 0,
+    PEATMITTEN_UNSOUND_CONFIG = 1,    /* the configuration is unsound */
+    PEATMITTEN_UNSOUND_TABLE = 2,     /* the table is unsound */
+    PEATMITTEN_NO_REQUEST = 3,        /* the kind is not 1 to 6, or a nonzero region with kind 1 or 2 */
+    PEATMITTEN_ZONE_ID_TOO_HIGH = 4,  /* the zone id is above 255 */
+    PEATMITTEN_ZONE_THERE = 5,        /* the zone is already there */
+    PEATMITTEN_NO_ZONE = 6,           /* there is no such zone */
+    PEATMITTEN_ZONES_FULL = 7,        /* eight zones are in use */
+    PEATMITTEN_ZONE_IN_USE = 8,       /* either set of the zone holds a region */
+    PEATMITTEN_FORM = 9,              /* the region is not well formed */
+    PEATMITTEN_REACH = 10,            /* the region is out of reach */
+    PEATMITTEN_NOT_CONFIGURED = 11,   /* the region is not equal to a configured one */
+    PEATMITTEN_OVER_GIC = 12,         /* a CPU region overlaps the GIC physically */
+    PEATMITTEN_REGION_THERE = 13,     /* the region is already in that set */
+    PEATMITTEN_PHYSICAL_OVERLAP = 14, /* a forbidden physical overlap */
+    PEATMITTEN_GUEST_OVERLAP = 15,    /* an overlap in guest addresses within that set */
+    PEATMITTEN_SET_FULL = 16,         /* sixteen regions are in that set */
+    PEATMITTEN_NO_REGION = 17,        /* the region is not in that set */
+    PEATMITTEN_NOT_COVERED = 18,      /* (translation) no region covers the address */
+    PEATMITTEN_CUT = 20,              /* (plan) a field is not wholly there; place: its offset */
+    PEATMITTEN_COUNT = 21,            /* (plan) a count is out of range; place: its offset */
+    PEATMITTEN_TRAILING = 22,         /* (plan) bytes after the last section; place: the first one's offset */
+    PEATMITTEN_OTHER_CONFIG = 23,     /* (plan) configuration or GIC position differs from the terminal's */
+    PEATMITTEN_OTHER_EDITION = 24,    /* (plan) the edition differs: most often a repeated or an overtaken plan */
+    PEATMITTEN_LAST_EDITION = 25,     /* (plan) the edition is 2^32 - 1: there is no next one */
+    PEATMITTEN_OTHER_ZONES = 26,      /* (plan) the base zones differ, order included */
+    PEATMITTEN_REQUEST_REFUSED = 27   /* (plan) a request is refused; place: its index from 0; inner: its number, 3 to 17 */
+};
+
+/*
+ * Checks a configuration. Answers a peatmitten_config_fault.
+ * places[0] is the position of the region at fault (C3 to C6), places[1] the lowest earlier position that it overlaps (C6); else 0.
+ */
+uint32_t peatmitten_check_config(const uint64_t config[PEATMITTEN_CONFIG_WORDS], uint64_t places[2]);
+
+/* Answers 1 if the configuration is sound and the table is sound under it, else 0. */
+uint32_t peatmitten_check_table(const uint64_t config[PEATMITTEN_CONFIG_WORDS], const uint64_t table[PEATMITTEN_TABLE_WORDS]);
+
+/*
+ * Makes one request of the table. Answers a peatmitten_answer, 0 to 17: the first that applies in the order of the request's kind.
+ * On 0 the table is changed where it lies; else it is untouched. Kinds 1 and 2 take no region: v, p and size are 0.
+ */
+uint32_t peatmitten_request(const uint64_t config[PEATMITTEN_CONFIG_WORDS], uint64_t table[PEATMITTEN_TABLE_WORDS], uint32_t kind,
+                            uint32_t zone, uint64_t v, uint64_t p, uint64_t size);
+
+/*
+ * Says where a guest address of a zone comes out. Answers 0, 1, 2, 4, 6 or 18 (peatmitten_answer).
+ * physical[0] is the physical address on 0, else 0.
+ */
+uint32_t peatmitten_translate(const uint64_t config[PEATMITTEN_CONFIG_WORDS], const uint64_t table[PEATMITTEN_TABLE_WORDS],
+                              uint32_t zone, uint32_t side, uint64_t address, uint64_t physical[1]);
+
+/*
+ * Reads a plan, without a terminal. Answers 0, 20, 21 or 22 (peatmitten_answer).
+ * place[0] is the offset of the fault or, on 0, that of the first request record (the plan's length, where it has no request).
+ * `plan` points to `length` bytes; it must not be null even where the length is 0.
+ */
+uint32_t peatmitten_read(const uint8_t *plan, size_t length, uint64_t place[1]);
+
+/*
+ * Applies a plan to a terminal's state. On 0 the state is changed where it lies: every request is done and the edition is one higher.
+ * Else it is untouched. `plan` points to `length` bytes; it must not be null even where the length is 0.
+ *
+ * A plan that was damaged in its requests alone may still be accepted: an agent checks a signature before it comes here.
+ */
+peatmitten_outcome peatmitten_apply(peatmitten_state *state, const uint8_t *plan, size_t length);
+
+#ifdef __cplusplus
+}
+#endif
+
+#endif

@@ -1,0 +1,352 @@
+//! Cases on both sides of every boundary. They are the same in every run and reach every number.
+
+use ordinary::limits::{PAGE, REACH};
+use ordinary::{encode, Config, ConfigWords, Record, Region, State, Table, TableWords, Zone, CONFIG_WORDS, TABLE_WORDS};
+
+use crate::case::Case;
+use crate::random::{EDGES, EDITIONS};
+
+const A: Region = Region::new(0x4000_0000, 0x8000_0000, 0x20_0000);
+const B: Region = Region::new(0x4000_0000, 0x8020_0000, 0x20_0000);
+const C: Region = Region::new(0x4010_0000, 0x9000_0000, 0x20_0000);
+const G: Region = Region::new(0x0800_0000, 0x0800_0000, 0x1_0000);
+
+const ZONE_WORDS: usize = 99;
+const CPU_COUNT: usize = 2;
+const IOMMU_COUNT: usize = 51;
+
+pub fn cases() -> Vec<Case> {
+    [config_cases(), table_cases(), request_cases(), translate_cases(), plan_cases()].concat()
+}
+
+fn zone(id: u32, cpu: &[Region], iommu: &[Region]) -> Zone {
+    Zone { id, cpu: cpu.to_vec(), iommu: iommu.to_vec() }
+}
+
+fn record(kind: u32, zone: u32, region: Region) -> Record {
+    Record { kind, zone, region }
+}
+
+/// The document's desk, with what zones 5 and 6 hold.
+fn desk(zones: &[Zone]) -> State {
+    State { config: Config { regions: vec![A, B, C, G], gic: 3 }, table: Table { zones: zones.to_vec() }, edition: 0 }
+}
+
+/// So many regions of a page each, one after the other, the last of them the GIC's.
+fn pages(count: u64) -> Config {
+    let regions = (1..=count).map(|page| Region::new(page * PAGE, page * PAGE, PAGE)).collect();
+    Config { regions, gic: count as usize - 1 }
+}
+
+/// A full configuration and as many regions in eight zones as a sound table can have.
+fn full() -> State {
+    let config = pages(64);
+    let gic = config.regions[63];
+    let zones = config.regions[..63].chunks(8).zip(0..).map(|(own, id)| zone(id, own, &[own, &[gic]].concat())).collect();
+    State { config, table: Table { zones }, edition: 0 }
+}
+
+/// One zone with so many regions in both sets, another that holds a region, and a region that has guest addresses of the first zone's.
+fn sets_of(count: usize) -> State {
+    let mut config = pages(20);
+    config.regions.push(Region::new(PAGE, 40 * PAGE, PAGE));
+    let held = &config.regions[..count];
+    let zones = vec![zone(255, held, held), zone(0, &config.regions[16..17], &[])];
+    State { config, table: Table { zones }, edition: 0 }
+}
+
+/// So many zones, up to eight, among which 6 is not.
+fn table_of(count: usize) -> State {
+    desk(&[0, 5, 7, 8, 9, 10, 255, 254].map(Zone::empty)[..count])
+}
+
+/// The states that the cases are made from. All are sound.
+fn states() -> Vec<State> {
+    vec![
+        State { config: Config { regions: vec![G], gic: 0 }, ..desk(&[]) },
+        desk(&[zone(5, &[], &[]), zone(6, &[], &[])]),
+        desk(&[zone(5, &[], &[G]), zone(6, &[], &[])]),
+        desk(&[zone(5, &[A], &[A, G]), zone(6, &[B], &[G])]),
+        desk(&[zone(6, &[C], &[]), zone(5, &[], &[B])]),
+        full(),
+        sets_of(15),
+        sets_of(16),
+        table_of(7),
+        table_of(8),
+    ]
+}
+
+/// Regions on both sides of form and reach.
+fn edge_regions() -> Vec<Region> {
+    let mut regions = vec![
+        Region::ZERO,
+        Region { size: 0, ..A },
+        Region { size: 0x1800, ..A },
+        Region { size: 0x1000, ..A },
+        Region::new(0, PAGE.wrapping_neg(), 2 * PAGE),
+        Region::new(PAGE.wrapping_neg(), 0, 2 * PAGE),
+        Region::new(0, 0, REACH),
+        Region::new(0, 0, REACH + PAGE),
+    ];
+    for start in EDGES {
+        for size in [PAGE, PAGE.wrapping_neg()] {
+            regions.push(Region::new(start, 0, size));
+            regions.push(Region::new(0, start, size));
+        }
+    }
+    regions
+}
+
+/// The words with each of the given ones set to each edge in turn.
+fn with_edges<const N: usize>(words: [u64; N], places: &[usize]) -> Vec<[u64; N]> {
+    let change = |&at: &usize| {
+        EDGES.map(|edge| {
+            let mut changed = words;
+            changed[at] = edge;
+            changed
+        })
+    };
+    places.iter().flat_map(change).collect()
+}
+
+fn all_configs() -> Vec<ConfigWords> {
+    let mut configs: Vec<ConfigWords> = states().iter().map(|state| state.config.to_words()).collect();
+    for config in configs.clone() {
+        configs.extend(with_edges(config, &[0, 1, 2, 3, 4, 193]));
+    }
+    for region in edge_regions() {
+        configs.push(Config { regions: vec![G, region], gic: 0 }.to_words());
+        configs.push(Config { regions: vec![region, G], gic: 1 }.to_words());
+    }
+    configs.push(Config { regions: vec![G, A, Region { p: A.p, ..C }, B], gic: 0 }.to_words());
+    configs.push(Config { regions: vec![B, A, Region::new(0, A.p.0 - PAGE, 0x100_0000)], gic: 0 }.to_words());
+    configs
+}
+
+fn config_cases() -> Vec<Case> {
+    all_configs().into_iter().map(Case::config).collect()
+}
+
+/// Tables of the desk that each break one clause.
+fn broken_tables() -> Vec<TableWords> {
+    [
+        vec![zone(256, &[], &[])],
+        vec![zone(5, &[], &[]), zone(5, &[], &[])],
+        vec![zone(0, &[], &[]), zone(0, &[], &[])],
+        vec![zone(5, &[A, A], &[])],
+        vec![zone(5, &[A, B], &[])],
+        vec![zone(5, &[A, C], &[])],
+        vec![zone(5, &[], &[G, G])],
+        vec![zone(5, &[G], &[])],
+        vec![zone(5, &[A], &[]), zone(6, &[A], &[])],
+        vec![zone(5, &[A], &[]), zone(6, &[], &[A])],
+        vec![zone(5, &[], &[A]), zone(6, &[A], &[])],
+        vec![zone(5, &[], &[A]), zone(6, &[], &[A])],
+        vec![zone(5, &[Region { size: 0x1000, ..A }], &[])],
+        vec![zone(5, &[Region::ZERO], &[])],
+        vec![zone(5, &[], &[Region { v: A.v, ..G }])],
+    ]
+    .into_iter()
+    .map(|zones| Table { zones }.to_words())
+    .collect()
+}
+
+fn table_cases() -> Vec<Case> {
+    let mut cases = Vec::new();
+    let last_zone = 1 + 7 * ZONE_WORDS;
+    let places = [0, 1, CPU_COUNT, 3, 50, IOMMU_COUNT, 100, last_zone, 792];
+    for state in states() {
+        let (config, table) = (state.config.to_words(), state.table.to_words());
+        cases.push(Case::table(config, table));
+        cases.push(Case::table([0; CONFIG_WORDS], table));
+        cases.extend(with_edges(table, &places).into_iter().map(|table| Case::table(config, table)));
+    }
+    let config = desk(&[]).config.to_words();
+    cases.extend(broken_tables().into_iter().map(|table| Case::table(config, table)));
+    cases
+}
+
+/// Requests of every kind for zones that are there and that are not, with regions of the desk and of the configuration.
+fn requests(state: &State) -> Vec<Record> {
+    let mut regions = vec![Region::ZERO, A, B, C, G];
+    let step = if state.config.regions.len() < 64 { 1 } else { 8 };
+    regions.extend(state.config.regions.iter().step_by(step));
+    let mut requests = Vec::new();
+    for kind in 1..=6 {
+        for id in [0, 5, 6, 255] {
+            requests.extend(regions.iter().map(|&region| record(kind, id, region)));
+        }
+    }
+    requests
+}
+
+/// Requests in which one number is at an edge.
+fn edge_requests() -> Vec<Record> {
+    let mut requests = Vec::new();
+    for region in edge_regions() {
+        requests.extend([1, 3, 4, 5].map(|kind| record(kind, 5, region)));
+    }
+    for edge in EDGES.map(|edge| edge as u32) {
+        requests.extend([1, 2, 3, 6].map(|kind| record(kind, edge, Region::ZERO)));
+        requests.extend([5, 256].map(|id| record(edge, id, A)));
+    }
+    for high in [1 << 8, 1 << 16, 1 << 31] {
+        requests.extend((1..=6).map(|kind| record(high | kind, 5, A)));
+        requests.extend((1..=6).map(|kind| record(high | kind, 9, Region::ZERO)));
+    }
+    requests
+}
+
+fn request_cases() -> Vec<Case> {
+    let mut cases = Vec::new();
+    for state in states() {
+        let (config, table) = (state.config.to_words(), state.table.to_words());
+        cases.extend(requests(&state).into_iter().map(|record| Case::request(config, table, record)));
+    }
+    let desk = desk(&[zone(5, &[], &[]), zone(6, &[], &[])]);
+    let (config, table) = (desk.config.to_words(), desk.table.to_words());
+    cases.extend(edge_requests().into_iter().map(|record| Case::request(config, table, record)));
+    let add = record(1, 9, Region::ZERO);
+    cases.extend(broken_tables().into_iter().map(|table| Case::request(config, table, add)));
+    cases.extend(broken_tables().into_iter().map(|table| Case::request([0; CONFIG_WORDS], table, add)));
+    cases
+}
+
+fn translate_cases() -> Vec<Case> {
+    let mut cases = Vec::new();
+    let mut addresses = EDGES.to_vec();
+    for region in [A, B, C, G] {
+        let end = region.v.0 + region.size;
+        addresses.extend([region.v.0 - 1, region.v.0, region.v.0 + 1, end - 1, end]);
+    }
+    for state in states() {
+        let (config, table) = (state.config.to_words(), state.table.to_words());
+        for id in [0, 5, 255, 256] {
+            for side in [0, 2] {
+                cases.extend(addresses.iter().map(|&address| Case::translate(config, table, id, side, address)));
+            }
+        }
+    }
+    let config = desk(&[]).config.to_words();
+    cases.extend(broken_tables().into_iter().map(|table| Case::translate(config, table, 5, 0, 0)));
+    cases.push(Case::translate([0; CONFIG_WORDS], [0; TABLE_WORDS], 5, 0, 0));
+    cases
+}
+
+/// Reading these bytes, and applying them to this state.
+fn both(state: &State, plan: &[u8]) -> [Case; 2] {
+    let apply = Case::apply(state.config.to_words(), state.table.to_words(), state.edition, plan.to_vec());
+    [Case::read(plan.to_vec()), apply]
+}
+
+fn plan_cases() -> Vec<Case> {
+    [whole_plans(), cut_plans(), plans_with_edges(), plans_for_others(), refused_plans(), unsound_terminals()].concat()
+}
+
+/// Plans with as few and as many of everything as there can be, and with one more.
+fn whole_plans() -> Vec<Case> {
+    let add_and_remove = |count: usize| -> Vec<Record> {
+        [1, 2].into_iter().cycle().map(|kind| record(kind, 9, Region::ZERO)).take(count).collect()
+    };
+    let state = desk(&[zone(5, &[A], &[A, G])]);
+    let mut cases = Vec::new();
+    for count in [0, 1, 2, 1023, 1024, 1025] {
+        cases.extend(both(&state, &encode(&state, &add_and_remove(count))));
+    }
+    for state in states() {
+        cases.extend(both(&state, &encode(&state, &[])));
+    }
+    for edition in EDITIONS {
+        let state = State { edition, ..state.clone() };
+        cases.extend(both(&state, &encode(&state, &add_and_remove(1))));
+    }
+    for (regions, zones, in_set) in [(64, 8, 16), (65, 8, 16), (64, 9, 16), (64, 8, 17), (0, 0, 0), (1, 0, 0)] {
+        let zones = vec![zone(0, &vec![A; in_set], &vec![A; in_set]); zones];
+        let base = State { config: Config { regions: vec![A; regions], gic: 0 }, table: Table { zones }, edition: 0 };
+        let plan = encode(&base, &add_and_remove(1024));
+        cases.extend(both(&state, &plan));
+        cases.extend(both(&state, &[&plan[..], &[0]].concat()));
+    }
+    cases
+}
+
+/// A plan cut at every length, and made longer.
+fn cut_plans() -> Vec<Case> {
+    let state = desk(&[zone(5, &[A], &[A, G]), zone(6, &[], &[])]);
+    let plan = encode(&state, &[record(3, 6, B), record(1, 7, Region::ZERO)]);
+    let mut cases: Vec<Case> = (0..plan.len()).flat_map(|length| both(&state, &plan[..length])).collect();
+    for more in [1, 31, 32, 33] {
+        cases.extend(both(&state, &[&plan[..], &vec![0; more]].concat()));
+    }
+    cases
+}
+
+/// A plan with each of its fields of four bytes set to each edge in turn.
+fn plans_with_edges() -> Vec<Case> {
+    let state = desk(&[zone(5, &[A], &[G])]);
+    let plan = encode(&state, &[record(5, 5, A)]);
+    let mut cases = Vec::new();
+    for at in (0..plan.len()).step_by(4) {
+        for edge in EDGES {
+            let mut changed = plan.clone();
+            changed[at..at + 4].copy_from_slice(&(edge as u32).to_le_bytes());
+            cases.push(Case::apply(state.config.to_words(), state.table.to_words(), state.edition, changed));
+        }
+    }
+    cases
+}
+
+/// Every state's plan at every other state, and at other editions.
+fn plans_for_others() -> Vec<Case> {
+    let mut cases = Vec::new();
+    for base in states() {
+        for edition in [0, 1] {
+            let plan = encode(&State { edition, ..base.clone() }, &[]);
+            cases.extend(states().iter().flat_map(|state| both(state, &plan)));
+        }
+    }
+    for base in EDITIONS {
+        for edition in EDITIONS {
+            let [base, state] = [base, edition].map(|edition| State { edition, ..desk(&[zone(5, &[], &[])]) });
+            let other_zones = State { edition, ..desk(&[]) };
+            cases.extend(both(&state, &encode(&base, &[record(1, 5, Region::ZERO)])));
+            cases.extend(both(&other_zones, &encode(&base, &[])));
+        }
+    }
+    cases
+}
+
+/// Plans of a request that may be accepted, the same again, and one that never is.
+fn refused_plans() -> Vec<Case> {
+    let mut cases = Vec::new();
+    for state in states() {
+        for request in requests(&state).into_iter().chain(edge_requests().into_iter().step_by(7)) {
+            let plan = encode(&state, &[request, request, record(0, 0, Region::ZERO)]);
+            cases.push(Case::apply(state.config.to_words(), state.table.to_words(), state.edition, plan));
+        }
+    }
+    cases
+}
+
+/// Terminals that are unsound themselves, which comes before anything in the plan.
+fn unsound_terminals() -> Vec<Case> {
+    let state = desk(&[]);
+    let plan = encode(&state, &[]);
+    let config = state.config.to_words();
+    let mut cases = Vec::new();
+    for bytes in [&plan[..], &plan[..5], &[]] {
+        cases.extend(broken_tables().into_iter().map(|table| Case::apply(config, table, 0, bytes.to_vec())));
+        cases.push(Case::apply([0; CONFIG_WORDS], [u64::MAX; TABLE_WORDS], 0, bytes.to_vec()));
+    }
+    cases
+}
+
+#[cfg(test)]
+mod tests {
+    use super::*;
+
+    #[test]
+    fn the_states_are_sound() {
+        assert!(states().iter().all(|state| state.table.is_sound(&state.config)));
+    }
+}

@@ -1,0 +1,365 @@
+//! Random cases, most of them near the line between what is accepted and what is refused.
+
+use ordinary::limits::{MAX_REQUESTS, PAGE, REACH};
+use ordinary::{encode, Config, ConfigWords, Record, Region, State, Table, TableWords, Zone};
+
+use crate::case::Case;
+use crate::damage::{damage_bytes, damage_words};
+use crate::rng::Rng;
+
+/// Numbers at which something changes, or just beside.
+pub const EDGES: [u64; 36] = [
+    0,
+    1,
+    2,
+    3,
+    4,
+    5,
+    6,
+    7,
+    8,
+    9,
+    15,
+    16,
+    17,
+    63,
+    64,
+    65,
+    255,
+    256,
+    0x101,
+    PAGE - 1,
+    PAGE,
+    0x1800,
+    2 * PAGE,
+    1023,
+    1024,
+    1025,
+    REACH - PAGE,
+    REACH - 1,
+    REACH,
+    REACH + PAGE,
+    1 << 32,
+    (1 << 32) - 1,
+    1 << 63,
+    u64::MAX - 2 * PAGE + 1,
+    u64::MAX - PAGE + 1,
+    u64::MAX,
+];
+
+/// Editions at which something changes, or just beside.
+pub const EDITIONS: [u32; 5] = [0, 1, 2, u32::MAX - 1, u32::MAX];
+
+pub fn number(rng: &mut Rng) -> u64 {
+    match rng.below(8) {
+        0 => rng.word(),
+        1 => rng.word() % REACH / PAGE * PAGE,
+        2 => rng.word() % 64 * PAGE,
+        _ => *rng.pick(&EDGES),
+    }
+}
+
+fn number_32(rng: &mut Rng) -> u32 {
+    number(rng) as u32
+}
+
+fn edition(rng: &mut Rng) -> u32 {
+    match rng.below(4) {
+        0 => number_32(rng),
+        _ => *rng.pick(&EDITIONS),
+    }
+}
+
+/// A sound configuration: stretches of physical memory, many of them adjoining, in any order.
+pub fn config(rng: &mut Rng) -> Config {
+    let count = match rng.below(6) {
+        0 => 1,
+        1 => 64,
+        2 => 17 + rng.below(48),
+        _ => 2 + rng.below(14),
+    };
+    let sizes: Vec<u64> = (0..count).map(|_| PAGE * (1 + rng.below(4) as u64)).collect();
+    let mut p = if rng.one_in(4) { REACH - sizes.iter().sum::<u64>() } else { 0 };
+    let has_gaps = p == 0;
+    let is_crowded = rng.one_in(2);
+    let mut regions = Vec::new();
+    for size in sizes {
+        if has_gaps && rng.one_in(4) {
+            p += PAGE * (1 + rng.below(16) as u64);
+        }
+        regions.push(Region::new(guest_start(rng, p, size, is_crowded), p, size));
+        p += size;
+    }
+    rng.shuffle(&mut regions);
+    let gic = rng.below(count);
+    Config { regions, gic }
+}
+
+/// Where a region stands in guest addresses: where it is physically, or where others are likely to be too.
+fn guest_start(rng: &mut Rng, p: u64, size: u64, is_crowded: bool) -> u64 {
+    match rng.below(16) {
+        0 => REACH - size,
+        _ if is_crowded => PAGE * rng.below(24) as u64,
+        _ => p,
+    }
+}
+
+/// Any zone's id.
+fn any_id(rng: &mut Rng) -> u32 {
+    match rng.below(4) {
+        0 => number_32(rng),
+        _ => rng.below(24) as u32,
+    }
+}
+
+/// A zone's id, most often of one that is there, and of those most often the first, so that it fills up.
+fn zone_id(rng: &mut Rng, table: &Table) -> u32 {
+    if table.zones.is_empty() || rng.one_in(8) {
+        return any_id(rng);
+    }
+    let zone = if rng.one_in(2) { &table.zones[0] } else { rng.pick(&table.zones) };
+    zone.id
+}
+
+fn altered(rng: &mut Rng, region: Region) -> Region {
+    let mut numbers = [region.v.0, region.p.0, region.size];
+    numbers[rng.below(3)] = number(rng);
+    let [v, p, size] = numbers;
+    Region::new(v, p, size)
+}
+
+fn configured(rng: &mut Rng, config: &Config) -> Region {
+    match rng.below(8) {
+        0 => config.regions[config.gic],
+        _ => *rng.pick(&config.regions),
+    }
+}
+
+/// A region that the zone holds, or else a configured one.
+fn held(rng: &mut Rng, config: &Config, table: &Table, zone: u32) -> Region {
+    let zone = table.zones.iter().find(|there| there.id == zone);
+    let regions: Vec<Region> = zone.into_iter().flat_map(|zone| zone.cpu.iter().chain(&zone.iommu)).copied().collect();
+    if regions.is_empty() {
+        return configured(rng, config);
+    }
+    *rng.pick(&regions)
+}
+
+/// A request that is likely to be accepted, or to be refused late in its order.
+pub fn request(rng: &mut Rng, config: &Config, table: &Table) -> Record {
+    let kind = match rng.below(32) {
+        0 => number_32(rng),
+        1..=4 => 1,
+        5..=6 => 2,
+        7..=16 => 3,
+        17..=19 => 4,
+        20..=28 => 5,
+        _ => 6,
+    };
+    let zone = if kind == 1 { any_id(rng) } else { zone_id(rng, table) };
+    let region = match kind {
+        1 | 2 => Region::ZERO,
+        4 | 6 => held(rng, config, table, zone),
+        _ => configured(rng, config),
+    };
+    let region = if rng.one_in(16) { altered(rng, region) } else { region };
+    Record { kind, zone, region }
+}
+
+/// Requests for a plan, most of which are accepted one after the other.
+pub fn requests(rng: &mut Rng, config: &Config, table: &Table) -> Vec<Record> {
+    let wanted = match rng.below(100) {
+        0 => MAX_REQUESTS,
+        1 => MAX_REQUESTS + 1,
+        _ => rng.below(10),
+    };
+    let mut table = table.clone();
+    let mut requests = Vec::new();
+    while requests.len() < wanted.min(12) {
+        let request = request(rng, config, &table);
+        if table.request(config, &request).is_ok() || rng.one_in(24) {
+            requests.push(request);
+        }
+    }
+    fill_up(&table, &mut requests, wanted);
+    requests
+}
+
+/// Adds and removes a zone until there are as many requests as wanted.
+fn fill_up(table: &Table, requests: &mut Vec<Record>, wanted: usize) {
+    let free = (0..).find(|&id| table.zones.iter().all(|zone| zone.id != id)).expect("a free id");
+    for kind in [1, 2].into_iter().cycle() {
+        if requests.len() >= wanted {
+            return;
+        }
+        requests.push(Record { kind, zone: free, region: Region::ZERO });
+    }
+}
+
+/// A table that is changed without asking: it may be sound or break a single clause.
+fn bent_table(rng: &mut Rng, state: &State) -> Table {
+    let mut table = state.table.clone();
+    if table.zones.is_empty() || table.zones.len() < 8 && rng.one_in(4) {
+        let id = zone_id(rng, &table);
+        table.zones.push(Zone::empty(id));
+        return table;
+    }
+    let region = configured(rng, &state.config);
+    let at = rng.below(table.zones.len());
+    let zone = &mut table.zones[at];
+    let set = if rng.one_in(2) { &mut zone.cpu } else { &mut zone.iommu };
+    if set.len() < 16 {
+        set.push(region);
+    }
+    table
+}
+
+/// A configuration in which one region is changed without asking.
+fn bent_config(rng: &mut Rng, config: &Config) -> Config {
+    let mut config = config.clone();
+    let at = rng.below(config.regions.len());
+    let other = *rng.pick(&config.regions);
+    let region = &mut config.regions[at];
+    match rng.below(4) {
+        0 => *region = altered(rng, *region),
+        1 => region.p = other.p,
+        2 => region.size += PAGE * (1 + rng.below(64) as u64),
+        _ => region.p.0 = region.p.0.wrapping_sub(PAGE),
+    }
+    config
+}
+
+/// The base of a plan for another terminal: one that differs in one thing.
+fn other_base(rng: &mut Rng, state: &State) -> State {
+    let mut base = state.clone();
+    match rng.below(5) {
+        0 => base.edition = base.edition.wrapping_add(*rng.pick(&[1, u32::MAX, 1 << 8, 1 << 31])),
+        1 => base.config = bent_config(rng, &base.config),
+        2 => base.config.gic = rng.below(base.config.regions.len()),
+        3 => rng.shuffle(&mut base.table.zones),
+        _ => base.table = bent_table(rng, state),
+    }
+    base
+}
+
+/// A sound configuration with a sound table, from which cases are made while the table changes.
+pub struct World {
+    state: State,
+}
+
+impl World {
+    pub fn new(rng: &mut Rng) -> World {
+        let mut world = World { state: State { config: config(rng), table: Table::default(), edition: 0 } };
+        let steps = rng.below(160);
+        world.change(rng, steps);
+        world
+    }
+
+    fn change(&mut self, rng: &mut Rng, steps: usize) {
+        for _ in 0..steps {
+            let request = request(rng, &self.state.config, &self.state.table);
+            // A refused request leaves the table as it was.
+            let _ = self.state.table.request(&self.state.config, &request);
+        }
+    }
+
+    pub fn case(&mut self, rng: &mut Rng) -> Case {
+        self.change(rng, 3);
+        self.state.edition = edition(rng);
+        match rng.below(20) {
+            0..=2 => self.config_case(rng),
+            3..=5 => self.table_case(rng),
+            6..=10 => self.request_case(rng),
+            11..=12 => self.translate_case(rng),
+            13..=14 => Case::read(self.plan(rng)),
+            _ => self.apply_case(rng),
+        }
+    }
+
+    fn config_case(&self, rng: &mut Rng) -> Case {
+        let config = &self.state.config;
+        match rng.below(8) {
+            0 => Case::config(config.to_words()),
+            1..=3 => Case::config(bent_config(rng, config).to_words()),
+            4 => Case::config(std::array::from_fn(|_| number(rng))),
+            _ => {
+                let mut words = config.to_words();
+                damage_words(rng, &mut words);
+                Case::config(words)
+            }
+        }
+    }
+
+    fn table_case(&self, rng: &mut Rng) -> Case {
+        let config = self.state.config.to_words();
+        match rng.below(8) {
+            0 => Case::table(config, self.state.table.to_words()),
+            1..=3 => Case::table(config, bent_table(rng, &self.state).to_words()),
+            4 => Case::table(config, std::array::from_fn(|_| number(rng))),
+            _ => {
+                let (config, table) = self.damaged_base(rng);
+                Case::table(config, table)
+            }
+        }
+    }
+
+    fn words(&self) -> (ConfigWords, TableWords) {
+        (self.state.config.to_words(), self.state.table.to_words())
+    }
+
+    /// The words of the configuration and of the table, one of the two damaged.
+    fn damaged_base(&self, rng: &mut Rng) -> (ConfigWords, TableWords) {
+        let (mut config, mut table) = self.words();
+        if rng.one_in(4) {
+            damage_words(rng, &mut config);
+        } else {
+            damage_words(rng, &mut table);
+        }
+        (config, table)
+    }
+
+    /// The words of the configuration and of the table, damaged now and then.
+    fn base(&self, rng: &mut Rng) -> (ConfigWords, TableWords) {
+        if rng.one_in(8) {
+            self.damaged_base(rng)
+        } else {
+            self.words()
+        }
+    }
+
+    fn request_case(&self, rng: &mut Rng) -> Case {
+        let (config, table) = self.base(rng);
+        Case::request(config, table, request(rng, &self.state.config, &self.state.table))
+    }
+
+    fn translate_case(&self, rng: &mut Rng) -> Case {
+        let (config, table) = self.base(rng);
+        let zone = zone_id(rng, &self.state.table);
+        let region = held(rng, &self.state.config, &self.state.table, zone);
+        let address = match rng.below(6) {
+            0 => region.v.0,
+            1 => region.v.0.wrapping_sub(1),
+            2 => region.v.0 + region.size - 1,
+            3 => region.v.0 + region.size,
+            4 => region.v.0 + rng.word() % region.size,
+            _ => number(rng),
+        };
+        Case::translate(config, table, zone, *rng.pick(&[0, 0, 1, 1, 2, 256, u32::MAX]), address)
+    }
+
+    /// A plan, most often for this state, and now and then damaged.
+    fn plan(&self, rng: &mut Rng) -> Vec<u8> {
+        let requests = requests(rng, &self.state.config, &self.state.table);
+        let base = if rng.one_in(4) { other_base(rng, &self.state) } else { self.state.clone() };
+        let mut plan = encode(&base, &requests);
+        if rng.one_in(3) {
+            damage_bytes(rng, &mut plan);
+        }
+        plan
+    }
+
+    fn apply_case(&self, rng: &mut Rng) -> Case {
+        let (config, table) = self.base(rng);
+        Case::apply(config, table, self.state.edition, self.plan(rng))
+    }
+}

@@ -1,0 +1,79 @@
+//! Counts the answers by question and number.
+
+use std::collections::BTreeMap;
+use std::fmt;
+
+use crate::case::{Answer, Case, Question, Trouble};
+
+/// What every run must answer at least once, by question.
+const ALL_NUMBERS: [(Question, &[u32]); 6] = [
+    (Question::Config, &[0, 1, 2, 3, 4, 5, 6]),
+    (Question::Table, &[0, 1]),
+    (Question::Request, &[0, 1, 2, 3, 4, 5, 6, 7, 8, 9, 10, 11, 12, 13, 14, 15, 16, 17]),
+    (Question::Translate, &[0, 1, 2, 4, 6, 18]),
+    (Question::Read, &[0, 20, 21, 22]),
+    (Question::Apply, &[0, 1, 2, 20, 21, 22, 23, 24, 25, 26, 27]),
+];
+
+const REQUEST_REFUSED: u32 = 27;
+
+/// The numbers of requests that can stand inside 27.
+const ALL_INNER: [u64; 15] = [3, 4, 5, 6, 7, 8, 9, 10, 11, 12, 13, 14, 15, 16, 17];
+
+#[derive(Default)]
+pub struct Tally {
+    answers: BTreeMap<(Question, u32), usize>,
+    inner: BTreeMap<u64, usize>,
+    deliveries: usize,
+}
+
+impl Tally {
+    /// Counts an answer. One that the question does not have is trouble.
+    pub fn add(&mut self, case: &Case, answer: &Answer) -> Result<(), Trouble> {
+        if !ALL_NUMBERS.iter().any(|(question, numbers)| *question == case.question && numbers.contains(&answer.number)) {
+            let text = format!("both answer {}, which is no answer to this question", answer.number);
+            return Err(Trouble::new(text, case.clone()));
+        }
+        *self.answers.entry((case.question, answer.number)).or_default() += 1;
+        if case.question == Question::Apply && answer.number == REQUEST_REFUSED {
+            *self.inner.entry(answer.places[1]).or_default() += 1;
+        }
+        Ok(())
+    }
+
+    /// Counts a plan that came to a simulated terminal, which is counted as an answer too.
+    pub fn add_delivery(&mut self, case: &Case, answer: &Answer) -> Result<(), Trouble> {
+        self.deliveries += 1;
+        self.add(case, answer)
+    }
+
+    pub fn total(&self) -> usize {
+        self.answers.values().sum()
+    }
+
+    /// What was never answered.
+    pub fn missing(&self) -> Vec<String> {
+        let numbers = ALL_NUMBERS.iter().flat_map(|(question, numbers)| numbers.iter().map(|&number| (*question, number)));
+        let answers =
+            numbers.filter(|key| !self.answers.contains_key(key)).map(|(question, number)| format!("{question:?} {number}"));
+        let inner = ALL_INNER.iter().filter(|number| !self.inner.contains_key(number)).map(|number| format!("27 with {number}"));
+        answers.chain(inner).collect()
+    }
+}
+
+impl fmt::Display for Tally {
+    fn fmt(&self, f: &mut fmt::Formatter) -> fmt::Result {
+        for (question, _) in ALL_NUMBERS {
+            let of_question = self.answers.iter().filter(|((asked, _), _)| *asked == question);
+            write_counts(f, &format!("{question:?}"), of_question.map(|((_, number), count)| (u64::from(*number), *count)))?;
+        }
+        write_counts(f, "inside 27", self.inner.iter().map(|(number, count)| (*number, *count)))?;
+        writeln!(f, "{:<10} {} of the plans applied came to simulated terminals", "", self.deliveries)
+    }
+}
+
+/// A line of numbers, each with how often it was answered.
+fn write_counts(f: &mut fmt::Formatter, name: &str, counts: impl Iterator<Item = (u64, usize)>) -> fmt::Result {
+    let counts: Vec<String> = counts.map(|(number, count)| format!("{number}: {count}")).collect();
+    writeln!(f, "{name:<10} {}", counts.join("  "))
+}

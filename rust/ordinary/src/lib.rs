@@ -1,0 +1,41 @@
+//! The rules of document 01 in ordinary Rust: regions, configurations, tables, requests, translation, plans and terminals.
+//!
+//! It is written from the document alone and shares nothing with the proved code, so that the two can be compared
+//! (`rust/compare`) and measured against each other (`rust/bench`).
+
+#![forbid(unsafe_code)]
+#![deny(missing_docs)]
+
+mod config;
+mod plan;
+mod region;
+mod request;
+mod table;
+mod terminal;
+mod words;
+
+pub use config::{Config, ConfigFault};
+pub use plan::{encode, Plan, ReadFault, Requests};
+pub use region::{Guest, Phys, Region};
+pub use request::{Action, Record, Refusal};
+pub use table::{Side, Table, Zone};
+pub use terminal::{PlanRefusal, State};
+pub use words::{ConfigWords, TableWords, CONFIG_WORDS, TABLE_WORDS};
+
+/// The limits that the document sets.
+pub mod limits {
+    /// Every start and every size is a multiple of this.
+    pub const PAGE: u64 = 4096;
+    /// No region ends above this, in guest or in physical addresses.
+    pub const REACH: u64 = 1 << 48;
+    /// The most regions of a configuration.
+    pub const MAX_REGIONS: usize = 64;
+    /// The most zones of a table.
+    pub const MAX_ZONES: usize = 8;
+    /// The most regions of one set.
+    pub const MAX_IN_SET: usize = 16;
+    /// The highest zone id.
+    pub const MAX_ID: u32 = 255;
+    /// The most requests of a plan.
+    pub const MAX_REQUESTS: usize = 1024;
+}

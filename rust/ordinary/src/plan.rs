@@ -1,0 +1,218 @@
+use std::ops::RangeInclusive;
+
+use crate::config::Config;
+use crate::limits::{MAX_IN_SET, MAX_REGIONS, MAX_REQUESTS, MAX_ZONES};
+use crate::region::Region;
+use crate::request::Record;
+use crate::table::{Table, Zone};
+use crate::terminal::State;
+
+const REGION_BYTES: usize = 24;
+const REQUEST_BYTES: usize = 32;
+const MARKS: u32 = 2;
+
+/// A plan that was read whole. The requests stay where they are in its bytes.
+#[derive(Clone, Debug)]
+pub struct Plan<'a> {
+    /// The configuration that it is for.
+    pub config: Config,
+    /// The edition that it is for.
+    pub edition: u32,
+    /// The zones that it is for.
+    pub table: Table,
+    /// What it asks.
+    pub requests: Requests<'a>,
+    /// Where the first request record stands, or would stand.
+    pub requests_at: usize,
+}
+
+/// The request records of a plan.
+#[derive(Clone, Copy, Debug)]
+pub struct Requests<'a>(&'a [u8]);
+
+/// Why bytes are no plan, and the offset at which that shows.
+#[derive(Clone, Copy, Debug, PartialEq, Eq)]
+pub enum ReadFault {
+    /// 20: a field is not wholly there.
+    Cut(usize),
+    /// 21: a count is out of range.
+    Count(usize),
+    /// 22: there are bytes after the last section.
+    Trailing(usize),
+}
+
+impl ReadFault {
+    /// The document's number.
+    pub fn number(&self) -> u32 {
+        match self {
+            ReadFault::Cut(_) => 20,
+            ReadFault::Count(_) => 21,
+            ReadFault::Trailing(_) => 22,
+        }
+    }
+
+    /// The offset.
+    pub fn offset(&self) -> usize {
+        match *self {
+            ReadFault::Cut(offset) | ReadFault::Count(offset) | ReadFault::Trailing(offset) => offset,
+        }
+    }
+}
+
+impl<'a> Plan<'a> {
+    /// Reads a plan, up to the first fault in file order.
+    pub fn read(bytes: &'a [u8]) -> Result<Plan<'a>, ReadFault> {
+        let mut reader = Reader { bytes, at: 0 };
+        reader.count(MARKS..=MARKS)?;
+        let gic = reader.number()? as usize;
+        let edition = reader.number()?;
+        let regions = reader.regions(1..=MAX_REGIONS as u32)?;
+        let table = reader.table()?;
+        let (requests_at, requests) = reader.requests()?;
+        reader.end()?;
+        Ok(Plan { config: Config { regions, gic }, edition, table, requests, requests_at })
+    }
+}
+
+impl<'a> Requests<'a> {
+    /// How many there are.
+    pub fn len(&self) -> usize {
+        self.0.len() / REQUEST_BYTES
+    }
+
+    /// Whether there is none.
+    pub fn is_empty(&self) -> bool {
+        self.0.is_empty()
+    }
+
+    /// The requests in order.
+    pub fn iter(&self) -> impl Iterator<Item = Record> + 'a {
+        self.0.chunks_exact(REQUEST_BYTES).map(|record| Record {
+            kind: u32_at(record, 0),
+            zone: u32_at(record, 4),
+            region: region_at(record, 8),
+        })
+    }
+}
+
+/// The bytes of a plan and how far they are read.
+struct Reader<'a> {
+    bytes: &'a [u8],
+    at: usize,
+}
+
+impl<'a> Reader<'a> {
+    fn field(&mut self, size: usize) -> Result<&'a [u8], ReadFault> {
+        let field = self.bytes[self.at..].get(..size).ok_or(ReadFault::Cut(self.at))?;
+        self.at += size;
+        Ok(field)
+    }
+
+    fn number(&mut self) -> Result<u32, ReadFault> {
+        Ok(u32_at(self.field(4)?, 0))
+    }
+
+    fn count(&mut self, range: RangeInclusive<u32>) -> Result<usize, ReadFault> {
+        let offset = self.at;
+        let count = self.number()?;
+        if !range.contains(&count) {
+            return Err(ReadFault::Count(offset));
+        }
+        Ok(count as usize)
+    }
+
+    fn regions(&mut self, range: RangeInclusive<u32>) -> Result<Vec<Region>, ReadFault> {
+        let count = self.count(range)?;
+        let records = self.records(count, REGION_BYTES)?;
+        Ok(records.chunks_exact(REGION_BYTES).map(|record| region_at(record, 0)).collect())
+    }
+
+    fn table(&mut self) -> Result<Table, ReadFault> {
+        let count = self.count(0..=MAX_ZONES as u32)?;
+        let mut zones = Vec::with_capacity(MAX_ZONES);
+        for _ in 0..count {
+            zones.push(self.zone()?);
+        }
+        Ok(Table { zones })
+    }
+
+    fn zone(&mut self) -> Result<Zone, ReadFault> {
+        let id = self.number()?;
+        let cpu = self.regions(0..=MAX_IN_SET as u32)?;
+        let iommu = self.regions(0..=MAX_IN_SET as u32)?;
+        Ok(Zone { id, cpu, iommu })
+    }
+
+    fn requests(&mut self) -> Result<(usize, Requests<'a>), ReadFault> {
+        let count = self.count(0..=MAX_REQUESTS as u32)?;
+        let start = self.at;
+        Ok((start, Requests(self.records(count, REQUEST_BYTES)?)))
+    }
+
+    /// The bytes of so many records. Where they are cut, the fault is at the first record that is not wholly there.
+    fn records(&mut self, count: usize, size: usize) -> Result<&'a [u8], ReadFault> {
+        let whole = (self.bytes.len() - self.at) / size;
+        if whole < count {
+            return Err(ReadFault::Cut(self.at + whole * size));
+        }
+        self.field(count * size)
+    }
+
+    fn end(&self) -> Result<(), ReadFault> {
+        if self.at < self.bytes.len() {
+            return Err(ReadFault::Trailing(self.at));
+        }
+        Ok(())
+    }
+}
+
+fn u32_at(bytes: &[u8], at: usize) -> u32 {
+    u32::from_le_bytes(bytes[at..at + 4].try_into().expect("four bytes"))
+}
+
+fn u64_at(bytes: &[u8], at: usize) -> u64 {
+    u64::from_le_bytes(bytes[at..at + 8].try_into().expect("eight bytes"))
+}
+
+fn region_at(bytes: &[u8], at: usize) -> Region {
+    Region::new(u64_at(bytes, at), u64_at(bytes, at + 8), u64_at(bytes, at + 16))
+}
+
+/// The plan that asks this of a terminal in this state.
+pub fn encode(base: &State, requests: &[Record]) -> Vec<u8> {
+    let mut plan = Vec::new();
+    put_u32(&mut plan, MARKS);
+    put_u32(&mut plan, base.config.gic as u32);
+    put_u32(&mut plan, base.edition);
+    put_regions(&mut plan, &base.config.regions);
+    put_u32(&mut plan, base.table.zones.len() as u32);
+    for zone in &base.table.zones {
+        put_u32(&mut plan, zone.id);
+        put_regions(&mut plan, &zone.cpu);
+        put_regions(&mut plan, &zone.iommu);
+    }
+    put_u32(&mut plan, requests.len() as u32);
+    for request in requests {
+        put_u32(&mut plan, request.kind);
+        put_u32(&mut plan, request.zone);
+        put_region(&mut plan, &request.region);
+    }
+    plan
+}
+
+fn put_u32(plan: &mut Vec<u8>, number: u32) {
+    plan.extend_from_slice(&number.to_le_bytes());
+}
+
+fn put_region(plan: &mut Vec<u8>, region: &Region) {
+    for number in [region.v.0, region.p.0, region.size] {
+        plan.extend_from_slice(&number.to_le_bytes());
+    }
+}
+
+fn put_regions(plan: &mut Vec<u8>, regions: &[Region]) {
+    put_u32(plan, regions.len() as u32);
+    for region in regions {
+        put_region(plan, region);
+    }
+}

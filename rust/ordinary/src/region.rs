@@ -1,0 +1,130 @@
+use crate::limits::{PAGE, REACH};
+
+/// A guest (virtual) address.
+#[derive(Clone, Copy, Debug, PartialEq, Eq)]
+pub struct Guest(pub u64);
+
+/// A physical address.
+#[derive(Clone, Copy, Debug, PartialEq, Eq)]
+pub struct Phys(pub u64);
+
+/// A stretch of guest addresses and the stretch of physical addresses behind it.
+#[derive(Clone, Copy, Debug, PartialEq, Eq)]
+pub struct Region {
+    /// Where it starts in guest addresses.
+    pub v: Guest,
+    /// Where it starts in physical addresses.
+    pub p: Phys,
+    /// How many addresses it covers.
+    pub size: u64,
+}
+
+impl Region {
+    /// The region whose three numbers are 0.
+    pub const ZERO: Region = Region::new(0, 0, 0);
+
+    /// A region from its three numbers.
+    pub const fn new(v: u64, p: u64, size: u64) -> Region {
+        Region { v: Guest(v), p: Phys(p), size }
+    }
+
+    /// Whether the size is above 0 and all three numbers are multiples of a page.
+    pub fn is_well_formed(&self) -> bool {
+        self.size > 0 && (self.v.0 | self.p.0 | self.size) % PAGE == 0
+    }
+
+    /// Whether both ends, as whole numbers, are within reach.
+    pub fn is_in_reach(&self) -> bool {
+        let ends_in_reach = |start: u64| start <= REACH && self.size <= REACH - start;
+        ends_in_reach(self.v.0) && ends_in_reach(self.p.0)
+    }
+
+    /// Whether some physical address is covered by both.
+    pub fn overlaps_physically(&self, other: &Region) -> bool {
+        overlap(self.p.0, self.size, other.p.0, other.size)
+    }
+
+    /// Whether some guest address is covered by both.
+    pub fn overlaps_in_guest(&self, other: &Region) -> bool {
+        overlap(self.v.0, self.size, other.v.0, other.size)
+    }
+
+    /// How far into the region the address is, if the region covers it.
+    pub fn offset_of(&self, address: Guest) -> Option<u64> {
+        address.0.checked_sub(self.v.0).filter(|&offset| offset < self.size)
+    }
+}
+
+/// Whether two stretches share an address. The later start decides, by how far it is from the earlier: no end is computed.
+fn overlap(a: u64, a_size: u64, b: u64, b_size: u64) -> bool {
+    if a <= b {
+        b - a < a_size && b_size > 0
+    } else {
+        a - b < b_size && a_size > 0
+    }
+}
+
+#[cfg(test)]
+mod tests {
+    use super::*;
+
+    fn overlap_by_whole_numbers(a: u64, a_size: u64, b: u64, b_size: u64) -> bool {
+        let (a, b) = (u128::from(a), u128::from(b));
+        a.max(b) < (a + u128::from(a_size)).min(b + u128::from(b_size))
+    }
+
+    #[test]
+    fn overlap_is_that_of_whole_numbers() {
+        let numbers = [0, 1, 2, 3, 4, u64::MAX - 2, u64::MAX - 1, u64::MAX];
+        for a in numbers {
+            for b in numbers {
+                for s in numbers {
+                    for t in numbers {
+                        assert_eq!(overlap(a, s, b, t), overlap_by_whole_numbers(a, s, b, t), "{a} {s} {b} {t}");
+                    }
+                }
+            }
+        }
+    }
+
+    #[test]
+    fn a_region_overlaps_the_one_it_encloses() {
+        let outer = Region::new(0, 0x10000, 0x4000);
+        let inner = Region::new(0, 0x11000, 0x1000);
+        assert!(outer.overlaps_physically(&inner) && inner.overlaps_physically(&outer));
+    }
+
+    #[test]
+    fn neighbours_do_not_overlap() {
+        let low = Region::new(0x1000, 0x1000, 0x1000);
+        let high = Region::new(0x2000, 0x2000, 0x1000);
+        assert!(!low.overlaps_physically(&high) && !high.overlaps_in_guest(&low));
+    }
+
+    #[test]
+    fn form() {
+        assert!(Region::new(0, 0, 0x1000).is_well_formed());
+        assert!(!Region::new(0, 0, 0).is_well_formed());
+        assert!(!Region::new(0, 0, 0x1800).is_well_formed());
+        assert!(!Region::new(1, 0, 0x1000).is_well_formed());
+        assert!(!Region::new(0, 0x800, 0x1000).is_well_formed());
+    }
+
+    #[test]
+    fn reach() {
+        assert!(Region::new(0, REACH - PAGE, PAGE).is_in_reach());
+        assert!(Region::new(REACH - PAGE, 0, PAGE).is_in_reach());
+        assert!(!Region::new(0, REACH - PAGE, 2 * PAGE).is_in_reach());
+        assert!(!Region::new(REACH, 0, PAGE).is_in_reach());
+        assert!(!Region::new(0, PAGE.wrapping_neg(), 2 * PAGE).is_in_reach());
+    }
+
+    #[test]
+    fn offsets() {
+        let region = Region::new(0x1000, 0, 0x1000);
+        assert_eq!(region.offset_of(Guest(0xfff)), None);
+        assert_eq!(region.offset_of(Guest(0x1000)), Some(0));
+        assert_eq!(region.offset_of(Guest(0x1fff)), Some(0xfff));
+        assert_eq!(region.offset_of(Guest(0x2000)), None);
+    }
+}

@@ -1,0 +1,100 @@
+use crate::config::Config;
+use crate::plan::{Plan, ReadFault};
+use crate::request::Refusal;
+use crate::table::Table;
+
+/// What a terminal keeps.
+#[derive(Clone, Debug, PartialEq, Eq)]
+pub struct State {
+    /// Its configuration.
+    pub config: Config,
+    /// Its zones.
+    pub table: Table,
+    /// How many plans it has accepted.
+    pub edition: u32,
+}
+
+/// Why a plan is refused.
+#[derive(Clone, Copy, Debug, PartialEq, Eq)]
+pub enum PlanRefusal {
+    /// 1 or 2: the terminal's own state is unsound.
+    Own(Refusal),
+    /// 20 to 22: the bytes are no plan.
+    Read(ReadFault),
+    /// 23: it is for another configuration.
+    OtherConfig,
+    /// 24: it is for another edition.
+    OtherEdition,
+    /// 25: there is no next edition.
+    LastEdition,
+    /// 26: it is for other zones.
+    OtherZones,
+    /// 27: one of its requests is refused.
+    Request {
+        /// Which, from 0.
+        index: usize,
+        /// Why.
+        refusal: Refusal,
+    },
+}
+
+impl PlanRefusal {
+    /// The document's number.
+    pub fn number(&self) -> u32 {
+        match self {
+            PlanRefusal::Own(refusal) => refusal.number(),
+            PlanRefusal::Read(fault) => fault.number(),
+            PlanRefusal::OtherConfig => 23,
+            PlanRefusal::OtherEdition => 24,
+            PlanRefusal::LastEdition => 25,
+            PlanRefusal::OtherZones => 26,
+            PlanRefusal::Request { .. } => 27,
+        }
+    }
+
+    /// The place and the inner number, 0 where unused.
+    pub fn found(&self) -> (usize, u32) {
+        match self {
+            PlanRefusal::Read(fault) => (fault.offset(), 0),
+            PlanRefusal::Request { index, refusal } => (*index, refusal.number()),
+            _ => (0, 0),
+        }
+    }
+}
+
+impl From<ReadFault> for PlanRefusal {
+    fn from(fault: ReadFault) -> PlanRefusal {
+        PlanRefusal::Read(fault)
+    }
+}
+
+impl State {
+    /// Applies a plan and says how many requests it had. A refused plan leaves the state as it was.
+    pub fn apply(&mut self, bytes: &[u8]) -> Result<usize, PlanRefusal> {
+        self.table.check(&self.config).map_err(PlanRefusal::Own)?;
+        let plan = Plan::read(bytes)?;
+        let next = self.next_edition(&plan)?;
+        let mut table = plan.table;
+        for (index, request) in plan.requests.iter().enumerate() {
+            table.perform(&self.config, &request).map_err(|refusal| PlanRefusal::Request { index, refusal })?;
+        }
+        self.table = table;
+        self.edition = next;
+        Ok(plan.requests.len())
+    }
+
+    /// The edition that the plan leads to, if it is a plan for this state: 23 to 26.
+    fn next_edition(&self, plan: &Plan) -> Result<u32, PlanRefusal> {
+        if plan.config != self.config {
+            return Err(PlanRefusal::OtherConfig);
+        }
+        if plan.edition != self.edition {
+            return Err(PlanRefusal::OtherEdition);
+        }
+        let next = self.edition.checked_add(1).ok_or(PlanRefusal::LastEdition)?;
+        if plan.table != self.table {
+            return Err(PlanRefusal::OtherZones);
+        }
+        Ok(next)
+    }
+}

@@ -1,0 +1,323 @@
+//! The desk examples of document 01 and its whole plan.
+
+use ordinary::limits::{PAGE, REACH};
+use ordinary::{encode, Config, Guest, Phys, Plan, PlanRefusal, ReadFault, Record, Refusal, Region, Side, State, Table, Zone};
+
+const A: Region = Region::new(0x4000_0000, 0x8000_0000, 0x20_0000);
+const B: Region = Region::new(0x4000_0000, 0x8020_0000, 0x20_0000);
+const C: Region = Region::new(0x4010_0000, 0x9000_0000, 0x20_0000);
+const G: Region = Region::new(0x0800_0000, 0x0800_0000, 0x1_0000);
+
+const ADD: u32 = 1;
+const REMOVE_ZONE: u32 = 2;
+const CPU_INSERT: u32 = 3;
+const CPU_REMOVE: u32 = 4;
+const IOMMU_INSERT: u32 = 5;
+const IOMMU_REMOVE: u32 = 6;
+
+/// The desk's configuration, and zones 5 and 6, empty.
+struct Desk {
+    config: Config,
+    table: Table,
+}
+
+impl Desk {
+    fn new() -> Desk {
+        Desk::with(&[A, B, C, G], 3)
+    }
+
+    fn with(regions: &[Region], gic: usize) -> Desk {
+        let config = Config { regions: regions.to_vec(), gic };
+        Desk { config, table: Table { zones: vec![Zone::empty(5), Zone::empty(6)] } }
+    }
+
+    /// The number that a request answers. A refusal must leave the table as it was, and an accepted one keep it sound.
+    fn ask(&mut self, kind: u32, zone: u32, region: Region) -> u32 {
+        let before = self.table.clone();
+        match self.table.request(&self.config, &Record { kind, zone, region }) {
+            Ok(()) => {
+                assert!(self.table.is_sound(&self.config));
+                0
+            }
+            Err(refusal) => {
+                assert_eq!(self.table, before);
+                refusal.number()
+            }
+        }
+    }
+
+    fn zone(&mut self, kind: u32, zone: u32) -> u32 {
+        self.ask(kind, zone, Region::ZERO)
+    }
+}
+
+#[test]
+fn zones() {
+    let mut desk = Desk::new();
+    assert_eq!(desk.zone(ADD, 5), 5);
+    assert_eq!(desk.zone(ADD, 256), 4);
+    assert_eq!(desk.zone(ADD, 255), 0);
+    assert_eq!(desk.zone(REMOVE_ZONE, 7), 6);
+}
+
+#[test]
+fn the_same_region_on_both_sides_and_in_another_zone() {
+    let mut desk = Desk::new();
+    assert_eq!(desk.ask(CPU_INSERT, 5, A), 0);
+    assert_eq!(desk.ask(CPU_INSERT, 5, A), 13);
+    assert_eq!(desk.ask(IOMMU_INSERT, 5, A), 0);
+    assert_eq!(desk.ask(IOMMU_INSERT, 6, A), 14);
+    assert_eq!(desk.ask(CPU_INSERT, 6, A), 14);
+    assert_eq!(desk.ask(CPU_INSERT, 6, B), 0);
+}
+
+#[test]
+fn the_gic() {
+    let mut desk = Desk::new();
+    assert_eq!(desk.ask(CPU_INSERT, 5, G), 12);
+    assert_eq!(desk.ask(IOMMU_INSERT, 5, G), 0);
+    assert_eq!(desk.ask(IOMMU_INSERT, 6, G), 0);
+    assert_eq!(desk.ask(IOMMU_INSERT, 5, G), 13);
+}
+
+#[test]
+fn guest_overlap() {
+    let mut desk = Desk::new();
+    assert_eq!(desk.ask(CPU_INSERT, 5, A), 0);
+    assert_eq!(desk.ask(CPU_INSERT, 5, C), 15);
+    assert_eq!(desk.ask(CPU_INSERT, 6, C), 0);
+}
+
+#[test]
+fn a_zone_is_removed_when_it_holds_nothing() {
+    let mut desk = Desk::new();
+    assert_eq!(desk.ask(IOMMU_INSERT, 5, G), 0);
+    assert_eq!(desk.zone(REMOVE_ZONE, 5), 8);
+    assert_eq!(desk.ask(IOMMU_REMOVE, 5, G), 0);
+    assert_eq!(desk.zone(REMOVE_ZONE, 5), 0);
+    assert_eq!(desk.table.zones, [Zone::empty(6)]);
+}
+
+#[test]
+fn the_ninth_zone() {
+    let mut desk = Desk::new();
+    for id in [0, 1, 2, 3, 4, 7] {
+        assert_eq!(desk.zone(ADD, id), 0);
+    }
+    assert_eq!(desk.zone(ADD, 8), 7);
+    assert_eq!(desk.zone(ADD, 7), 5);
+    assert_eq!(desk.zone(REMOVE_ZONE, 3), 0);
+    assert_eq!(desk.zone(ADD, 8), 0);
+    let ids: Vec<u32> = desk.table.zones.iter().map(|zone| zone.id).collect();
+    assert_eq!(ids, [5, 6, 0, 1, 2, 4, 7, 8]);
+}
+
+#[test]
+fn form_reach_and_configured() {
+    let mut desk = Desk::new();
+    assert_eq!(desk.ask(CPU_INSERT, 5, Region { size: 0, ..A }), 9);
+    assert_eq!(desk.ask(CPU_INSERT, 5, Region { size: 0x1800, ..A }), 9);
+    assert_eq!(desk.ask(CPU_INSERT, 5, Region::new(0, PAGE.wrapping_neg(), 2 * PAGE)), 10);
+    assert_eq!(desk.ask(CPU_INSERT, 5, Region::new(0, REACH - PAGE, PAGE)), 11);
+    assert_eq!(desk.ask(CPU_INSERT, 5, Region { size: 0x1000, ..A }), 11);
+}
+
+#[test]
+fn an_end_exactly_at_reach() {
+    let last = Region::new(REACH - PAGE, REACH - PAGE, PAGE);
+    let mut desk = Desk::with(&[last, G], 1);
+    assert_eq!(desk.ask(CPU_INSERT, 5, last), 0);
+    let answer = desk.table.translate(&desk.config, 5, Side::Cpu, Guest(REACH - 1));
+    assert_eq!(answer, Ok(Phys(REACH - 1)));
+}
+
+#[test]
+fn numbers_that_make_no_request() {
+    let mut desk = Desk::new();
+    for kind in [0, 7, 0x101, u32::MAX] {
+        assert_eq!(desk.zone(kind, 256), 3);
+    }
+    for region in [Region::new(1, 0, 0), Region::new(0, 1, 0), Region::new(0, 0, 1)] {
+        assert_eq!(desk.ask(ADD, 9, region), 3);
+        assert_eq!(desk.ask(REMOVE_ZONE, 5, region), 3);
+    }
+}
+
+#[test]
+fn a_full_set() {
+    let pages: Vec<Region> = (1..=18).map(|n| Region::new(n * PAGE, n * PAGE, PAGE)).collect();
+    let mut desk = Desk::with(&pages, 17);
+    for page in &pages[..16] {
+        assert_eq!(desk.ask(CPU_INSERT, 5, *page), 0);
+    }
+    assert_eq!(desk.ask(CPU_INSERT, 5, pages[16]), 16);
+    assert_eq!(desk.ask(CPU_INSERT, 5, pages[0]), 13);
+    assert_eq!(desk.ask(CPU_REMOVE, 5, pages[16]), 17);
+    assert_eq!(desk.ask(CPU_REMOVE, 5, pages[3]), 0);
+    assert_eq!(desk.ask(CPU_INSERT, 5, pages[16]), 0);
+    let expected: Vec<Region> = pages[..17].iter().filter(|&&page| page != pages[3]).copied().collect();
+    assert_eq!(desk.table.zones[0].cpu, expected);
+}
+
+#[test]
+fn a_removal_asks_nothing_of_the_region() {
+    let mut desk = Desk::new();
+    assert_eq!(desk.ask(CPU_REMOVE, 5, Region::ZERO), 17);
+    assert_eq!(desk.ask(IOMMU_REMOVE, 7, Region::ZERO), 6);
+}
+
+#[test]
+fn an_unsound_base() {
+    let record = Record { kind: ADD, zone: 9, region: Region::ZERO };
+    let mut desk = Desk::new();
+    desk.config.gic = 4;
+    assert_eq!(desk.table.request(&desk.config, &record), Err(Refusal::UnsoundConfig));
+    let mut desk = Desk::new();
+    desk.table.zones[1].id = 5;
+    assert_eq!(desk.table.request(&desk.config, &record), Err(Refusal::UnsoundTable));
+}
+
+#[test]
+fn sound_tables() {
+    let zone = |id: u32, cpu: &[Region], iommu: &[Region]| Zone { id, cpu: cpu.to_vec(), iommu: iommu.to_vec() };
+    let sound = |zones: &[Zone]| Table { zones: zones.to_vec() }.is_sound(&Desk::new().config);
+    assert!(sound(&[]));
+    assert!(sound(&[zone(5, &[A], &[A, G]), zone(6, &[B], &[G])]));
+    assert!(!sound(&[zone(256, &[], &[])]));
+    assert!(!sound(&[zone(5, &[], &[]), zone(5, &[], &[])]));
+    assert!(!sound(&[zone(5, &[A, A], &[])]));
+    assert!(!sound(&[zone(5, &[A, C], &[])]));
+    assert!(!sound(&[zone(5, &[], &[G, G])]));
+    assert!(!sound(&[zone(5, &[G], &[])]));
+    assert!(!sound(&[zone(5, &[A], &[]), zone(6, &[], &[A])]));
+    assert!(!sound(&[zone(5, &[Region { size: 0x1000, ..A }], &[])]));
+    assert!(!sound(&(0..9).map(Zone::empty).collect::<Vec<_>>()));
+}
+
+#[test]
+fn translation() {
+    let mut desk = Desk::new();
+    assert_eq!(desk.ask(CPU_INSERT, 5, A), 0);
+    let ask = |zone, side, address| desk.table.translate(&desk.config, zone, side, Guest(address));
+    assert_eq!(ask(5, Side::Cpu, 0x4000_0000), Ok(Phys(0x8000_0000)));
+    assert_eq!(ask(5, Side::Cpu, 0x401f_ffff), Ok(Phys(0x801f_ffff)));
+    assert_eq!(ask(5, Side::Cpu, 0x4020_0000), Err(Refusal::NotCovered));
+    assert_eq!(ask(5, Side::Cpu, 0x3fff_ffff), Err(Refusal::NotCovered));
+    assert_eq!(ask(5, Side::Iommu, 0x4000_0000), Err(Refusal::NotCovered));
+    assert_eq!(ask(7, Side::Cpu, 0x4000_0000), Err(Refusal::NoZone));
+    assert_eq!(ask(256, Side::Cpu, 0x4000_0000), Err(Refusal::ZoneId));
+}
+
+/// The whole plan as the document prints it, without its 24 zero bytes.
+const WHOLE_PLAN: &str = "02000000 00000000 00000000 01000000 0000000800000000 0000000800000000 0000010000000000 \
+                          00000000 01000000 01000000 05000000";
+
+fn whole_plan() -> Vec<u8> {
+    let digits: String = WHOLE_PLAN.split_whitespace().collect();
+    let pairs = digits.as_bytes().chunks_exact(2).map(|pair| std::str::from_utf8(pair).expect("hexadecimal digits"));
+    let mut plan: Vec<u8> = pairs.map(|pair| u8::from_str_radix(pair, 16).expect("a byte")).collect();
+    plan.resize(plan.len() + 24, 0);
+    plan
+}
+
+fn first_state() -> State {
+    State { config: Config { regions: vec![G], gic: 0 }, table: Table::default(), edition: 0 }
+}
+
+#[test]
+fn the_whole_plan_twice() {
+    let plan = whole_plan();
+    assert_eq!(plan.len(), 80);
+    let mut state = first_state();
+    assert_eq!(state.apply(&plan), Ok(1));
+    assert_eq!((state.edition, &state.table.zones[..]), (1, &[Zone::empty(5)][..]));
+    assert_eq!(state.apply(&plan), Err(PlanRefusal::OtherEdition));
+}
+
+#[test]
+fn the_encoder_writes_the_whole_plan() {
+    let add = Record { kind: ADD, zone: 5, region: Region::ZERO };
+    assert_eq!(encode(&first_state(), &[add]), whole_plan());
+}
+
+#[test]
+fn a_plan_cut_anywhere_ends_at_the_field_that_is_cut() {
+    let plan = whole_plan();
+    for length in 0..plan.len() {
+        let field = [0, 4, 8, 12, 16, 40, 44, 48].into_iter().rev().find(|&start| start <= length);
+        assert_eq!(Plan::read(&plan[..length]).err(), field.map(ReadFault::Cut), "{length} bytes");
+    }
+}
+
+#[test]
+fn counts_out_of_range() {
+    for (offset, bad) in [(0, 1), (0, 3), (12, 0), (12, 65), (40, 9), (44, 0x401)] {
+        let mut plan = whole_plan();
+        plan[offset..offset + 4].copy_from_slice(&u32::to_le_bytes(bad));
+        assert_eq!(Plan::read(&plan).err(), Some(ReadFault::Count(offset)), "{bad} at {offset}");
+    }
+}
+
+#[test]
+fn bytes_after_the_plan() {
+    let mut plan = whole_plan();
+    plan.push(0);
+    assert_eq!(Plan::read(&plan).err(), Some(ReadFault::Trailing(80)));
+}
+
+#[test]
+fn the_least_and_the_longest_plan() {
+    assert_eq!(encode(&first_state(), &[]).len(), 48);
+    let zone = Zone { id: 0, cpu: vec![A; 16], iommu: vec![A; 16] };
+    let full = State { config: Config { regions: vec![A; 64], gic: 0 }, table: Table { zones: vec![zone; 8] }, edition: 0 };
+    let add = Record { kind: ADD, zone: 5, region: Region::ZERO };
+    let longest = encode(&full, &[add; 1024]);
+    assert_eq!(longest.len(), 40_568);
+    assert!(Plan::read(&longest).is_ok());
+}
+
+#[test]
+fn the_numbers_of_a_plan_in_order() {
+    let base = first_state();
+    let plan = encode(&base, &[]);
+    let other_config = State { config: Config { regions: vec![A], gic: 0 }, edition: 1, ..base.clone() };
+    assert_eq!(other_config.clone().apply(&plan), Err(PlanRefusal::OtherConfig));
+    let last = State { edition: u32::MAX, ..base.clone() };
+    assert_eq!(last.clone().apply(&plan), Err(PlanRefusal::OtherEdition));
+    let other_zones = State { table: Table { zones: vec![Zone::empty(1)] }, ..last.clone() };
+    assert_eq!(other_zones.clone().apply(&encode(&last, &[])), Err(PlanRefusal::LastEdition));
+    let other_zones = State { edition: 0, ..other_zones };
+    assert_eq!(other_zones.clone().apply(&plan), Err(PlanRefusal::OtherZones));
+    let unsound = State { config: Config { regions: vec![], gic: 0 }, ..base };
+    assert_eq!(unsound.clone().apply(&[]), Err(PlanRefusal::Own(Refusal::UnsoundConfig)));
+}
+
+#[test]
+fn the_first_refused_request_undoes_the_plan() {
+    let mut state = first_state();
+    let add = |zone| Record { kind: ADD, zone, region: Region::ZERO };
+    let plan = encode(&state, &[add(1), add(2), add(1), add(256)]);
+    let refusal = PlanRefusal::Request { index: 2, refusal: Refusal::ZoneThere };
+    assert_eq!(state.apply(&plan), Err(refusal));
+    assert_eq!((refusal.number(), refusal.found()), (27, (2, 5)));
+    assert_eq!(state, first_state());
+}
+
+#[test]
+fn an_empty_plan_raises_the_edition() {
+    let mut state = first_state();
+    let plan = encode(&state, &[]);
+    assert_eq!(state.apply(&plan), Ok(0));
+    assert_eq!(state, State { edition: 1, ..first_state() });
+}
+
+#[test]
+fn a_repeat_that_fits_the_base_table_is_stopped_by_the_edition() {
+    let mut state = first_state();
+    let add = encode(&state, &[Record { kind: ADD, zone: 5, region: Region::ZERO }]);
+    assert_eq!(state.apply(&add), Ok(1));
+    let back = encode(&state, &[Record { kind: REMOVE_ZONE, zone: 5, region: Region::ZERO }]);
+    assert_eq!(state.apply(&back), Ok(1));
+    assert_eq!(state.table, Table::default());
+    assert_eq!(state.apply(&add), Err(PlanRefusal::OtherEdition));
+}

@@ -1,0 +1,353 @@
+//! The library's answers as enums. Each has the document's number, and says in words what it means.
+
+use std::error::Error;
+use std::fmt;
+
+/// The first fault of a configuration: C1 to C6. Places are positions from 0.
+#[derive(Clone, Copy, Debug, PartialEq, Eq, Hash)]
+pub enum ConfigFault {
+    /// C1: there is no region, or there are more than 64.
+    Count,
+    /// C2: the GIC's position is not below the count.
+    GicPosition,
+    /// C3: a record past the count is not all zero.
+    NotZero {
+        /// The record.
+        place: u64,
+    },
+    /// C4: a region is not well formed.
+    Form {
+        /// The region.
+        place: u64,
+    },
+    /// C5: a region is out of reach.
+    Reach {
+        /// The region.
+        place: u64,
+    },
+    /// C6: a region overlaps an earlier one physically.
+    Overlap {
+        /// The region.
+        place: u64,
+        /// The lowest earlier one that it overlaps.
+        earlier: u64,
+    },
+}
+
+impl ConfigFault {
+    pub(crate) fn from_library(number: u32, [place, earlier]: [u64; 2]) -> Result<(), ConfigFault> {
+        Err(match number {
+            0 => return Ok(()),
+            1 => ConfigFault::Count,
+            2 => ConfigFault::GicPosition,
+            3 => ConfigFault::NotZero { place },
+            4 => ConfigFault::Form { place },
+            5 => ConfigFault::Reach { place },
+            6 => ConfigFault::Overlap { place, earlier },
+            _ => not_an_answer(number),
+        })
+    }
+
+    /// The document's number: 1 for C1.
+    pub fn number(&self) -> u32 {
+        match self {
+            ConfigFault::Count => 1,
+            ConfigFault::GicPosition => 2,
+            ConfigFault::NotZero { .. } => 3,
+            ConfigFault::Form { .. } => 4,
+            ConfigFault::Reach { .. } => 5,
+            ConfigFault::Overlap { .. } => 6,
+        }
+    }
+
+    /// The document's two places, 0 where it uses none.
+    pub fn places(&self) -> [u64; 2] {
+        match *self {
+            ConfigFault::Count | ConfigFault::GicPosition => [0, 0],
+            ConfigFault::NotZero { place } | ConfigFault::Form { place } | ConfigFault::Reach { place } => [place, 0],
+            ConfigFault::Overlap { place, earlier } => [place, earlier],
+        }
+    }
+}
+
+impl fmt::Display for ConfigFault {
+    fn fmt(&self, f: &mut fmt::Formatter) -> fmt::Result {
+        match self {
+            ConfigFault::Count => write!(f, "the configuration has no region, or more than 64"),
+            ConfigFault::GicPosition => write!(f, "the GIC's position is not below the count of regions"),
+            ConfigFault::NotZero { place } => write!(f, "record {place} is past the count and not all zero"),
+            ConfigFault::Form { place } => write!(f, "region {place} is not well formed"),
+            ConfigFault::Reach { place } => write!(f, "region {place} is out of reach"),
+            ConfigFault::Overlap { place, earlier } => write!(f, "region {place} overlaps region {earlier} physically"),
+        }
+    }
+}
+
+impl Error for ConfigFault {}
+
+/// Why a request or a translation is refused: 1 to 18.
+#[derive(Clone, Copy, Debug, PartialEq, Eq, PartialOrd, Ord, Hash)]
+#[repr(u32)]
+pub enum Refusal {
+    /// 1: the configuration is unsound.
+    UnsoundConfig = 1,
+    /// 2: the table is unsound.
+    UnsoundTable = 2,
+    /// 3: the kind is not 1 to 6, or there is a nonzero region with kind 1 or 2.
+    NoRequest = 3,
+    /// 4: the zone id is above 255.
+    ZoneId = 4,
+    /// 5: the zone is already there.
+    ZoneThere = 5,
+    /// 6: there is no such zone.
+    NoZone = 6,
+    /// 7: eight zones are in use.
+    ZonesFull = 7,
+    /// 8: either set of the zone holds a region.
+    ZoneInUse = 8,
+    /// 9: the region is not well formed.
+    Form = 9,
+    /// 10: the region is out of reach.
+    Reach = 10,
+    /// 11: the region is not equal to a configured one.
+    NotConfigured = 11,
+    /// 12: the CPU region overlaps the GIC physically.
+    OverGic = 12,
+    /// 13: the region is already in that set.
+    RegionThere = 13,
+    /// 14: a forbidden physical overlap.
+    PhysicalOverlap = 14,
+    /// 15: a guest overlap within that set.
+    GuestOverlap = 15,
+    /// 16: sixteen regions are in that set.
+    SetFull = 16,
+    /// 17: the region is not in that set.
+    NoRegion = 17,
+    /// 18: no region covers the address.
+    NotCovered = 18,
+}
+
+impl Refusal {
+    const ALL: [Refusal; 18] = [
+        Refusal::UnsoundConfig,
+        Refusal::UnsoundTable,
+        Refusal::NoRequest,
+        Refusal::ZoneId,
+        Refusal::ZoneThere,
+        Refusal::NoZone,
+        Refusal::ZonesFull,
+        Refusal::ZoneInUse,
+        Refusal::Form,
+        Refusal::Reach,
+        Refusal::NotConfigured,
+        Refusal::OverGic,
+        Refusal::RegionThere,
+        Refusal::PhysicalOverlap,
+        Refusal::GuestOverlap,
+        Refusal::SetFull,
+        Refusal::NoRegion,
+        Refusal::NotCovered,
+    ];
+
+    pub(crate) fn from_library(number: u32) -> Result<(), Refusal> {
+        if number == 0 {
+            return Ok(());
+        }
+        match Refusal::ALL.into_iter().find(|refusal| refusal.number() == number) {
+            Some(refusal) => Err(refusal),
+            None => not_an_answer(number),
+        }
+    }
+
+    /// The document's number.
+    pub const fn number(self) -> u32 {
+        self as u32
+    }
+}
+
+impl fmt::Display for Refusal {
+    fn fmt(&self, f: &mut fmt::Formatter) -> fmt::Result {
+        f.write_str(match self {
+            Refusal::UnsoundConfig => "the configuration is unsound",
+            Refusal::UnsoundTable => "the table is unsound",
+            Refusal::NoRequest => "the numbers make no request",
+            Refusal::ZoneId => "the zone id is above 255",
+            Refusal::ZoneThere => "the zone is already there",
+            Refusal::NoZone => "there is no such zone",
+            Refusal::ZonesFull => "eight zones are in use",
+            Refusal::ZoneInUse => "the zone still holds a region",
+            Refusal::Form => "the region is not well formed",
+            Refusal::Reach => "the region is out of reach",
+            Refusal::NotConfigured => "the region is not a configured one",
+            Refusal::OverGic => "the CPU region overlaps the GIC physically",
+            Refusal::RegionThere => "the region is already in that set",
+            Refusal::PhysicalOverlap => "the region overlaps another one physically",
+            Refusal::GuestOverlap => "the region overlaps one of that set in guest addresses",
+            Refusal::SetFull => "sixteen regions are in that set",
+            Refusal::NoRegion => "the region is not in that set",
+            Refusal::NotCovered => "no region covers the address",
+        })
+    }
+}
+
+impl Error for Refusal {}
+
+/// Why bytes are no plan: 20 to 22, with the offset at which that shows.
+#[derive(Clone, Copy, Debug, PartialEq, Eq, Hash)]
+pub enum ReadFault {
+    /// 20: a field is not wholly there.
+    Cut {
+        /// Where the field begins.
+        offset: u64,
+    },
+    /// 21: a count is out of range.
+    Count {
+        /// Where the count stands.
+        offset: u64,
+    },
+    /// 22: there are bytes after the last section.
+    Trailing {
+        /// Where the first such byte stands.
+        offset: u64,
+    },
+}
+
+impl ReadFault {
+    pub(crate) fn from_library(number: u32, offset: u64) -> Result<(), ReadFault> {
+        Err(match number {
+            0 => return Ok(()),
+            20 => ReadFault::Cut { offset },
+            21 => ReadFault::Count { offset },
+            22 => ReadFault::Trailing { offset },
+            _ => not_an_answer(number),
+        })
+    }
+
+    /// The document's number.
+    pub fn number(&self) -> u32 {
+        match self {
+            ReadFault::Cut { .. } => 20,
+            ReadFault::Count { .. } => 21,
+            ReadFault::Trailing { .. } => 22,
+        }
+    }
+
+    /// The offset.
+    pub fn offset(&self) -> u64 {
+        match *self {
+            ReadFault::Cut { offset } | ReadFault::Count { offset } | ReadFault::Trailing { offset } => offset,
+        }
+    }
+}
+
+impl fmt::Display for ReadFault {
+    fn fmt(&self, f: &mut fmt::Formatter) -> fmt::Result {
+        match self {
+            ReadFault::Cut { offset } => write!(f, "the field at offset {offset} is not wholly there"),
+            ReadFault::Count { offset } => write!(f, "the count at offset {offset} is out of range"),
+            ReadFault::Trailing { offset } => write!(f, "the plan ends at offset {offset}, but there are bytes after it"),
+        }
+    }
+}
+
+impl Error for ReadFault {}
+
+/// Why a plan is refused: 1, 2, 20 to 27.
+#[derive(Clone, Copy, Debug, PartialEq, Eq, Hash)]
+pub enum PlanRefusal {
+    /// 1: the terminal's own configuration is unsound.
+    UnsoundConfig,
+    /// 2: the terminal's own table is unsound.
+    UnsoundTable,
+    /// 20 to 22: the bytes are no plan.
+    Read(ReadFault),
+    /// 23: the configuration or the GIC's position differs from the terminal's.
+    OtherConfig,
+    /// 24: the edition differs.
+    OtherEdition,
+    /// 25: the edition is the last one, 2^32 - 1.
+    LastEdition,
+    /// 26: the base zones differ, order included.
+    OtherZones,
+    /// 27: a request is refused.
+    Request {
+        /// Which, from 0.
+        index: u64,
+        /// Why.
+        refusal: Refusal,
+    },
+}
+
+impl PlanRefusal {
+    pub(crate) fn from_library(number: u32, place: u64, inner: u64) -> Result<(), PlanRefusal> {
+        Err(match number {
+            0 => return Ok(()),
+            1 => PlanRefusal::UnsoundConfig,
+            2 => PlanRefusal::UnsoundTable,
+            23 => PlanRefusal::OtherConfig,
+            24 => PlanRefusal::OtherEdition,
+            25 => PlanRefusal::LastEdition,
+            26 => PlanRefusal::OtherZones,
+            27 => PlanRefusal::Request { index: place, refusal: inner_refusal(inner) },
+            _ => return ReadFault::from_library(number, place).map_err(PlanRefusal::Read),
+        })
+    }
+
+    /// The document's number.
+    pub fn number(&self) -> u32 {
+        match self {
+            PlanRefusal::UnsoundConfig => 1,
+            PlanRefusal::UnsoundTable => 2,
+            PlanRefusal::Read(fault) => fault.number(),
+            PlanRefusal::OtherConfig => 23,
+            PlanRefusal::OtherEdition => 24,
+            PlanRefusal::LastEdition => 25,
+            PlanRefusal::OtherZones => 26,
+            PlanRefusal::Request { .. } => 27,
+        }
+    }
+
+    /// The document's place: an offset or a request's index, else 0.
+    pub fn place(&self) -> u64 {
+        match self {
+            PlanRefusal::Read(fault) => fault.offset(),
+            PlanRefusal::Request { index, .. } => *index,
+            _ => 0,
+        }
+    }
+
+    /// The document's inner number: why a request is refused, else 0.
+    pub fn inner(&self) -> u32 {
+        match self {
+            PlanRefusal::Request { refusal, .. } => refusal.number(),
+            _ => 0,
+        }
+    }
+}
+
+impl fmt::Display for PlanRefusal {
+    fn fmt(&self, f: &mut fmt::Formatter) -> fmt::Result {
+        match self {
+            PlanRefusal::UnsoundConfig => write!(f, "the terminal's own configuration is unsound"),
+            PlanRefusal::UnsoundTable => write!(f, "the terminal's own table is unsound"),
+            PlanRefusal::Read(fault) => fault.fmt(f),
+            PlanRefusal::OtherConfig => write!(f, "the plan is for another configuration"),
+            PlanRefusal::OtherEdition => write!(f, "the plan is for another edition"),
+            PlanRefusal::LastEdition => write!(f, "the terminal is at the last edition"),
+            PlanRefusal::OtherZones => write!(f, "the plan is for other zones"),
+            PlanRefusal::Request { index, refusal } => write!(f, "request {index} is refused: {refusal}"),
+        }
+    }
+}
+
+impl Error for PlanRefusal {}
+
+fn inner_refusal(inner: u64) -> Refusal {
+    let number = u32::try_from(inner).unwrap_or(u32::MAX);
+    Refusal::from_library(number).err().unwrap_or_else(|| not_an_answer(number))
+}
+
+/// The library's answers are proved, so this is a library that does not belong to this crate.
+fn not_an_answer(number: u32) -> ! {
+    panic!("the library answered {number}, which is none of its answers")
+}

@@ -1,0 +1,51 @@
+//! Safe Rust over Peatmitten's verified library for update agents of card terminals.
+//!
+//! A terminal's hypervisor gives each zone regions of memory: one set for the processor, one for devices. A plan is a file that
+//! changes them. An agent keeps one [`State`] and gives it each plan that arrives:
+//!
+//! ```
+//! use peatmitten::{Config, PlanRefusal, Region, State};
+//!
+//! let gic = Region::new(0x0800_0000, 0x0800_0000, 0x1_0000);
+//! let mut state = State::new(Config::new(&[gic], 0).expect("at most 64 regions"));
+//!
+//! // A plan for edition 0 of this terminal: add zone 5.
+//! let mut plan = Vec::new();
+//! for number in [2u32, 0, 0, 1] {
+//!     plan.extend(number.to_le_bytes());
+//! }
+//! for number in [0x0800_0000u64, 0x0800_0000, 0x1_0000] {
+//!     plan.extend(number.to_le_bytes());
+//! }
+//! for number in [0u32, 1, 1, 5] {
+//!     plan.extend(number.to_le_bytes());
+//! }
+//! plan.extend([0; 24]);
+//!
+//! assert_eq!(state.apply(&plan), Ok(1));
+//! assert_eq!(state.edition, 1);
+//! assert_eq!(state.table.zones().next().map(|zone| zone.id()), Some(5));
+//!
+//! // The same plan again is for an edition that the terminal has left.
+//! assert_eq!(state.apply(&plan), Err(PlanRefusal::OtherEdition));
+//! ```
+//!
+//! Every function is total: it answers for any numbers whatever, sound or not. A refusal leaves what it was given as it was.
+
+#![deny(missing_docs)]
+#![deny(unsafe_code)]
+
+mod answers;
+mod config;
+mod plan;
+pub mod raw;
+mod region;
+mod request;
+mod table;
+
+pub use answers::{ConfigFault, PlanRefusal, ReadFault, Refusal};
+pub use config::{Config, CONFIG_WORDS};
+pub use plan::{read_plan, State};
+pub use region::{Guest, Physical, Region};
+pub use request::{Request, Side};
+pub use table::{Table, Zone, TABLE_WORDS};

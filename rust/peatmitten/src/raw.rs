@@ -1,0 +1,79 @@
+//! The library's functions with their answers as numbers, as C has them: see `include/peatmitten.h`. The types of this crate stand
+//! on these. All unsafe code of the crate is here.
+#![allow(unsafe_code)]
+
+use crate::config::Config;
+use crate::plan::State;
+use crate::table::Table;
+
+mod library {
+    use super::{Config, State, Table};
+
+    #[repr(C)]
+    pub struct Outcome {
+        pub number: u32,
+        pub place: usize,
+        pub inner: u32,
+    }
+
+    extern "C" {
+        pub fn peatmitten_check_config(config: *const Config, places: *mut [u64; 2]) -> u32;
+        pub fn peatmitten_check_table(config: *const Config, table: *const Table) -> u32;
+        pub fn peatmitten_request(config: *const Config, table: *mut Table, kind: u32, zone: u32, v: u64, p: u64, size: u64)
+            -> u32;
+        pub fn peatmitten_translate(
+            config: *const Config,
+            table: *const Table,
+            zone: u32,
+            side: u32,
+            address: u64,
+            physical: *mut [u64; 1],
+        ) -> u32;
+        pub fn peatmitten_read(plan: *const u8, length: usize, place: *mut [u64; 1]) -> u32;
+        pub fn peatmitten_apply(state: *mut State, plan: *const u8, length: usize) -> Outcome;
+    }
+}
+
+// SAFETY, of every call below: the library asks for pointers that are valid, aligned, not null and, where it writes, not shared. Each
+// comes from a reference or a slice that is held until the call returns. `Config` and `Table` are transparent over their words and
+// `State` and `Outcome` are `repr(C)`, so their memory is what the library's header says.
+
+/// What stands in an answer's place before the library writes it: no answer, so that one which it left out would show.
+const UNWRITTEN: u64 = u64::MAX;
+
+/// The number of a configuration's first fault, or 0, and its two places.
+pub fn check_config(config: &Config) -> (u32, [u64; 2]) {
+    let mut places = [UNWRITTEN; 2];
+    let number = unsafe { library::peatmitten_check_config(config, &mut places) };
+    (number, places)
+}
+
+/// 1 for a sound table under a sound configuration, else 0.
+pub fn check_table(config: &Config, table: &Table) -> u32 {
+    unsafe { library::peatmitten_check_table(config, table) }
+}
+
+/// The number of a request's refusal, or 0. The region is v, p, size.
+pub fn request(config: &Config, table: &mut Table, kind: u32, zone: u32, [v, p, size]: [u64; 3]) -> u32 {
+    unsafe { library::peatmitten_request(config, table, kind, zone, v, p, size) }
+}
+
+/// The number of a translation's refusal, or 0, and the physical address. Side 0 is the CPU, any other the IOMMU.
+pub fn translate(config: &Config, table: &Table, zone: u32, side: u32, address: u64) -> (u32, u64) {
+    let mut physical = [UNWRITTEN];
+    let number = unsafe { library::peatmitten_translate(config, table, zone, side, address, &mut physical) };
+    (number, physical[0])
+}
+
+/// The number of a plan's first fault, or 0, and its offset, or that of the first request record.
+pub fn read(plan: &[u8]) -> (u32, u64) {
+    let mut place = [UNWRITTEN];
+    let number = unsafe { library::peatmitten_read(plan.as_ptr(), plan.len(), &mut place) };
+    (number, place[0])
+}
+
+/// The number of a plan's refusal, or 0, its place and its inner number.
+pub fn apply(state: &mut State, plan: &[u8]) -> (u32, [u64; 2]) {
+    let outcome = unsafe { library::peatmitten_apply(state, plan.as_ptr(), plan.len()) };
+    (outcome.number, [outcome.place as u64, u64::from(outcome.inner)])
+}

@@ -1,0 +1,36 @@
+/// A guest (virtual) address.
+#[derive(Clone, Copy, Debug, PartialEq, Eq, PartialOrd, Ord, Hash)]
+pub struct Guest(pub u64);
+
+/// A physical address.
+#[derive(Clone, Copy, Debug, PartialEq, Eq, PartialOrd, Ord, Hash)]
+pub struct Physical(pub u64);
+
+/// A stretch of guest addresses and the stretch of physical addresses behind it.
+#[derive(Clone, Copy, Debug, PartialEq, Eq, Hash)]
+pub struct Region {
+    /// Where it starts in guest addresses.
+    pub v: Guest,
+    /// Where it starts in physical addresses.
+    pub p: Physical,
+    /// Its size in bytes.
+    pub size: u64,
+}
+
+impl Region {
+    pub(crate) const WORDS: usize = 3;
+
+    /// A region from its guest start, its physical start and its size.
+    pub const fn new(v: u64, p: u64, size: u64) -> Region {
+        Region { v: Guest(v), p: Physical(p), size }
+    }
+
+    pub(crate) fn words(&self) -> [u64; Region::WORDS] {
+        [self.v.0, self.p.0, self.size]
+    }
+
+    /// The regions that stand in these words, one after the other.
+    pub(crate) fn in_words(words: &[u64]) -> impl Iterator<Item = Region> + '_ {
+        words.chunks_exact(Region::WORDS).map(|record| Region::new(record[0], record[1], record[2]))
+    }
+}

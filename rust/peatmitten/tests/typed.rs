@@ -1,0 +1,135 @@
+//! The desk examples of document 01 through the types of this crate.
+
+use std::mem::{offset_of, size_of};
+
+use peatmitten::{
+    raw, read_plan, Config, ConfigFault, Guest, Physical, PlanRefusal, ReadFault, Refusal, Region, Request, Side, State, Table,
+};
+
+const A: Region = Region::new(0x4000_0000, 0x8000_0000, 0x20_0000);
+const B: Region = Region::new(0x4000_0000, 0x8020_0000, 0x20_0000);
+const C: Region = Region::new(0x4010_0000, 0x9000_0000, 0x20_0000);
+const G: Region = Region::new(0x0800_0000, 0x0800_0000, 0x1_0000);
+
+const FIRST_PLAN: &[u8] = include_bytes!("../../../examples/first.plan");
+const REFUSED_PLAN: &[u8] = include_bytes!("../../../examples/refused.plan");
+const CUT_PLAN: &[u8] = include_bytes!("../../../examples/cut.plan");
+
+fn desk() -> (Config, Table) {
+    let config = Config::new(&[A, B, C, G], 3).expect("four regions");
+    let mut table = Table::new();
+    for zone in [5, 6] {
+        assert_eq!(table.request(&config, Request::add_zone(zone)), Ok(()));
+    }
+    (config, table)
+}
+
+fn first_state() -> State {
+    State::new(Config::new(&[G], 0).expect("one region"))
+}
+
+#[test]
+fn the_memory_is_that_of_the_header() {
+    assert_eq!(size_of::<State>(), 7904);
+    assert_eq!(offset_of!(State, config), 0);
+    assert_eq!(offset_of!(State, table), 1552);
+    assert_eq!(offset_of!(State, edition), 7896);
+}
+
+#[test]
+fn requests() {
+    let (config, mut table) = desk();
+    let mut ask = |request| table.request(&config, request);
+    assert_eq!(ask(Request::add_zone(5)), Err(Refusal::ZoneThere));
+    assert_eq!(ask(Request::add_zone(256)), Err(Refusal::ZoneId));
+    assert_eq!(ask(Request::insert(5, Side::Cpu, A)), Ok(()));
+    assert_eq!(ask(Request::insert(5, Side::Cpu, A)), Err(Refusal::RegionThere));
+    assert_eq!(ask(Request::insert(5, Side::Cpu, C)), Err(Refusal::GuestOverlap));
+    assert_eq!(ask(Request::insert(6, Side::Iommu, A)), Err(Refusal::PhysicalOverlap));
+    assert_eq!(ask(Request::insert(6, Side::Cpu, B)), Ok(()));
+    assert_eq!(ask(Request::insert(5, Side::Cpu, G)), Err(Refusal::OverGic));
+    assert_eq!(ask(Request::insert(5, Side::Iommu, G)), Ok(()));
+    assert_eq!(ask(Request::insert(6, Side::Iommu, G)), Ok(()));
+    assert_eq!(ask(Request::remove_zone(5)), Err(Refusal::ZoneInUse));
+    assert_eq!(ask(Request::remove(5, Side::Iommu, A)), Err(Refusal::NoRegion));
+    assert_eq!(ask(Request::remove(5, Side::Cpu, A)), Ok(()));
+    assert_eq!(ask(Request::remove(5, Side::Iommu, G)), Ok(()));
+    assert_eq!(ask(Request::remove_zone(5)), Ok(()));
+    assert_eq!(ask(Request::from_numbers(7, 5, A)), Err(Refusal::NoRequest));
+    let left: Vec<_> = table.zones().map(|zone| (zone.id(), zone.regions(Side::Cpu).collect::<Vec<_>>())).collect();
+    assert_eq!(left, [(6, vec![B])]);
+    assert!(table.is_sound(&config));
+}
+
+#[test]
+fn translation() {
+    let (config, mut table) = desk();
+    assert_eq!(table.request(&config, Request::insert(5, Side::Iommu, A)), Ok(()));
+    let ask = |zone, side, address| table.translate(&config, zone, side, Guest(address));
+    assert_eq!(ask(5, Side::Iommu, 0x401f_ffff), Ok(Physical(0x801f_ffff)));
+    assert_eq!(ask(5, Side::Cpu, 0x401f_ffff), Err(Refusal::NotCovered));
+    assert_eq!(ask(5, Side::Iommu, u64::MAX), Err(Refusal::NotCovered));
+    assert_eq!(ask(7, Side::Iommu, 0), Err(Refusal::NoZone));
+    assert_eq!(raw::translate(&config, &table, 5, u32::MAX, 0x4000_0000), (0, 0x8000_0000));
+}
+
+#[test]
+fn unsound_bases() {
+    let (config, mut table) = desk();
+    let no_regions = Config::new(&[], 0).expect("no region is at most 64");
+    assert_eq!(no_regions.check(), Err(ConfigFault::Count));
+    assert!(!table.is_sound(&no_regions));
+    assert_eq!(table.request(&no_regions, Request::add_zone(7)), Err(Refusal::UnsoundConfig));
+    let mut twice = *table.words();
+    twice[1] = 6;
+    let mut twice = Table::from_words(twice);
+    assert_eq!(twice.request(&config, Request::add_zone(7)), Err(Refusal::UnsoundTable));
+}
+
+#[test]
+fn more_regions_than_words() {
+    assert!(Config::new(&[A; 64], 0).is_some());
+    assert!(Config::new(&[A; 65], 0).is_none());
+    let mut words = [u64::MAX; peatmitten::CONFIG_WORDS];
+    assert_eq!(Config::from_words(words).regions().count(), 64);
+    words[0] = 1;
+    assert_eq!(Config::from_words(words).check(), Err(ConfigFault::GicPosition));
+    assert_eq!(Table::from_words([u64::MAX; peatmitten::TABLE_WORDS]).zones().count(), 8);
+}
+
+#[test]
+fn plans() {
+    let mut state = first_state();
+    assert_eq!(state.apply(CUT_PLAN), Err(PlanRefusal::Read(ReadFault::Cut { offset: 48 })));
+    assert_eq!(state.apply(REFUSED_PLAN), Err(PlanRefusal::OtherConfig));
+    assert_eq!(state, first_state());
+    assert_eq!(state.apply(FIRST_PLAN), Ok(1));
+    assert_eq!(state.apply(FIRST_PLAN), Err(PlanRefusal::OtherEdition));
+    assert_eq!((state.edition, state.table.zones().count()), (1, 1));
+    assert_eq!(state.apply(&[]), Err(PlanRefusal::Read(ReadFault::Cut { offset: 0 })));
+}
+
+#[test]
+fn a_refused_request_in_a_plan() {
+    let (config, mut table) = desk();
+    assert_eq!(table.request(&config, Request::remove_zone(6)), Ok(()));
+    assert_eq!(table.request(&config, Request::insert(5, Side::Cpu, A)), Ok(()));
+    for region in [A, G] {
+        assert_eq!(table.request(&config, Request::insert(5, Side::Iommu, region)), Ok(()));
+    }
+    let mut state = State { config, table, edition: 7 };
+    let before = state.clone();
+    let refusal = state.apply(REFUSED_PLAN).expect_err("its third request is refused");
+    assert_eq!(refusal, PlanRefusal::Request { index: 2, refusal: Refusal::PhysicalOverlap });
+    assert_eq!((refusal.number(), refusal.place(), refusal.inner()), (27, 2, 14));
+    assert_eq!(refusal.to_string(), "request 2 is refused: the region overlaps another one physically");
+    assert_eq!(state, before);
+}
+
+#[test]
+fn reading() {
+    assert_eq!(read_plan(FIRST_PLAN), Ok(48));
+    assert_eq!(read_plan(CUT_PLAN), Err(ReadFault::Cut { offset: 48 }));
+    let longer = [FIRST_PLAN, &[0]].concat();
+    assert_eq!(read_plan(&longer), Err(ReadFault::Trailing { offset: 80 }));
+}

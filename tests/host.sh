@@ -1,0 +1,54 @@
+# Sourced by the tests: how programs that link the library are built and run on this machine. The library is for x86-64. On
+# another processor they are built by a cross compiler and run under an emulator; tests/install_cross.sh installs both.
+#
+#   LIBRARY_DIR  where libagent.a is
+#   CC           a C compiler for x86-64
+#   EMULATOR     empty on x86-64, else the command that runs an x86-64 program
+
+root=$(cd "$(dirname "${BASH_SOURCE[0]}")/.." && pwd)
+LIBRARY_DIR=${PEATMITTEN_LIB_DIR:-$root/target/staticlib}
+RUST_TARGET=x86_64-unknown-linux-gnu
+
+say_failed() {
+    echo "$test_name: FAILED: $*" >&2
+    exit 1
+}
+
+need_library() {
+    [ -f "$LIBRARY_DIR/libagent.a" ] || say_failed "there is no $LIBRARY_DIR/libagent.a: build it by 'rt staticlib agent'"
+    LIBRARY_DIR=$(cd "$LIBRARY_DIR" && pwd)
+}
+
+is_native() {
+    [ "$(uname -m)" = x86_64 ]
+}
+
+need_c() {
+    if is_native; then
+        CC=${CC:-cc}
+        EMULATOR=
+    else
+        CC=x86_64-linux-gnu-gcc
+        EMULATOR=qemu-x86_64
+    fi
+    command -v "$CC" >/dev/null || say_failed "there is no C compiler $CC (tests/install_cross.sh installs one)"
+    [ -z "$EMULATOR" ] || command -v "$EMULATOR" >/dev/null || say_failed "there is no $EMULATOR (tests/install_cross.sh installs it)"
+}
+
+# Whether the Rust compiler $1 has a standard library for the target.
+has_rust_target() {
+    local libraries
+    libraries=$("$1" --print target-libdir --target "$RUST_TARGET" 2>/dev/null) && ls "$libraries"/libstd-*.rlib >/dev/null 2>&1
+}
+
+# Finds a cargo whose compiler can build for x86-64, the one on the PATH first, and sets what it needs. Fails if there is none.
+find_cargo() {
+    local bin
+    for bin in "$(dirname "$(command -v cargo || echo /none/cargo)")" /usr/bin; do
+        if [ -x "$bin/cargo" ] && has_rust_target "$bin/rustc"; then
+            export CARGO=$bin/cargo RUSTC=$bin/rustc RUSTDOC=$bin/rustdoc
+            return 0
+        fi
+    done
+    return 1
+}

@@ -64,14 +64,14 @@ pub request-told : (c t u : List ℕ) (q r : Request) (n : ℕ) → q ≡ r → 
 request-told c t u q r n e h = subst (λ (x : Request). Stepped c t x n u) e h
 
 -- a translation on a side by its number
-module _ (c : StoredConfig) (t : StoredTable) (zone : ℕ) (s : Side) (n : ℕ) (a : Guest) (r : Translated) (e : s ≡ sideOf n) (h : r ≡ translated c t zone s a) where
-  same : r ≡ translated c t zone (sideOf n) a
-  same = h ∙ ap (λ (x : Side). translated c t zone x a) e
+module _ (c : StoredConfig) (t : StoredTable) (zone : ℕ) (s : Side) (n : ℕ) (a : Guest) (r : Translated) (e : s ≡ sideOf n) (h : r ≡ translated limits c t zone s a) where
+  same : r ≡ translated limits c t zone (sideOf n) a
+  same = h ∙ ap (λ (x : Side). translated limits c t zone x a) e
 
-  pub translation-number : r .number ≡ translated c t zone (sideOf n) a .number
+  pub translation-number : r .number ≡ translated limits c t zone (sideOf n) a .number
   translation-number = ap (λ (x : Translated). x .number) same
 
-  pub translation-address : (u : List ℕ) → u ≡ r .phys .0 ∷ [] → u ≡ translated c t zone (sideOf n) a .phys .0 ∷ []
+  pub translation-address : (u : List ℕ) → u ≡ r .phys .0 ∷ [] → u ≡ translated limits c t zone (sideOf n) a .phys .0 ∷ []
   translation-address u k = k ∙ ap (λ (x : Translated). x .phys .0 ∷ []) same
 
 -- a plan that was read: r is what the reader answered

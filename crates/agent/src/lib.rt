@@ -23,6 +23,7 @@ use zones::translate_in;
 ghost use mathlib.Core.List.{[], _∷_};
 ghost use mathlib.Core.Path.{_≡_};
 ghost use lib.ListN.{length};
+ghost use Rattle.rules.specs.Limits.{limits};
 ghost use Rattle.rules.specs.Configuration.{check, checkNumber};
 ghost use Rattle.rules.specs.Run.{makeRequest};
 ghost use Rattle.rules.specs.Tables.{checkTable};
@@ -38,7 +39,7 @@ pub extern "C" fn peatmitten_check_config(
     config: &[u64; CONFIG_WORDS],
     places: &mut [u64; 2],
 ) -> u32
-    ensures { λ n. ⌜ (n ≡ checkNumber (check (storedConfig (now (config .entry))))) × (now (places .exit) ≡ placesOf (check (storedConfig (now (config .entry))))) ⌝ }
+    ensures { λ n. ⌜ (n ≡ checkNumber (check limits (storedConfig (now (config .entry))))) × (now (places .exit) ≡ placesOf (check limits (storedConfig (now (config .entry))))) ⌝ }
 {
     let words = *config;
     let found = check_config(Config { words });
@@ -56,7 +57,7 @@ pub extern "C" fn peatmitten_check_table(
     config: &[u64; CONFIG_WORDS],
     table: &[u64; TABLE_WORDS],
 ) -> u32
-    ensures { λ n. ⌜ n ≡ yesOrNo (checkTable (storedConfig (now (config .entry))) (storedTable (now (table .entry)))) ⌝ }
+    ensures { λ n. ⌜ n ≡ yesOrNo (checkTable limits (storedConfig (now (config .entry))) (storedTable (now (table .entry)))) ⌝ }
 {
     let c = *config;
     let t = *table;
@@ -98,7 +99,7 @@ pub extern "C" fn peatmitten_translate(
     address: u64,
     physical: &mut [u64; 1],
 ) -> u32
-    ensures { λ n. ⌜ (n ≡ translated (storedConfig (now (config .entry))) (storedTable (now (table .entry))) zone (sideOf side) (record { 0 = address }) .number) × (now (physical .exit) ≡ translated (storedConfig (now (config .entry))) (storedTable (now (table .entry))) zone (sideOf side) (record { 0 = address }) .phys .0 ∷ []) ⌝ }
+    ensures { λ n. ⌜ (n ≡ translated limits (storedConfig (now (config .entry))) (storedTable (now (table .entry))) zone (sideOf side) (record { 0 = address }) .number) × (now (physical .exit) ≡ translated limits (storedConfig (now (config .entry))) (storedTable (now (table .entry))) zone (sideOf side) (record { 0 = address }) .phys .0 ∷ []) ⌝ }
 {
     let asked = side_of(side);
     let found = translate_in(config, table, zone, asked, Guest(address));

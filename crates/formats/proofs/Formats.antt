@@ -246,9 +246,9 @@ module _ {A : Type 0} (F : Format A) (P : A → Type 0) (f : Lawful F P) where
 
 -- ---- a count
 module _ (w lo hi : ℕ) where
-  back-count : (c : ℕ) (t : List ℕ) → hi < 256 ^ w → lo ≤ c → c ≤ hi → readCount w lo hi (bytesOf w c ++ t) ≡ got c t
+  back-count : (c : ℕ) (t : List ℕ) → c < 256 ^ w → lo ≤ c → c ≤ hi → readCount w lo hi (bytesOf w c ++ t) ≡ got c t
   unfolding readCount then when within
-  back-count c t small a z = rw (back-number w c t (omega arith), whole (leb lo c ∷ leb c hi ∷ []) (le-leb lo c a, (le-leb c hi z, tt)))
+  back-count c t small a z = rw (back-number w c t small, whole (leb lo c ∷ leb c hi ∷ []) (le-leb lo c a, (le-leb c hi z, tt)))
 
   pub count-got : (b : List ℕ) (c : ℕ) (s : List ℕ) → readCount w lo hi b ≡ got c s → (readNumber w b ≡ got c s) × ((lo ≤ c) × (c ≤ hi))
   unfolding readCount within
@@ -295,13 +295,13 @@ module _ {A : Type 0} (F : Format A) (P : A → Type 0) (each : (b : List ℕ) (
       (omega arith, h)
 
 -- ---- after a count
-module _ {A : Type 0} (w lo hi : ℕ) (small : hi < 256 ^ w) (F : ℕ → Format A) (size : A → ℕ) (P : ℕ → A → Type 0) (f : (c : ℕ) → Lawful (F c) (P c))
+module _ {A : Type 0} (w lo hi : ℕ) (F : ℕ → Format A) (size : A → ℕ) (P : ℕ → A → Type 0) (f : (c : ℕ) → Lawful (F c) (P c))
     (sized : (c : ℕ) (x : A) → lo ≤ c → c ≤ hi → P c x → size x ≡ c) where
-  back-headed : (x : A) (t : List ℕ) → InRange lo hi size P x → readHeaded w lo hi F size (writeHeaded w lo hi F size x ++ t) ≡ got x t
+  back-headed : (x : A) (t : List ℕ) → InRange w lo hi size P x → readHeaded w lo hi F size (writeHeaded w lo hi F size x ++ t) ≡ got x t
   unfolding readHeaded writeHeaded then
-  back-headed x t h = rw (append-assoc (bytesOf w (size x)) (F (size x) .write x) t, back-count w lo hi (size x) (F (size x) .write x ++ t) small (h .least) (h .most), f (size x) .back x t (h .fits))
+  back-headed x t h = rw (append-assoc (bytesOf w (size x)) (F (size x) .write x) t, back-count w lo hi (size x) (F (size x) .write x ++ t) (h .said) (h .least) (h .most), f (size x) .back x t (h .fits))
 
-  tight-headed : (b : List ℕ) (x : A) (t : List ℕ) → Bytes b → readHeaded w lo hi F size b ≡ got x t → (b ≡ writeHeaded w lo hi F size x ++ t) × InRange lo hi size P x
+  tight-headed : (b : List ℕ) (x : A) (t : List ℕ) → Bytes b → readHeaded w lo hi F size b ≡ got x t → (b ≡ writeHeaded w lo hi F size x ++ t) × InRange w lo hi size P x
   unfolding readHeaded writeHeaded
   tight-headed b x t h e =
       let (c, s, ec, e') = then-got (readCount w lo hi b) (λ c s. F c .read s) x t e in
@@ -310,7 +310,7 @@ module _ {A : Type 0} (w lo hi : ℕ) (small : hi < 256 ^ w) (F : ℕ → Format
       let g = f c .tight s x t (left-bytes b (bytesOf w c) s (k .0) h) e' in
       let q : size x ≡ c = sized c x a z (g .1) in
       let v : b ≡ (bytesOf w c ++ F c .write x) ++ t = k .0 ∙ ap (λ (r : List ℕ). bytesOf w c ++ r) (g .0) ∙ sym (append-assoc (bytesOf w c) (F c .write x) t) in
-      (rw q v, record { least = rw q a; most = rw q z; fits = rw q (g .1) })
+      (rw q v, record { said = rw q (k .1); least = rw q a; most = rw q z; fits = rw q (g .1) })
 
   part-headed : (b : List ℕ) → Part (left (readHeaded w lo hi F size b)) b
   unfolding readHeaded left
@@ -320,7 +320,7 @@ module _ {A : Type 0} (w lo hi : ℕ) (small : hi < 256 ^ w) (F : ℕ → Format
   unfolding readHeaded
   refuses-headed b = then-bad (readCount w lo hi b) (λ c s. F c .read s) Above (refuses-count w lo hi b) (λ c s. f c .refuses s)
 
-  pub lawful-headed : Lawful (headed w lo hi F size) (InRange lo hi size P)
+  pub lawful-headed : Lawful (headed w lo hi F size) (InRange w lo hi size P)
   lawful-headed = record { back = back-headed; tight = tight-headed; part = part-headed; refuses = refuses-headed }
 
 -- ---- the whole file

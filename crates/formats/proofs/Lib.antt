@@ -2,3 +2,5 @@
 pub mod Formats
 pub mod Widths
 pub mod Sizes
+pub mod Spelled
+pub mod Bounds

@@ -1,6 +1,6 @@
 -- Formats: a reader and a writer of one kind of value. A reader takes the bytes that are left and answers with those that are then left, so an offset is a
 -- difference of two lengths. The refusals are document 01's: 20 for a field that is not wholly there, 21 for a count out of range, 22 for bytes after the end.
-use Prim.Native.Nat.{ℕ, zero, suc, _≤_}
+use Prim.Native.Nat.{ℕ, zero, suc, _^_, _≤_, _<_}
 use mathlib.Core.Bool.{Bool, true, false}
 use mathlib.Core.List.{List, [], _∷_, _++_}
 use mathlib.Core.Path.{_≡_}
@@ -106,15 +106,16 @@ atEnd x (c ∷ t) = bad 22 (c ∷ t)
 unfoldable pub readFile : {A : Type 0} → Format A → List ℕ → Out A
 readFile F b = then (F .read b) atEnd
 
--- ---- what can be written: every element can, and a count lies in its range
+-- ---- what can be written: every element can, and a count lies in its range and can be said in its w bytes
 abbrev pub All : {A : Type 0} → (A → Type 0) → List A → Type 0
 All P [] = Unit {0}
 All P (x ∷ xs) = P x × All P xs
 
-pub record InRange {A : Type 0} (lo hi : ℕ) (size : A → ℕ) (P : ℕ → A → Type 0) (x : A) : Type 0 where
+pub record InRange {A : Type 0} (w lo hi : ℕ) (size : A → ℕ) (P : ℕ → A → Type 0) (x : A) : Type 0 where
+  pub said : size x < 256 ^ w
   pub least : lo ≤ size x
   pub most : size x ≤ hi
   pub fits : P (size x) x
 
-abbrev pub ListFits : {A : Type 0} → ℕ → ℕ → (A → Type 0) → List A → Type 0
-ListFits lo hi P = InRange lo hi length (λ n xs. (length xs ≡ n) × All P xs)
+abbrev pub ListFits : {A : Type 0} → ℕ → ℕ → ℕ → (A → Type 0) → List A → Type 0
+ListFits w lo hi P = InRange w lo hi length (λ n xs. (length xs ≡ n) × All P xs)

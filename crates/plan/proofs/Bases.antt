@@ -26,7 +26,7 @@ use Rattle.rules.specs.declared.Region.{Region}
 use Rattle.rules.specs.declared.Side.{Side}
 use Rattle.rules.specs.declared.Side.the-variants.{Cpu, Iommu}
 use Rattle.rules.proofs.Applying.{same-list, list-same, same-zone, zone-same}
-use Rattle.rules.proofs.Plan.{lawful-marks, lawful-regions, lawful-zones, limits-sayable}
+use Rattle.rules.proofs.Plan.{lawful-marks, lawful-regions, lawful-zones}
 use Rattle.rules.proofs.Regions.{equal-same, equal-refl}
 use Rattle.rules.proofs.Stored.{stands-well}
 use Rattle.zones.specs.Layout.{configWords, tableWords}
@@ -88,8 +88,8 @@ module _ (b : List ℕ) (p : Plan) (t : List ℕ) (e : readPlan limits b ≡ got
   before-requests =
       let h = sections in
       let (w1, q1) = subst (λ (o : Out Marks). Part (left o) b) (h .marks) (lawful-marks .part b) in
-      let (w2, q2) = subst (λ (o : Out (List Region)). Part (left o) (h .afterMarks)) (h .regions) (lawful-regions limits limits-sayable .part (h .afterMarks)) in
-      let (w3, q3) = subst (λ (o : Out (List Zone)). Part (left o) (h .afterRegions)) (h .zones) (lawful-zones limits limits-sayable .part (h .afterRegions)) in
+      let (w2, q2) = subst (λ (o : Out (List Region)). Part (left o) (h .afterMarks)) (h .regions) (lawful-regions limits .part (h .afterMarks)) in
+      let (w3, q3) = subst (λ (o : Out (List Zone)). Part (left o) (h .afterRegions)) (h .zones) (lawful-zones limits .part (h .afterRegions)) in
       (w1 ++ (w2 ++ w3), q1 ∙ ap (λ (l : List ℕ). w1 ++ l) (q2 ∙ ap (λ (l : List ℕ). w2 ++ l) q3 ∙ sym (append-assoc w2 w3 (h .afterZones))) ∙ sym (append-assoc w1 (w2 ++ w3) (h .afterZones)))
 
   -- the requests are the last of its bytes
@@ -128,14 +128,14 @@ module _ (b : List ℕ) (p : Plan) (t : List ℕ) (e : readPlan limits b ≡ got
       ∙ ap (map (λ (a : Asked). makeRequest (a .kind) (a .zone) (a .region))) (sym asked)
 
 -- ---- the configuration: c is the terminal's words
-module _ (b : List ℕ) (p : Plan) (t : List ℕ) (e : readPlan limits b ≡ got p t) (c w : List ℕ) (stands : standing (storedConfig c) (storedTable w) ≡ 0) where
+module _ (b : List ℕ) (p : Plan) (t : List ℕ) (e : readPlan limits b ≡ got p t) (c w : List ℕ) (stands : standing limits (storedConfig c) (storedTable w) ≡ 0) where
   abbrev given : Configuration
   given = record { regions = p .regions; gic = p .marks .gic }
 
   pub config-same : length c ≡ configWords → sameList eqb c (wordsOfConfig given) ≡ sameConfig (configIn c) p
   unfolding sameConfig
   config-same l =
-      let spelled : c ≡ wordsOfConfig (configIn c) = config-spelled c l (stands-well (storedConfig c) (storedTable w) stands .0) in
+      let spelled : c ≡ wordsOfConfig (configIn c) = config-spelled c l (stands-well limits (storedConfig c) (storedTable w) stands .0) in
       same-test _ _
       (λ h. let q : configIn c ≡ given = ap configIn (same-words c (wordsOfConfig given) h) ∙ config-in given (few-regions b p t e) in
       whole _ (ap (λ (x : Configuration). sameList regionEq (x .regions) (p .regions)) q ∙ list-same regionEq equal-refl (p .regions), (ap (λ (x : Configuration). eqb (x .gic) (p .marks .gic)) q ∙ eq-eqb (p .marks .gic) (p .marks .gic) refl, tt)))

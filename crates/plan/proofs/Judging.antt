@@ -8,6 +8,7 @@ use borrow.Author.Tests.{eq-eqb, ne-eqb, eqb-false}
 use lib.Dec.{eqb}
 use Rattle.lists.specs.Rules.{_when_, firstRule}
 use Rattle.lists.proofs.Rules.{rule-hit, rule-skip, rule-none}
+use Rattle.rules.specs.Limits.{limits}
 use Rattle.rules.specs.Applying.{lastEdition, sameList, plain}
 use Rattle.rules.specs.Requests.{standing}
 use Rattle.rules.specs.declared.Outcome.{Outcome}
@@ -19,14 +20,14 @@ use Rattle.plan.specs.declared.applying.State.{State}
 use Rattle.plan.specs.declared.read.Read.{Read}
 
 -- ---- turned away: n is the number of the terminal's own state
-module _ (s : State) (n k place : ℕ) (e : n ≡ standing (storedConfig (s .config .words)) (storedTable (s .table .words))) where
+module _ (s : State) (n k place : ℕ) (e : n ≡ standing limits (storedConfig (s .config .words)) (storedTable (s .table .words))) where
   pub away-own : (n ≡ 0 → ⊥) → _≡_ {A = Applied} (record { outcome = record { number = n; place = 0; inner = 0 }; state = s }) (turnedAway s k place)
   unfolding turnedAway
-  away-own ne = ap (λ (m : ℕ). record { outcome = plain m 0; state = s }) e ∙ sym (ap (λ (t : Bool). cond t (record { outcome = plain k place; state = s }) (record { outcome = plain (standing (storedConfig (s .config .words)) (storedTable (s .table .words))) 0; state = s })) (ne-eqb _ 0 (λ z. ne (e ∙ z))))
+  away-own ne = ap (λ (m : ℕ). record { outcome = plain m 0; state = s }) e ∙ sym (ap (λ (t : Bool). cond t (record { outcome = plain k place; state = s }) (record { outcome = plain (standing limits (storedConfig (s .config .words)) (storedTable (s .table .words))) 0; state = s })) (ne-eqb _ 0 (λ z. ne (e ∙ z))))
 
   pub away-plan : n ≡ 0 → _≡_ {A = Applied} (record { outcome = record { number = k; place = place; inner = 0 }; state = s }) (turnedAway s k place)
   unfolding turnedAway
-  away-plan z = sym (ap (λ (t : Bool). cond t (record { outcome = plain k place; state = s }) (record { outcome = plain (standing (storedConfig (s .config .words)) (storedTable (s .table .words))) 0; state = s })) (eq-eqb _ 0 (sym e ∙ z)))
+  away-plan z = sym (ap (λ (t : Bool). cond t (record { outcome = plain k place; state = s }) (record { outcome = plain (standing limits (storedConfig (s .config .words)) (storedTable (s .table .words))) 0; state = s })) (eq-eqb _ 0 (sym e ∙ z)))
 
 -- ---- the base: t and u are what the comparisons of words answered
 module _ (s : State) (r : Read) (t : Bool) (et : t ≡ sameList eqb (s .config .words) (r .config .words)) where

@@ -18,7 +18,7 @@ use Rattle.rules.specs.Requests.{standing}
 use Rattle.rules.specs.Run.{requestBytes, requestsIn, run, ended, runAnswer, Run}
 use Rattle.rules.specs.Tables.{tableOf}
 use Rattle.rules.specs.declared.Outcome.{Outcome}
-use Rattle.rules.proofs.Plan.{plan-refuses, limits-sayable}
+use Rattle.rules.proofs.Plan.{plan-refuses}
 use Rattle.rules.proofs.Stored.{table-back, stands-well, run-from-keeps}
 use Rattle.zones.specs.Layout.{configWords, tableWords}
 use Rattle.zones.specs.Run.{runWords}
@@ -41,7 +41,7 @@ refused-in-words s o t ne = ap (λ (x : Bool). record { outcome = o; state = con
 
 module _ (s : State) where
   abbrev own : ℕ
-  own = standing (terminalIn s .config) (terminalIn s .table)
+  own = standing limits (terminalIn s .config) (terminalIn s .table)
 
   away-unsound : (k place : ℕ) → (own ≡ 0 → ⊥) → turnedAway s k place ≡ record { outcome = plain own 0; state = s }
   unfolding turnedAway
@@ -59,11 +59,11 @@ module _ (s : State) where
     -- the state is unsound: 1 or 2, whatever the bytes are
     unsound : (own ≡ 0 → ⊥) → applied s b ≡ record { outcome = plain own 0; state = s }
     unfolding applied apply
-    unsound ne = ap (λ (t : Bool). inWords s (cond t (rules.applyRead (terminalIn s) b (readPlan limits b)) (record { outcome = plain own 0; state = terminalIn s }))) (ne-eqb _ 0 ne) ∙ refused-in-words s (plain own 0) (terminalIn s) ne
+    unsound ne = ap (λ (t : Bool). inWords s (cond t (rules.applyRead limits (terminalIn s) b (readPlan limits b)) (record { outcome = plain own 0; state = terminalIn s }))) (ne-eqb _ 0 ne) ∙ refused-in-words s (plain own 0) (terminalIn s) ne
 
-    sound-reads : own ≡ 0 → apply (terminalIn s) b ≡ rules.applyRead (terminalIn s) b (readPlan limits b)
+    sound-reads : own ≡ 0 → apply limits (terminalIn s) b ≡ rules.applyRead limits (terminalIn s) b (readPlan limits b)
     unfolding apply
-    sound-reads z = ap (λ (t : Bool). cond t (rules.applyRead (terminalIn s) b (readPlan limits b)) (record { outcome = plain own 0; state = terminalIn s })) (eq-eqb _ 0 z)
+    sound-reads z = ap (λ (t : Bool). cond t (rules.applyRead limits (terminalIn s) b (readPlan limits b)) (record { outcome = plain own 0; state = terminalIn s })) (eq-eqb _ 0 z)
 
     -- bytes that do not read whole
     away-is : (k : ℕ) (t : List ℕ) → readPlan limits b ≡ bad k t → turnedAway s k (length b - length t) ≡ applied s b
@@ -74,7 +74,7 @@ module _ (s : State) where
         by true h =
             let z : own ≡ 0 = eqb-true _ _ h in
             away-sound k (length b - length t) z
-            ∙ sym (ap (inWords s) (sound-reads z ∙ ap (rules.applyRead (terminalIn s) b) e) ∙ refused-in-words s (plain k (length b - length t)) (terminalIn s) (plan-refuses limits limits-sayable b k t e))
+            ∙ sym (ap (inWords s) (sound-reads z ∙ ap (rules.applyRead limits (terminalIn s) b) e) ∙ refused-in-words s (plain k (length b - length t)) (terminalIn s) (plan-refuses limits b k t e))
         by false h = let ne : own ≡ 0 → ⊥ = eqb-false _ _ h in away-unsound k (length b - length t) ne ∙ sym (unsound ne)
 
 -- ---- 23 to 26 as numbers, and as answers
@@ -88,20 +88,20 @@ judged-by false false false true o = refl
 judged-by false false false false o = refl
 
 -- ---- a run that ended with o, and left r's table
-ran-is : (s : State) (o : Outcome) (r : Run) → tableOf (store (r .table)) ≡ r .table → ran s o (wordsOf (r .table)) ≡ inWords s (rules.applied (terminalIn s) o r)
+ran-is : (s : State) (o : Outcome) (r : Run) → tableOf (store limits (r .table)) ≡ r .table → ran s o (wordsOf (r .table)) ≡ inWords s (rules.applied limits (terminalIn s) o r)
 unfolding ran inWords rules.applied moved
 ran-is s o r back = by (eqb (o .number) 0) refl
   where
-    by : (x : Bool) → eqb (o .number) 0 ≡ x → ran s o (wordsOf (r .table)) ≡ inWords s (rules.applied (terminalIn s) o r)
+    by : (x : Bool) → eqb (o .number) 0 ≡ x → ran s o (wordsOf (r .table)) ≡ inWords s (rules.applied limits (terminalIn s) o r)
     by true h =
         ap (λ (t : Bool). cond t (record { outcome = o; state = record { config = s .config; table = record { words = wordsOf (r .table) }; edition = s .edition + 1 } }) (record { outcome = o; state = s })) h
         ∙ (λ i. record { outcome = o; state = record { config = s .config; table = record { words = wordsOf (sym back i) }; edition = s .edition + 1 } })
-        ∙ sym (ap (λ (t : Bool). record { outcome = o; state = cond t (stateFor s (moved (terminalIn s) r)) s }) h)
-        ∙ sym (ap (λ (t : Bool). inWords s (cond t (record { outcome = o; state = moved (terminalIn s) r }) (record { outcome = o; state = terminalIn s }))) h)
+        ∙ sym (ap (λ (t : Bool). record { outcome = o; state = cond t (stateFor s (moved limits (terminalIn s) r)) s }) h)
+        ∙ sym (ap (λ (t : Bool). inWords s (cond t (record { outcome = o; state = moved limits (terminalIn s) r }) (record { outcome = o; state = terminalIn s }))) h)
     by false h =
         ap (λ (t : Bool). cond t (record { outcome = o; state = record { config = s .config; table = record { words = wordsOf (r .table) }; edition = s .edition + 1 } }) (record { outcome = o; state = s })) h
         ∙ sym (refused-in-words s o (terminalIn s) (eqb-false _ _ h))
-        ∙ sym (ap (λ (t : Bool). inWords s (cond t (record { outcome = o; state = moved (terminalIn s) r }) (record { outcome = o; state = terminalIn s }))) h)
+        ∙ sym (ap (λ (t : Bool). inWords s (cond t (record { outcome = o; state = moved limits (terminalIn s) r }) (record { outcome = o; state = terminalIn s }))) h)
 
 -- ---- a plan that reads whole
 module _ (s : State) (b : List ℕ) (p : Plan) (t : List ℕ) (e : readPlan limits b ≡ got p t) (lc : length (s .config .words) ≡ configWords) (lt : length (s .table .words) ≡ tableWords) where
@@ -112,7 +112,7 @@ module _ (s : State) (b : List ℕ) (p : Plan) (t : List ℕ) (e : readPlan limi
   stretch = drop (length b - length (p .asked) * requestBytes) b
 
   abbrev done : Run
-  done = run (configOf (terminalIn s .config)) (tableOf (terminalIn s .table)) (requestsOf p)
+  done = run limits (configOf (terminalIn s .config)) (tableOf (terminalIn s .table)) (requestsOf p)
 
   module _ (z : own s ≡ 0) where
     judged-is : judged (terminalIn s) p done ≡ cond (eqb (baseNumber s says) 0) (ended done) (plain (baseNumber s says) 0)
@@ -124,34 +124,34 @@ module _ (s : State) (b : List ℕ) (p : Plan) (t : List ℕ) (e : readPlan limi
         ∙ judged-by _ _ _ _ (ended done)
 
     -- the run: its table is sound, so its words are those of what is stored
-    run-is : ranPlan s stretch ≡ inWords s (rules.applied (terminalIn s) (ended done) done)
+    run-is : ranPlan s stretch ≡ inWords s (rules.applied limits (terminalIn s) (ended done) done)
     unfolding runAnswer runWords
     run-is =
         let q : requestsIn stretch ≡ requestsOf p = requests-same b p t e in
-        (λ i. ran s (cond (eqb (standing (terminalIn s .config) (terminalIn s .table)) 0) (ended (run (configOf (terminalIn s .config)) (tableOf (terminalIn s .table)) (q i))) (record { number = standing (terminalIn s .config) (terminalIn s .table); place = 0; inner = 0 })) (cond (eqb (standing (terminalIn s .config) (terminalIn s .table)) 0) (wordsOf (run (configOf (terminalIn s .config)) (tableOf (terminalIn s .table)) (q i) .table)) (s .table .words)))
-        ∙ ap (λ (x : Bool). ran s (cond x (ended done) (record { number = standing (terminalIn s .config) (terminalIn s .table); place = 0; inner = 0 })) (cond x (wordsOf (done .table)) (s .table .words))) (eq-eqb _ 0 z)
+        (λ i. ran s (cond (eqb (standing limits (terminalIn s .config) (terminalIn s .table)) 0) (ended (run limits (configOf (terminalIn s .config)) (tableOf (terminalIn s .table)) (q i))) (record { number = standing limits (terminalIn s .config) (terminalIn s .table); place = 0; inner = 0 })) (cond (eqb (standing limits (terminalIn s .config) (terminalIn s .table)) 0) (wordsOf (run limits (configOf (terminalIn s .config)) (tableOf (terminalIn s .table)) (q i) .table)) (s .table .words)))
+        ∙ ap (λ (x : Bool). ran s (cond x (ended done) (record { number = standing limits (terminalIn s .config) (terminalIn s .table); place = 0; inner = 0 })) (cond x (wordsOf (done .table)) (s .table .words))) (eq-eqb _ 0 z)
         ∙ ran-is s (ended done) done back
       where
-        back : tableOf (store (done .table)) ≡ done .table
-        back = let (ok, sound) = stands-well (terminalIn s .config) (terminalIn s .table) z in table-back (configOf (terminalIn s .config)) (done .table) (run-from-keeps (configOf (terminalIn s .config)) 0 (tableOf (terminalIn s .table)) (requestsOf p) sound)
+        back : tableOf (store limits (done .table)) ≡ done .table
+        back = let (ok, sound) = stands-well limits (terminalIn s .config) (terminalIn s .table) z in table-back limits (configOf (terminalIn s .config)) (done .table) (run-from-keeps limits (configOf (terminalIn s .config)) 0 (tableOf (terminalIn s .table)) (requestsOf p) sound)
 
     -- by the number of the base
-    sound-is : applyRead s says stretch ≡ inWords s (rules.applied (terminalIn s) (judged (terminalIn s) p done) done)
+    sound-is : applyRead s says stretch ≡ inWords s (rules.applied limits (terminalIn s) (judged (terminalIn s) p done) done)
     unfolding applyRead rules.applied
     sound-is = by (eqb (baseNumber s says) 0) refl
       where
         answer : Bool → Applied
-        answer x = inWords s (rules.applied (terminalIn s) (cond x (ended done) (plain (baseNumber s says) 0)) done)
+        answer x = inWords s (rules.applied limits (terminalIn s) (cond x (ended done) (plain (baseNumber s says) 0)) done)
 
-        by : (x : Bool) → eqb (baseNumber s says) 0 ≡ x → applyRead s says stretch ≡ inWords s (rules.applied (terminalIn s) (judged (terminalIn s) p done) done)
-        by true h = ap (λ (x : Bool). cond x (ranPlan s stretch) (turnedAway s (baseNumber s says) 0)) h ∙ run-is ∙ sym (ap answer h) ∙ sym (ap (λ (o : Outcome). inWords s (rules.applied (terminalIn s) o done)) judged-is)
+        by : (x : Bool) → eqb (baseNumber s says) 0 ≡ x → applyRead s says stretch ≡ inWords s (rules.applied limits (terminalIn s) (judged (terminalIn s) p done) done)
+        by true h = ap (λ (x : Bool). cond x (ranPlan s stretch) (turnedAway s (baseNumber s says) 0)) h ∙ run-is ∙ sym (ap answer h) ∙ sym (ap (λ (o : Outcome). inWords s (rules.applied limits (terminalIn s) o done)) judged-is)
         by false h =
             let ne : baseNumber s says ≡ 0 → ⊥ = eqb-false _ _ h in
             ap (λ (x : Bool). cond x (ranPlan s stretch) (turnedAway s (baseNumber s says) 0)) h
             ∙ away-sound s (baseNumber s says) 0 z
             ∙ sym (refused-in-words s (plain (baseNumber s says) 0) (terminalIn s) ne)
-            ∙ sym (ap (λ (x : Bool). inWords s (cond x (record { outcome = plain (baseNumber s says) 0; state = moved (terminalIn s) done }) (record { outcome = plain (baseNumber s says) 0; state = terminalIn s }))) (ne-eqb _ 0 ne))
-            ∙ sym (ap answer h) ∙ sym (ap (λ (o : Outcome). inWords s (rules.applied (terminalIn s) o done)) judged-is)
+            ∙ sym (ap (λ (x : Bool). inWords s (cond x (record { outcome = plain (baseNumber s says) 0; state = moved limits (terminalIn s) done }) (record { outcome = plain (baseNumber s says) 0; state = terminalIn s }))) (ne-eqb _ 0 ne))
+            ∙ sym (ap answer h) ∙ sym (ap (λ (o : Outcome). inWords s (rules.applied limits (terminalIn s) o done)) judged-is)
 
   -- an unsound state: the run answers what turning away answers
   unsound-is : (own s ≡ 0 → ⊥) → applyRead s says stretch ≡ record { outcome = plain (own s) 0; state = s }
@@ -160,7 +160,7 @@ module _ (s : State) (b : List ℕ) (p : Plan) (t : List ℕ) (e : readPlan limi
     where
       ran-unsound : ranPlan s stretch ≡ record { outcome = plain (own s) 0; state = s }
       ran-unsound =
-          ap (λ (x : Bool). ran s (cond x (ended (run (configOf (terminalIn s .config)) (tableOf (terminalIn s .table)) (requestsIn stretch))) (record { number = own s; place = 0; inner = 0 })) (runWords (s .config .words) (s .table .words) stretch)) (ne-eqb _ 0 ne)
+          ap (λ (x : Bool). ran s (cond x (ended (run limits (configOf (terminalIn s .config)) (tableOf (terminalIn s .table)) (requestsIn stretch))) (record { number = own s; place = 0; inner = 0 })) (runWords (s .config .words) (s .table .words) stretch)) (ne-eqb _ 0 ne)
           ∙ ran-refused s (plain (own s) 0) (runWords (s .config .words) (s .table .words) stretch) ne
 
       by : (x : Bool) → cond x (ranPlan s stretch) (turnedAway s (baseNumber s says) 0) ≡ record { outcome = plain (own s) 0; state = s }
@@ -172,7 +172,7 @@ module _ (s : State) (b : List ℕ) (p : Plan) (t : List ℕ) (e : readPlan limi
   applied-is = by (eqb (own s) 0) refl
     where
       by : (x : Bool) → eqb (own s) 0 ≡ x → applyRead s says stretch ≡ applied s b
-      by true h = let z : own s ≡ 0 = eqb-true _ _ h in sound-is z ∙ sym (ap (inWords s) (sound-reads s b z ∙ ap (rules.applyRead (terminalIn s) b) e))
+      by true h = let z : own s ≡ 0 = eqb-true _ _ h in sound-is z ∙ sym (ap (inWords s) (sound-reads s b z ∙ ap (rules.applyRead limits (terminalIn s) b) e))
       by false h = let ne : own s ≡ 0 → ⊥ = eqb-false _ _ h in unsound-is ne ∙ sym (unsound s b ne)
 
 -- ---- what the code does with what it read: r is that
@@ -194,9 +194,9 @@ module _ (b : List ℕ) (r : Read) (er : r ≡ readAnswer (length b) (readPlan l
     pub apply-away : (s : State) (v : Applied) → v ≡ turnedAway s k a → v ≡ applied s b
     apply-away s v h = let (t, e, n) = refusal-read in h ∙ ap (turnedAway s k) n ∙ away-is s b k t e
 
-    pub alone-away : _≡_ {A = Outcome} (record { number = k; place = a; inner = 0 }) (answerAlone b)
+    pub alone-away : _≡_ {A = Outcome} (record { number = k; place = a; inner = 0 }) (answerAlone limits b)
     unfolding answerAlone answerRead
-    alone-away = let (t, e, n) = refusal-read in ap (plain k) n ∙ sym (ap (answerRead b) e)
+    alone-away = let (t, e, n) = refusal-read in ap (plain k) n ∙ sym (ap (answerRead limits b) e)
 
   -- a plan that reads whole
   module _ (a : ℕ) (f : r .section ≡ End a) where
@@ -219,18 +219,18 @@ module _ (b : List ℕ) (r : Read) (er : r ≡ readAnswer (length b) (readPlan l
     abbrev ownState : State
     ownState = record { config = r .config; table = r .table; edition = r .edition }
 
-    own-base : (p : Plan) (t : List ℕ) → readPlan limits b ≡ got p t → terminalIn ownState ≡ baseOf p
+    own-base : (p : Plan) (t : List ℕ) → readPlan limits b ≡ got p t → terminalIn ownState ≡ baseOf limits p
     unfolding readAnswer
     own-base p t e =
         let q : r ≡ readAnswer (length b) (got p t) = er ∙ ap (readAnswer (length b)) e in
         ap (λ (x : Read). terminalIn (record { config = x .config; table = x .table; edition = x .edition })) q
         ∙ (λ i. record { config = config-view (record { regions = p .regions; gic = p .marks .gic }) i; table = table-view (p .zones) i; edition = p .marks .edition })
 
-    pub alone-reads : (q : List ℕ) (v : Applied) → length (r .config .words) ≡ configWords → length (r .table .words) ≡ tableWords → q ≡ stretchOf (r .section) b → v ≡ applyRead (record { config = r .config; table = r .table; edition = r .edition }) r q → v .outcome ≡ answerAlone b
+    pub alone-reads : (q : List ℕ) (v : Applied) → length (r .config .words) ≡ configWords → length (r .table .words) ≡ tableWords → q ≡ stretchOf (r .section) b → v ≡ applyRead (record { config = r .config; table = r .table; edition = r .edition }) r q → v .outcome ≡ answerAlone limits b
     unfolding answerAlone answerRead applied inWords
     alone-reads q v lc lt g h =
         let (p, t, e, n) = plan-read in
-        ap (λ (x : Applied). x .outcome) (apply-reads ownState q v lc lt g h) ∙ ap (λ (x : Terminal). apply x b .outcome) (own-base p t e) ∙ sym (ap (answerRead b) e)
+        ap (λ (x : Applied). x .outcome) (apply-reads ownState q v lc lt g h) ∙ ap (λ (x : Terminal). apply limits x b .outcome) (own-base p t e) ∙ sym (ap (answerRead limits b) e)
 
 -- ---- what the words of the next state say is the rules' next state
 module _ (s : State) (b : List ℕ) where
@@ -238,38 +238,38 @@ module _ (s : State) (b : List ℕ) where
   stayed : (o : Outcome) → (o .number ≡ 0 → ⊥) → terminalIn (inWords s (record { outcome = o; state = terminalIn s }) .state) ≡ terminalIn s
   stayed o ne = ap (λ (a : Applied). terminalIn (a .state)) (refused-in-words s o (terminalIn s) ne)
 
-  went : (o : Outcome) (r : Run) → tableOf (store (r .table)) ≡ r .table → terminalIn (inWords s (rules.applied (terminalIn s) o r) .state) ≡ rules.applied (terminalIn s) o r .state
+  went : (o : Outcome) (r : Run) → tableOf (store limits (r .table)) ≡ r .table → terminalIn (inWords s (rules.applied limits (terminalIn s) o r) .state) ≡ rules.applied limits (terminalIn s) o r .state
   unfolding rules.applied moved inWords
   went o r back = by (eqb (o .number) 0) refl
     where
       either : Bool → rules.Applied
-      either x = cond x (record { outcome = o; state = moved (terminalIn s) r }) (record { outcome = o; state = terminalIn s })
+      either x = cond x (record { outcome = o; state = moved limits (terminalIn s) r }) (record { outcome = o; state = terminalIn s })
 
       by : (x : Bool) → eqb (o .number) 0 ≡ x → terminalIn (inWords s (either (eqb (o .number) 0)) .state) ≡ either (eqb (o .number) 0) .state
       by true h =
           ap (λ (x : Bool). terminalIn (inWords s (either x) .state)) h
-          ∙ ap (λ (x : Bool). terminalIn (cond x (stateFor s (moved (terminalIn s) r)) s)) h
-          ∙ (λ i. record { config = terminalIn s .config; table = (table-view (tableOf (store (r .table))) ∙ ap store back) i; edition = s .edition + 1 })
+          ∙ ap (λ (x : Bool). terminalIn (cond x (stateFor s (moved limits (terminalIn s) r)) s)) h
+          ∙ (λ i. record { config = terminalIn s .config; table = (table-view (tableOf (store limits (r .table))) ∙ ap (store limits) back) i; edition = s .edition + 1 })
           ∙ sym (ap (λ (x : Bool). either x .state) h)
       by false h = ap (λ (x : Bool). terminalIn (inWords s (either x) .state)) h ∙ stayed o (eqb-false _ _ h) ∙ sym (ap (λ (x : Bool). either x .state) h)
 
-  pub next-terminal : terminalIn (applied s b .state) ≡ apply (terminalIn s) b .state
+  pub next-terminal : terminalIn (applied s b .state) ≡ apply limits (terminalIn s) b .state
   unfolding applied apply rules.applyRead
   next-terminal = by (eqb (own s) 0) refl (readPlan limits b) refl
     where
       answer : Bool → Out Plan → rules.Applied
-      answer x o = cond x (rules.applyRead (terminalIn s) b o) (record { outcome = plain (own s) 0; state = terminalIn s })
+      answer x o = cond x (rules.applyRead limits (terminalIn s) b o) (record { outcome = plain (own s) 0; state = terminalIn s })
 
       by : (x : Bool) → eqb (own s) 0 ≡ x → (o : Out Plan) → readPlan limits b ≡ o → terminalIn (inWords s (answer (eqb (own s) 0) (readPlan limits b)) .state) ≡ answer (eqb (own s) 0) (readPlan limits b) .state
       by false h o e = ap (λ (x : Bool). terminalIn (inWords s (answer x (readPlan limits b)) .state)) h ∙ stayed (plain (own s) 0) (eqb-false _ _ h) ∙ sym (ap (λ (x : Bool). answer x (readPlan limits b) .state) h)
       by true h (bad k t) e =
           ap₂ (λ (x : Bool) (o : Out Plan). terminalIn (inWords s (answer x o) .state)) h e
-          ∙ stayed (plain k (length b - length t)) (plan-refuses limits limits-sayable b k t e)
+          ∙ stayed (plain k (length b - length t)) (plan-refuses limits b k t e)
           ∙ sym (ap₂ (λ (x : Bool) (o : Out Plan). answer x o .state) h e)
       by true h (got p t) e =
-          let r : Run = run (configOf (terminalIn s .config)) (tableOf (terminalIn s .table)) (requestsOf p) in
-          let (ok, sound) = stands-well (terminalIn s .config) (terminalIn s .table) (eqb-true _ _ h) in
-          let back : tableOf (store (r .table)) ≡ r .table = table-back (configOf (terminalIn s .config)) (r .table) (run-from-keeps (configOf (terminalIn s .config)) 0 (tableOf (terminalIn s .table)) (requestsOf p) sound) in
+          let r : Run = run limits (configOf (terminalIn s .config)) (tableOf (terminalIn s .table)) (requestsOf p) in
+          let (ok, sound) = stands-well limits (terminalIn s .config) (terminalIn s .table) (eqb-true _ _ h) in
+          let back : tableOf (store limits (r .table)) ≡ r .table = table-back limits (configOf (terminalIn s .config)) (r .table) (run-from-keeps limits (configOf (terminalIn s .config)) 0 (tableOf (terminalIn s .table)) (requestsOf p) sound) in
           ap₂ (λ (x : Bool) (o : Out Plan). terminalIn (inWords s (answer x o) .state)) h e
           ∙ went (judged (terminalIn s) p r) r back
           ∙ sym (ap₂ (λ (x : Bool) (o : Out Plan). answer x o .state) h e)

@@ -14,7 +14,7 @@ use Rattle.lists.proofs.Room.{length-room, room-tab}
 use Rattle.lists.proofs.Words.{part-cons, part-all, parts-flat}
 use Rattle.rules.specs.Applying.{storeSet, storeZone, store, storeConfig}
 use Rattle.rules.specs.Configuration.{configOf, Configuration}
-use Rattle.rules.specs.Limits.{mostRegions, mostZones, mostInSet}
+use Rattle.rules.specs.Limits.{mostRegions, mostZones, mostInSet, limits}
 use Rattle.rules.specs.Regions.{noRegion}
 use Rattle.rules.specs.Tables.{noZone, unusedZone, Zone, StoredZone}
 use Rattle.rules.specs.declared.Region.{Region}
@@ -43,7 +43,7 @@ records-spelled (r ∷ rs) pre post k e =
     ∙ ap₂ (λ (x : Region) (l : List Region). x ∷ l) first ((λ j. tab (length rs) (λ i. regionAt (again j) (step i j))) ∙ rest)
 
 -- ---- a configuration
-pub config-view : (c : Configuration) → storedConfig (wordsOfConfig c) ≡ storeConfig c
+pub config-view : (c : Configuration) → storedConfig (wordsOfConfig c) ≡ storeConfig limits c
 unfolding wordsOfConfig
 config-view c =
     let rs : List Region = room mostRegions noRegion (c .regions) in
@@ -54,7 +54,7 @@ config-view c =
     (λ i. record { count = length (c .regions); gic = c .gic; records = e i })
 
 pub config-in : (c : Configuration) → length (c .regions) ≤ mostRegions → configIn (wordsOfConfig c) ≡ c
-config-in c h = ap configOf (config-view c) ∙ config-back c h
+config-in c h = ap configOf (config-view c) ∙ config-back limits c h
 
 -- words of the right length are spelled by what is stored in them
 all-spelled : (w : List ℕ) → length w ≡ configWords → w ≡ getD w 0 0 ∷ getD w 1 0 ∷ flatMap wordsOfRegion (allRecords w)
@@ -68,11 +68,11 @@ all-spelled w l =
 pub config-spelled : (w : List ℕ) → length w ≡ configWords → ConfigPassed w → w ≡ wordsOfConfig (configIn w)
 unfolding wordsOfConfig recordsAt
 config-spelled w l ok =
-    let s = config-stored (storedConfig w) (length-tab mostRegions (recordAt w configRecords)) ok in
+    let s = config-stored limits (storedConfig w) (length-tab mostRegions (recordAt w configRecords)) ok in
     all-spelled w l ∙ (λ i. s i .count ∷ s i .gic ∷ flatMap wordsOfRegion (s i .records))
 
 -- ---- a table
-set-spelled : (xs : List Region) (pre post : List ℕ) (b : ℕ) → length pre ≡ b → storedSet (pre ++ (wordsOfSet xs ++ post)) b ≡ storeSet xs
+set-spelled : (xs : List Region) (pre post : List ℕ) (b : ℕ) → length pre ≡ b → storedSet (pre ++ (wordsOfSet xs ++ post)) b ≡ storeSet limits xs
 unfolding storedSet wordsOfSet counted
 set-spelled xs pre post b e =
     let rs : List Region = room mostInSet noRegion xs in
@@ -84,7 +84,7 @@ set-spelled xs pre post b e =
     let r : recordsAt w (b + 1) mostInSet ≡ rs = ap₂ (λ (l : List ℕ) (k : ℕ). recordsAt l (b + 1) k) split (sym n) ∙ records-spelled rs (pre ++ (length xs ∷ [])) post (b + 1) one in
     (λ i. record { count = c i; records = r i })
 
-zone-spelled : (z : Zone) (pre post : List ℕ) (j : ℕ) → length pre ≡ zoneBase j → storedZone (pre ++ (wordsOfZone z ++ post)) j ≡ storeZone z
+zone-spelled : (z : Zone) (pre post : List ℕ) (j : ℕ) → length pre ≡ zoneBase j → storedZone (pre ++ (wordsOfZone z ++ post)) j ≡ storeZone limits z
 unfolding storedZone wordsOfZone setBase
 zone-spelled z pre post j e =
     let cpu : List ℕ = wordsOfSet (z .cpu) in
@@ -96,12 +96,12 @@ zone-spelled z pre post j e =
     let one : length first ≡ 1 + j * zoneWords + 1 = (let q : length (z .id ∷ []) ≡ 1 = refl in omega (arith, length-append pre (z .id ∷ []))) in
     let next : length (first ++ cpu) ≡ 1 + j * zoneWords + (1 + setWords) = omega (arith, length-append first cpu, set-wide (z .cpu)) in
     let i : getD w (zoneBase j) 0 ≡ z .id = getD-at pre (z .id) ((cpu ++ iommu) ++ post) 0 (zoneBase j) e in
-    let c : storedSet w (1 + j * zoneWords + 1) ≡ storeSet (z .cpu) = ap (λ (l : List ℕ). storedSet l (1 + j * zoneWords + 1)) split ∙ set-spelled (z .cpu) first (iommu ++ post) (1 + j * zoneWords + 1) one in
-    let d : storedSet w (1 + j * zoneWords + (1 + setWords)) ≡ storeSet (z .iommu) = ap (λ (l : List ℕ). storedSet l (1 + j * zoneWords + (1 + setWords))) again ∙ set-spelled (z .iommu) (first ++ cpu) post (1 + j * zoneWords + (1 + setWords)) next in
+    let c : storedSet w (1 + j * zoneWords + 1) ≡ storeSet limits (z .cpu) = ap (λ (l : List ℕ). storedSet l (1 + j * zoneWords + 1)) split ∙ set-spelled (z .cpu) first (iommu ++ post) (1 + j * zoneWords + 1) one in
+    let d : storedSet w (1 + j * zoneWords + (1 + setWords)) ≡ storeSet limits (z .iommu) = ap (λ (l : List ℕ). storedSet l (1 + j * zoneWords + (1 + setWords))) again ∙ set-spelled (z .iommu) (first ++ cpu) post (1 + j * zoneWords + (1 + setWords)) next in
     (λ k. record { id = i k; cpu = c k; iommu = d k })
 
 -- zones among words, from zone j on
-zones-spelled : (zs : List Zone) (pre post : List ℕ) (j : ℕ) → length pre ≡ zoneBase j → tab (length zs) (λ i. storedZone (pre ++ (flatMap wordsOfZone zs ++ post)) (j + i)) ≡ map storeZone zs
+zones-spelled : (zs : List Zone) (pre post : List ℕ) (j : ℕ) → length pre ≡ zoneBase j → tab (length zs) (λ i. storedZone (pre ++ (flatMap wordsOfZone zs ++ post)) (j + i)) ≡ map (storeZone limits) zs
 unfolding flatMap tab places
 zones-spelled [] pre post j e = refl
 zones-spelled (z ∷ zs) pre post j e =
@@ -109,10 +109,10 @@ zones-spelled (z ∷ zs) pre post j e =
     let tail : List ℕ = flatMap wordsOfZone zs ++ post in
     let split : w ≡ pre ++ (wordsOfZone z ++ tail) = ap (λ (l : List ℕ). pre ++ l) (append-assoc (wordsOfZone z) (flatMap wordsOfZone zs) post) in
     let n : j + 0 ≡ j = omega arith in
-    let first : storedZone w (j + 0) ≡ storeZone z = ap₂ storedZone split n ∙ zone-spelled z pre tail j e in
+    let first : storedZone w (j + 0) ≡ storeZone limits z = ap₂ storedZone split n ∙ zone-spelled z pre tail j e in
     let step : (i : ℕ) → j + suc i ≡ suc j + i = λ i. omega arith in
     let again : w ≡ (pre ++ wordsOfZone z) ++ tail = split ∙ sym (append-assoc pre (wordsOfZone z) tail) in
-    let rest : tab (length zs) (λ i. storedZone ((pre ++ wordsOfZone z) ++ tail) (suc j + i)) ≡ map storeZone zs = zones-spelled zs (pre ++ wordsOfZone z) post (suc j) (omega (arith, length-append pre (wordsOfZone z), zone-wide z, suc-mul j zoneWords)) in
+    let rest : tab (length zs) (λ i. storedZone ((pre ++ wordsOfZone z) ++ tail) (suc j + i)) ≡ map (storeZone limits) zs = zones-spelled zs (pre ++ wordsOfZone z) post (suc j) (omega (arith, length-append pre (wordsOfZone z), zone-wide z, suc-mul j zoneWords)) in
     tab-cons (length zs) (λ i. storedZone w (j + i))
     ∙ ap₂ (λ (x : StoredZone) (l : List StoredZone). x ∷ l) first ((λ k. tab (length zs) (λ i. storedZone (again k) (step i k))) ∙ rest)
 
@@ -123,19 +123,19 @@ map-room {A} {B} f n z xs =
     ap (map f) (room-tab n z xs) ∙ map-map f (λ i. getD xs i z) (places 0 n)
     ∙ (λ k. map (λ i. sym (List·getD-map f xs i z) k) (places 0 n)) ∙ sym (room-tab n (f z) (map f xs))
 
-no-zone : storeZone noZone ≡ unusedZone
+no-zone : storeZone limits noZone ≡ unusedZone limits
 unfolding room
 no-zone = refl
 
-pub table-view : (t : List Zone) → storedTable (wordsOf t) ≡ store t
+pub table-view : (t : List Zone) → storedTable (wordsOf t) ≡ store limits t
 unfolding storedTable wordsOf counted
 table-view t =
     let zs : List Zone = room mostZones noZone t in
     let n : length zs ≡ mostZones = length-room mostZones noZone t in
     let w : List ℕ = length t ∷ flatMap wordsOfZone zs in
-    let e : tab mostZones (storedZone w) ≡ map storeZone zs =
+    let e : tab mostZones (storedZone w) ≡ map (storeZone limits) zs =
     (λ k. tab (sym n k) (λ i. storedZone (length t ∷ sym (append-nil (flatMap wordsOfZone zs)) k) i)) ∙ from-zero zs (length t) ∙ zones-spelled zs (length t ∷ []) [] 0 refl in
-    let f : map storeZone zs ≡ room mostZones unusedZone (map storeZone t) = map-room storeZone mostZones noZone t ∙ ap (λ (z : StoredZone). room mostZones z (map storeZone t)) no-zone in
+    let f : map (storeZone limits) zs ≡ room mostZones (unusedZone limits) (map (storeZone limits) t) = map-room (storeZone limits) mostZones noZone t ∙ ap (λ (z : StoredZone). room mostZones z (map (storeZone limits) t)) no-zone in
     (λ k. record { count = length t; zones = (e ∙ f) k })
   where
     from-zero : (zs : List Zone) (n : ℕ) → tab (length zs) (λ i. storedZone (n ∷ (flatMap wordsOfZone zs ++ [])) i) ≡ tab (length zs) (λ i. storedZone (n ∷ (flatMap wordsOfZone zs ++ [])) (0 + i))

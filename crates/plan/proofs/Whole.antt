@@ -20,7 +20,7 @@ use Rattle.rules.specs.Plan.{short, askedField, marksTo, marksFrom, planTo, mar
 use Rattle.rules.specs.Run.{requestBytes}
 use Rattle.rules.specs.Tables.{Zone}
 use Rattle.rules.specs.declared.Region.{Region}
-use Rattle.rules.proofs.Plan.{lawful-regions, lawful-zones, lawful-requests, limits-sayable}
+use Rattle.rules.proofs.Plan.{lawful-regions, lawful-zones, lawful-requests}
 use Rattle.zones.specs.declared.config.Config.{Config}
 use Rattle.zones.specs.declared.table.Table.{Table}
 use Rattle.plan.specs.Read.{stretchOf, refusedRead, readAnswer, leading, afterRequests, requestsRead, afterZones, zonesRead, afterRegions, regionsRead, afterMarks, marksRead}
@@ -117,7 +117,7 @@ next-base s e base h = omega (arith, length-drop e s)
 -- ---- the regions: z is what their reader answered
 module _ (s : List ℕ) (gic base : ℕ) (z : Regions) (ez : z ≡ regionsAnswer gic (length s) (regionsSection limits .read s)) where
   regions-part : Part (left (regionsSection limits .read s)) s
-  regions-part = lawful-regions limits limits-sayable .part s
+  regions-part = lawful-regions limits .part s
 
   regions-section : z .section ≡ sectionAnswer (length s) (regionsSection limits .read s)
   regions-section = ap (λ (y : Regions). y .section) ez
@@ -151,7 +151,7 @@ module _ (s : List ℕ) (gic base : ℕ) (z : Regions) (ez : z ≡ regionsAnswer
 -- ---- the zones
 module _ (s : List ℕ) (base : ℕ) (z : Zones) (ez : z ≡ zonesAnswer (length s) (zonesSection limits .read s)) where
   zones-part : Part (left (zonesSection limits .read s)) s
-  zones-part = lawful-zones limits limits-sayable .part s
+  zones-part = lawful-zones limits .part s
 
   zones-section : z .section ≡ sectionAnswer (length s) (zonesSection limits .read s)
   zones-section = ap (λ (y : Zones). y .section) ez
@@ -213,7 +213,7 @@ requests-read s qs t e =
 -- r is what their finder answered
 module _ (s : List ℕ) (base edition : ℕ) (c : Config) (t : Table) (r : Section) (er : r ≡ sectionAnswer (length s) (requestsSection limits .read s)) where
   requests-part : Part (left (requestsSection limits .read s)) s
-  requests-part = lawful-requests limits limits-sayable .part s
+  requests-part = lawful-requests limits .part s
 
   module _ (k a : ℕ) (g : r ≡ Bad k a) where
     pub bad-requests-place : base + length s < 2 ^ 64 → base + a < 2 ^ 64

@@ -4,6 +4,7 @@ use mathlib.Core.Bool.{cond, not}
 use mathlib.Core.List.{List, [], _∷_}
 use lib.Dec.{eqb}
 use Rattle.lists.specs.Rules.{_when_, firstRule}
+use Rattle.rules.specs.Limits.{limits}
 use Rattle.rules.specs.Applying as rules
 use Rattle.rules.specs.Applying.{lastEdition, sameList, plain, apply, Terminal}
 use Rattle.rules.specs.Requests.{standing}
@@ -30,13 +31,13 @@ unfoldable pub inWords : State → rules.Applied → Applied
 inWords s a = record { outcome = a .outcome; state = cond (eqb (a .outcome .number) 0) (stateFor s (a .state)) s }
 
 unfoldable pub applied : State → List ℕ → Applied
-applied s b = inWords s (apply (terminalIn s) b)
+applied s b = inWords s (apply limits (terminalIn s) b)
 
 -- ---- how the code goes about it
 -- 1 or 2, or a number that the plan has earned
 unfoldable pub turnedAway : State → ℕ → ℕ → Applied
 turnedAway s k place =
-    cond (eqb (standing (terminalIn s .config) (terminalIn s .table)) 0) (record { outcome = plain k place; state = s }) (record { outcome = plain (standing (terminalIn s .config) (terminalIn s .table)) 0; state = s })
+    cond (eqb (standing limits (terminalIn s .config) (terminalIn s .table)) 0) (record { outcome = plain k place; state = s }) (record { outcome = plain (standing limits (terminalIn s .config) (terminalIn s .table)) 0; state = s })
 
 -- 23 to 26 on words, or 0
 unfoldable pub baseNumber : State → Read → ℕ
@@ -55,7 +56,7 @@ ran s o u = cond (eqb (o .number) 0) (record { outcome = o; state = record { con
 
 -- the run of the requests in b
 abbrev pub ranPlan : State → List ℕ → Applied
-ranPlan s b = ran s (runAnswer (terminalIn s .config) (terminalIn s .table) (requestsIn b)) (runWords (s .config .words) (s .table .words) b)
+ranPlan s b = ran s (runAnswer limits (terminalIn s .config) (terminalIn s .table) (requestsIn b)) (runWords (s .config .words) (s .table .words) b)
 
 unfoldable pub applyRead : State → Read → List ℕ → Applied
 applyRead s r b = cond (eqb (baseNumber s r) 0) (ranPlan s b) (turnedAway s (baseNumber s r) 0)

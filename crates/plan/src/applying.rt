@@ -11,6 +11,7 @@ use zones::standing;
 ghost use mathlib.Core.Path.{_≡_};
 ghost use lib.Dec.{eqb};
 ghost use lib.ListN.{length};
+ghost use Rattle.rules.specs.Limits.{limits};
 ghost use Rattle.rules.specs.Applying.{lastEdition, sameList, answerAlone};
 ghost use Rattle.zones.specs.Layout.{configWords, tableWords};
 ghost use Rattle.plan.specs.Applying.{turnedAway, ranPlan, baseNumber, applyRead, applied};
@@ -158,7 +159,7 @@ fn run_plan(state: State, requests: &[u8]) -> Applied
 
 // A plan applied to its own configuration, edition and zones.
 pub fn apply_alone(plan: &[u8]) -> Outcome
-    ensures { λ r. ⌜ r ≡ answerAlone (now (plan .entry)) ⌝ }
+    ensures { λ r. ⌜ r ≡ answerAlone limits (now (plan .entry)) ⌝ }
 {
     let read = read_plan(plan);
     let section = read.section;

@@ -20,7 +20,7 @@ use Rattle.lists.proofs.Tests.{both-false, false-both, one-true, or-left, or-ri
 use Rattle.rules.specs.Changes.{setAt, withSide, putSet, pushed, cut}
 use Rattle.rules.specs.Closure.{insert-region, remove-region-exact, contains-region, State, map-insert, ghostOf, stateOf, Transition, GhostZone, cpu-insert-region, cpu-remove-region, iommu-insert-region, iommu-remove-region}
 use Rattle.rules.specs.Configuration.{gicOf, configOf, Configuration, StoredConfig}
-use Rattle.rules.specs.Limits.{highestId}
+use Rattle.rules.specs.Limits.{highestId, Limits, pageOf}
 use Rattle.rules.specs.Regions.{wellFormed, inReach, regionEq, physOverlap, guestOverlap, noRegion}
 use Rattle.rules.specs.Requests.{find, present, heldIn, onGic, forbidden, addRules, removeZoneRules, regionRules, setRules, insertRules, removeRules, kindRules, noRequest, requestRules, refusal, after, next}
 use Rattle.rules.specs.Tables.{noZone, sideOf, hasId, regionsOf, configured, clash, soundSet, soundZone, idsDiffer, Zone}
@@ -70,302 +70,303 @@ module _ (c : Configuration) (a b : Region) where
   clash-not (inr (inl e)) = rw (ap (λ (g : Region). regionEq g (gicOf c)) e ∙ equal-refl (gicOf c)) (and-false (not (regionEq a (gicOf c))))
   clash-not (inr (inr e)) = clear-clash c a b e
 
--- ---- a sound table under a configuration that passed
-module _ (s : StoredConfig) (t : List Zone) (ok : SoundUnder s t) where
-  abbrev c : Configuration
-  c = configOf s
-
-  pub config-ok : SoundConfiguration c
-  config-ok = passed s (ok .config .0) (ok .config .1)
-
-  pub table-ok : SoundTable c t
-  table-ok = sound-parts (configOf s) t (ok .table)
-
-  -- the zone with an id that is there
-  module _ (id : ℕ) (e : present id t ≡ true) where
-    pub there : find id t < length t
-    there = ltb-true _ _ (sym (any-first (hasId id) t) ∙ e)
-
-    own-id : getD t (find id t) noZone .id ≡ id
-    own-id = eqb-true _ _ (first-passes (hasId id) t noZone there)
-
-    zone-ok : soundZone c (getD t (find id t) noZone) ≡ true
-    zone-ok = all-at (soundZone c) t noZone (table-ok .zones) (find id t) there
-
-    pub low-id : ltb highestId id ≡ false
-    unfolding soundZone
-    low-id = let h : getD t (find id t) noZone .id ≤ highestId = leb-true _ _ (parts _ zone-ok .0) in le-ltb highestId id (omega (arith, own-id))
-
-    pub set-ok : (side : Side) → soundSet c (setAt t (find id t) side) ≡ true
-    set-ok side = set-sound c t table-ok (find id t) side there
-
-  -- every position is that of its id
-  found-own : (z : ℕ) → z < length t → find (getD t z noZone .id) t ≡ z
-  found-own z h =
-      first-is (hasId (getD t z noZone .id)) t noZone z h (eq-eqb (getD t z noZone .id) (getD t z noZone .id) refl) (λ j l. not-true _ (pairs-at idsDiffer t noZone (table-ok .ids) j z l h))
-
-  state-at : (z : ℕ) → z < length t → stateOf t (getD t z noZone .id) ≡ some (ghostOf (getD t z noZone))
-  state-at z h =
-      state-there (getD t z noZone .id) t (any-make (hasId (getD t z noZone .id)) t noZone z h (eq-eqb (getD t z noZone .id) (getD t z noZone .id) refl))
-      ∙ ap (λ (k : ℕ). some (ghostOf (getD t k noZone))) (found-own z h)
-
-  pub other-place : (id o : ℕ) → present id t ≡ true → present o t ≡ true → (o ≡ id → ⊥) → find o t ≡ find id t → ⊥
-  other-place id o e p ne q = ne (sym (own-id o p) ∙ ap (λ (k : ℕ). getD t k noZone .id) q ∙ own-id id e)
-
-  -- ---- 14 is the overlap clause of upstream's guards
-  module _ (id : ℕ) (e : present id t ≡ true) (r : Region) where
-    abbrev CpuClause : Type 0
-    CpuClause = (o : ℕ) (zone : GhostZone) (x : Region) → stateOf t o ≡ some zone → (zone .cpu-mem-set x ≡ true) ⊎ ((o ≡ id → ⊥) × (zone .iommu-mem-set x ≡ true)) → physOverlap r x ≡ false
-
-    cpu-clause : forbidden c (find id t) Cpu r t ≡ false → CpuClause
-    unfolding forbidden
-    cpu-clause f o zone x st m =
-        let (p, g) = state-some o t zone st in
-        let b = both-false _ _ f in
-        let z : Zone = getD t (find o t) noZone in
-        ⊎-elim (λ h. clear-of (physOverlap r) (z .cpu) x (none-at (λ (y : Zone). any (physOverlap r) (y .cpu)) t noZone (b .0) (find o t) (there o p)) (ap (λ (y : GhostZone). y .cpu-mem-set x) g ∙ h))
-        (λ (ne, h). clear-of (physOverlap r) (z .iommu) x (none-others (λ (y : Zone). any (physOverlap r) (y .iommu)) t (find id t) noZone (b .1) (find o t) (there o p) (other-place id o e p ne)) (ap (λ (y : GhostZone). y .iommu-mem-set x) g ∙ h))
-        m
-
-    cpu-clear : CpuClause → forbidden c (find id t) Cpu r t ≡ false
-    unfolding forbidden
-    cpu-clear f =
-        false-both _ _ (none-make (λ (y : Zone). any (physOverlap r) (y .cpu)) t noZone (λ z h. clear-make (physOverlap r) (getD t z noZone .cpu) (λ x m. f (getD t z noZone .id) (ghostOf (getD t z noZone)) x (state-at z h) (inl m))))
-        (none-others-make (λ (y : Zone). any (physOverlap r) (y .iommu)) t (find id t) noZone
-        (λ z h ne. clear-make (physOverlap r) (getD t z noZone .iommu) (λ x m. f (getD t z noZone .id) (ghostOf (getD t z noZone)) x (state-at z h) (inr ((λ q. ne (sym (found-own z h) ∙ ap (λ (i : ℕ). find i t) q)), m)))))
-
-    abbrev IommuClause : Type 0
-    IommuClause = (o : ℕ) (zone : GhostZone) (x : Region) → stateOf t o ≡ some zone → (o ≡ id → ⊥) → (zone .cpu-mem-set x ≡ true) ⊎ (zone .iommu-mem-set x ≡ true) → (r ≡ gicOf c) ⊎ ((x ≡ gicOf c) ⊎ (physOverlap r x ≡ false))
-
-    iommu-clause : forbidden c (find id t) Iommu r t ≡ false → IommuClause
-    unfolding forbidden
-    iommu-clause f o zone x st ne m =
-        let (p, g) = state-some o t zone st in
-        let z : Zone = getD t (find o t) noZone in
-        clash-told c r x
-        (clear-of (clash c r) (regionsOf z) x (none-others (λ (y : Zone). any (clash c r) (regionsOf y)) t (find id t) noZone f (find o t) (there o p) (other-place id o e p ne))
-        (held-either z x (⊎-elim (λ h. inl (ap (λ (y : GhostZone). y .cpu-mem-set x) g ∙ h)) (λ h. inr (ap (λ (y : GhostZone). y .iommu-mem-set x) g ∙ h)) m)))
-
-    iommu-clear : IommuClause → forbidden c (find id t) Iommu r t ≡ false
-    unfolding forbidden
-    iommu-clear f =
-        none-others-make (λ (y : Zone). any (clash c r) (regionsOf y)) t (find id t) noZone
-        (λ z h ne. let y : Zone = getD t z noZone in
-        clear-make (clash c r) (regionsOf y) (λ x m. clash-not c r x (f (y .id) (ghostOf y) x (state-at z h) (λ q. ne (sym (found-own z h) ∙ ap (λ (i : ℕ). find i t) q)) (one-true _ _ (sym (any-append (regionEq x) (y .cpu) (y .iommu)) ∙ m)))))
-
-  -- ---- the state after a change to the set of a zone
-  module _ (id : ℕ) (e : present id t ≡ true) where
-    here : Zone
-    here = getD t (find id t) noZone
-
-    put-state : (side : Side) (xs : List Region) (g : GhostZone) → ghostOf (withSide side xs here) ≡ g → stateOf (putSet (find id t) side xs t) ≡ map-insert (stateOf t) id g
-    unfolding putSet here
-    put-state side xs g h =
-        fun-ext (λ x. state-put id x t (withSide side xs here) (id-kept side xs here ∙ own-id id e) e ∙ ap (λ (y : GhostZone). map-insert (stateOf t) id y x) h)
-
-    pushed-state : (side : Side) (r : Region) (g : GhostZone) → ghostOf (withSide side (sideOf side here ++ r ∷ []) here) ≡ g → stateOf (pushed (find id t) side r t) ≡ map-insert (stateOf t) id g
-    unfolding pushed setAt here
-    pushed-state side r g h = put-state side (sideOf side here ++ r ∷ []) g h
-
-    cut-state : (side : Side) (m : ℕ) (g : GhostZone) → ghostOf (withSide side (removeAt m (sideOf side here)) here) ≡ g → stateOf (cut (find id t) side m t) ≡ map-insert (stateOf t) id g
-    unfolding cut setAt here
-    cut-state side m g h = put-state side (removeAt m (sideOf side here)) g h
-
-    -- ---- inserts and removals that were accepted
-    module _ (r : Region) where
-      cpu-inserted : wellFormed r ≡ true → inReach r ≡ true → configured c r ≡ true → onGic c Cpu r ≡ false → heldIn r (setAt t (find id t) Cpu) ≡ false → forbidden c (find id t) Cpu r t ≡ false → any (guestOverlap r) (setAt t (find id t) Cpu) ≡ false
-          → cpu-insert-region c id r (stateOf t) (stateOf (pushed (find id t) Cpu r t))
-      unfolding onGic setAt sideOf withSide here
-      cpu-inserted wf near conf gic held forb guest = record {
-        zone = ghostOf here;
-        there = state-there id t e;
-        valid = (wf, near);
-        allowed = (conf, gic, cpu-clause id e r forb);
-        absent = held;
-        apart = λ x m. clear-of (guestOverlap r) (here .cpu) x guest m;
-        update = pushed-state Cpu r _ (λ i. record { cpu-mem-set = held-pushed (here .cpu) r i; iommu-mem-set = λ x. heldIn x (here .iommu) });
-      }
-
-      iommu-inserted : wellFormed r ≡ true → inReach r ≡ true → configured c r ≡ true → heldIn r (setAt t (find id t) Iommu) ≡ false → forbidden c (find id t) Iommu r t ≡ false → any (guestOverlap r) (setAt t (find id t) Iommu) ≡ false
-          → iommu-insert-region c id r (stateOf t) (stateOf (pushed (find id t) Iommu r t))
-      unfolding setAt sideOf withSide here
-      iommu-inserted wf near conf held forb guest = record {
-        zone = ghostOf here;
-        there = state-there id t e;
-        valid = (wf, near);
-        allowed = (conf, iommu-clause id e r forb);
-        absent = held;
-        apart = λ x m. clear-of (guestOverlap r) (here .iommu) x guest m;
-        update = pushed-state Iommu r _ (λ i. record { cpu-mem-set = λ x. heldIn x (here .cpu); iommu-mem-set = held-pushed (here .iommu) r i });
-      }
-
-      cpu-removed : heldIn r (setAt t (find id t) Cpu) ≡ true → cpu-remove-region id r (stateOf t) (stateOf (cut (find id t) Cpu (firstIndex (regionEq r) (setAt t (find id t) Cpu)) t))
-      unfolding setAt sideOf withSide here
-      cpu-removed held = record {
-        zone = ghostOf here;
-        there = state-there id t e;
-        held = held;
-        update = cut-state Cpu (firstIndex (regionEq r) (here .cpu)) _ (λ i. record { cpu-mem-set = held-cut c config-ok (here .cpu) (set-ok id e Cpu) r held i; iommu-mem-set = λ x. heldIn x (here .iommu) });
-      }
-
-      iommu-removed : heldIn r (setAt t (find id t) Iommu) ≡ true → iommu-remove-region id r (stateOf t) (stateOf (cut (find id t) Iommu (firstIndex (regionEq r) (setAt t (find id t) Iommu)) t))
-      unfolding setAt sideOf withSide here
-      iommu-removed held = record {
-        zone = ghostOf here;
-        there = state-there id t e;
-        held = held;
-        update = cut-state Iommu (firstIndex (regionEq r) (here .iommu)) _ (λ i. record { cpu-mem-set = λ x. heldIn x (here .cpu); iommu-mem-set = held-cut c config-ok (here .iommu) (set-ok id e Iommu) r held i });
-      }
-
-  -- ---- every kind: an accepted request is a transition
-  accepted : (k : Kind) (id : ℕ) → firstRule (requestRules c k id t) 0 ≡ 0 → Transition c k id (stateOf t) (stateOf (after k id t)) × Corrections k id t
-  unfolding after requestRules kindRules addRules removeZoneRules insertRules regionRules setRules removeRules noRequest firstRule any
-  accepted AddZone id e =
-      let h = none-applies c AddZone id t e in
-      (record { absent = state-not id t (h .1 .1 .0); update = fun-ext (λ x. state-added id x t (h .1 .1 .0)) }, (ltb-false _ _ (h .1 .0), leb-false _ _ (h .1 .1 .1 .0)))
-  accepted RemoveZone id e =
-      let h = none-applies c RemoveZone id t e in
-      (record { zone = ghostOf (getD t (find id t) noZone); there = state-there id t (not-false _ (h .1 .1 .0)); update = fun-ext (λ x. state-dropped id x t (table-ok .ids)) }, h .1 .1 .1 .0)
-  accepted (Insert Cpu r) id e =
-      let h = none-applies c (Insert Cpu r) id t e .1 .1 in
-      let w = h .1 .1 .1 in
-      (cpu-inserted id (not-false _ (h .0)) r (not-false _ (h .1 .0)) (not-false _ (h .1 .1 .0)) (not-false _ (w .0)) (w .1 .0) (w .1 .1 .0) (w .1 .1 .1 .0) (w .1 .1 .1 .1 .0), leb-false _ _ (w .1 .1 .1 .1 .1 .0))
-  accepted (Insert Iommu r) id e =
-      let h = none-applies c (Insert Iommu r) id t e .1 .1 in
-      let w = h .1 .1 .1 in
-      (iommu-inserted id (not-false _ (h .0)) r (not-false _ (h .1 .0)) (not-false _ (h .1 .1 .0)) (not-false _ (w .0)) (w .1 .1 .0) (w .1 .1 .1 .0) (w .1 .1 .1 .1 .0), leb-false _ _ (w .1 .1 .1 .1 .1 .0))
-  accepted (Remove Cpu r) id e = let h = none-applies c (Remove Cpu r) id t e .1 .1 in (cpu-removed id (not-false _ (h .0)) r (not-false _ (h .1 .0)), tt)
-  accepted (Remove Iommu r) id e = let h = none-applies c (Remove Iommu r) id t e .1 .1 in (iommu-removed id (not-false _ (h .0)) r (not-false _ (h .1 .0)), tt)
-  accepted NoRequest id e = absurd (omega arith)
-
-  -- ---- and a transition, with the corrections, is accepted
-  quiet-zero : (k : Kind) (id : ℕ) → Quiet (requestRules c k id t) → firstRule (requestRules c k id t) 0 ≡ 0
-  quiet-zero k id q = sym (quiet-answer (requestRules c k id t) 0 q)
-
-  allowed-back : (k : Kind) (id : ℕ) (u : State) → Transition c k id (stateOf t) u → Corrections k id t → Quiet (requestRules c k id t)
-  unfolding requestRules kindRules addRules removeZoneRules insertRules regionRules setRules removeRules noRequest onGic setAt sideOf
-  allowed-back AddZone id u x k = (refl, (le-ltb _ _ (k .0), (state-none id t (x .absent), (lt-leb _ _ (k .1), tt))))
-  allowed-back RemoveZone id u x k = let p = state-some id t (x .zone) (x .there) .0 in (refl, (low-id id p, (not-holds _ p, (k, tt))))
-  allowed-back (Insert Cpu r) id u x k =
-      let (p, g) = state-some id t (x .zone) (x .there) in (
-        refl,
-        (
-          low-id id p,
-          (
-            not-holds _ p,
-            (
-              not-holds _ (x .valid .0),
-              (
-                not-holds _ (x .valid .1),
-                (
-                  not-holds _ (x .allowed .0),
-                  (
-                    x .allowed .1,
-                    (
-                      ap (λ (y : GhostZone). y .cpu-mem-set r) g ∙ x .absent,
-                      (
-                        cpu-clear id p r (x .allowed .2),
-                        (clear-make (guestOverlap r) _ (λ a m. x .apart a (sym (ap (λ (y : GhostZone). y .cpu-mem-set a) g) ∙ m)), (lt-leb _ _ k, tt)),
-                      ),
-                    ),
-                  ),
-                ),
-              ),
-            ),
-          ),
-        ),
-      )
-  allowed-back (Insert Iommu r) id u x k =
-      let (p, g) = state-some id t (x .zone) (x .there) in (
-        refl,
-        (
-          low-id id p,
-          (
-            not-holds _ p,
-            (
-              not-holds _ (x .valid .0),
-              (
-                not-holds _ (x .valid .1),
-                (
-                  not-holds _ (x .allowed .0),
-                  (
-                    refl,
-                    (
-                      ap (λ (y : GhostZone). y .iommu-mem-set r) g ∙ x .absent,
-                      (
-                        iommu-clear id p r (x .allowed .1),
-                        (clear-make (guestOverlap r) _ (λ a m. x .apart a (sym (ap (λ (y : GhostZone). y .iommu-mem-set a) g) ∙ m)), (lt-leb _ _ k, tt)),
-                      ),
-                    ),
-                  ),
-                ),
-              ),
-            ),
-          ),
-        ),
-      )
-  allowed-back (Remove Cpu r) id u x k = let (p, g) = state-some id t (x .zone) (x .there) in (refl, (low-id id p, (not-holds _ p, (not-holds _ (ap (λ (y : GhostZone). y .cpu-mem-set r) g ∙ x .held), tt))))
-  allowed-back (Remove Iommu r) id u x k = let (p, g) = state-some id t (x .zone) (x .there) in (refl, (low-id id p, (not-holds _ p, (not-holds _ (ap (λ (y : GhostZone). y .iommu-mem-set r) g ∙ x .held), tt))))
-  allowed-back NoRequest id u x k = absurd x
-
--- ---- a transition leads to one state
-module _ (c : Configuration) (id : ℕ) (pre v w : State) where
-  one-zone : (f : GhostZone → GhostZone) (a b : GhostZone) → pre id ≡ some a → pre id ≡ some b → v ≡ map-insert pre id (f a) → w ≡ map-insert pre id (f b) → v ≡ w
-  one-zone f a b p q x y = x ∙ ap (λ (z : GhostZone). map-insert pre id (f z)) (Option·some-injective _ _ (sym p ∙ q)) ∙ sym y
-
-  one-state : (k : Kind) → Transition c k id pre v → Transition c k id pre w → v ≡ w
-  one-state AddZone x y = x .update ∙ sym (y .update)
-  one-state RemoveZone x y = x .update ∙ sym (y .update)
-  one-state (Insert Cpu r) x y = one-zone (λ z. record { cpu-mem-set = insert-region (z .cpu-mem-set) r; iommu-mem-set = z .iommu-mem-set }) (x .zone) (y .zone) (x .there) (y .there) (x .update) (y .update)
-  one-state (Insert Iommu r) x y = one-zone (λ z. record { cpu-mem-set = z .cpu-mem-set; iommu-mem-set = insert-region (z .iommu-mem-set) r }) (x .zone) (y .zone) (x .there) (y .there) (x .update) (y .update)
-  one-state (Remove Cpu r) x y = one-zone (λ z. record { cpu-mem-set = remove-region-exact (z .cpu-mem-set) r; iommu-mem-set = z .iommu-mem-set }) (x .zone) (y .zone) (x .there) (y .there) (x .update) (y .update)
-  one-state (Remove Iommu r) x y = one-zone (λ z. record { cpu-mem-set = z .cpu-mem-set; iommu-mem-set = remove-region-exact (z .iommu-mem-set) r }) (x .zone) (y .zone) (x .there) (y .there) (x .update) (y .update)
-  one-state NoRequest x y = absurd x
-
-next-after : (c : Configuration) (t : List Zone) (q : Request) → refusal c t q ≡ 0 → after (q .kind) (q .zone) t ≡ next c t q
-unfolding next
-next-after c t q e = sym (ap (λ (b : Bool). cond b (after (q .kind) (q .zone) t) t) (eq-eqb (refusal c t q) 0 e))
-
-pub accepted-is-upstream : AcceptedIsUpstream
-unfolding refusal
-accepted-is-upstream s t q ok e =
-    let (x, k) = accepted s t ok (q .kind) (q .zone) e in
-    (subst (λ (u : List Zone). Transition (configOf s) (q .kind) (q .zone) (stateOf t) (stateOf u)) (next-after (configOf s) t q e) x, k)
-
-pub upstream-is-accepted : UpstreamIsAccepted
-unfolding refusal
-upstream-is-accepted s t q u ok x k =
-    let e = quiet-zero s t ok (q .kind) (q .zone) (allowed-back s t ok (q .kind) (q .zone) u x k) in
-    (e, one-state (configOf s) (q .zone) (stateOf t) (stateOf (next (configOf s) t q)) u (q .kind) (accepted-is-upstream s t q ok e .0) x)
-
 pub initialize-is-empty : InitializeIsEmpty
 unfolding stateOf
 initialize-is-empty = refl
 
--- ---- upstream's properties
-zone-configured : (s : StoredConfig) (t : List Zone) (ok : SoundUnder s t) (zid : ℕ) → present zid t ≡ true → (side : Side) (r : Region) → heldIn r (setAt t (find zid t) side) ≡ true → configured (configOf s) r ≡ true
-unfolding soundSet
-zone-configured s t ok zid p side r h =
-    let (i, l, q) = held-at (setAt t (find zid t) side) r h in
-    ap (configured (configOf s)) q ∙ all-at (configured (configOf s)) (setAt t (find zid t) side) noRegion (parts _ (set-ok s t ok zid p side) .1 .0) i l
+module _ (lim : Limits) where
+  -- ---- a sound table under a configuration that passed
+  module _ (s : StoredConfig) (t : List Zone) (ok : SoundUnder lim s t) where
+    abbrev c : Configuration
+    c = configOf s
 
-pub zone-cpu-region-in-all-regions : ZoneCpuRegionInAllRegions
-unfolding setAt sideOf
-zone-cpu-region-in-all-regions s t ok zid zone st r h = let (p, g) = state-some zid t zone st in zone-configured s t ok zid p Cpu r (ap (λ (y : GhostZone). y .cpu-mem-set r) g ∙ h)
+    pub config-ok : SoundConfiguration lim c
+    config-ok = passed lim s (ok .config .0) (ok .config .1)
 
-pub zone-iommu-region-in-all-regions : ZoneIommuRegionInAllRegions
-unfolding setAt sideOf
-zone-iommu-region-in-all-regions s t ok zid zone st r h = let (p, g) = state-some zid t zone st in zone-configured s t ok zid p Iommu r (ap (λ (y : GhostZone). y .iommu-mem-set r) g ∙ h)
+    pub table-ok : SoundTable lim c t
+    table-ok = sound-parts lim (configOf s) t (ok .table)
 
-pub cross-zone-disjoint-except-gic : CrossZoneDisjointExceptGic
-cross-zone-disjoint-except-gic s t ok zid1 zone1 zid2 zone2 st1 st2 ne r1 r2 h1 h2 =
-    let (p1, g1) = state-some zid1 t zone1 st1 in
-    let (p2, g2) = state-some zid2 t zone2 st2 in
-    clash-told (configOf s) r1 r2
-    (never-clash s t ok (find zid1 t) (find zid2 t) (there s t ok zid1 p1) (there s t ok zid2 p2) (other-place s t ok zid2 zid1 p2 p1 ne) r1 r2 (stands zid1 zone1 p1 g1 r1 h1) (stands zid2 zone2 p2 g2 r2 h2))
-  where
-    stands : (zid : ℕ) (zone : GhostZone) → present zid t ≡ true → ghostOf (getD t (find zid t) noZone) ≡ zone → (r : Region) → contains-region zone r ≡ true → In r (regionsOf (getD t (find zid t) noZone))
-    stands zid zone p g r h =
-        let z : Zone = getD t (find zid t) noZone in
-        let (i, l, q) = held-at (regionsOf z) r (any-append (regionEq r) (z .cpu) (z .iommu) ∙ ap (λ (y : GhostZone). contains-region y r) g ∙ h) in
-        (i, l, sym q)
+    -- the zone with an id that is there
+    module _ (id : ℕ) (e : present id t ≡ true) where
+      pub there : find id t < length t
+      there = ltb-true _ _ (sym (any-first (hasId id) t) ∙ e)
+
+      own-id : getD t (find id t) noZone .id ≡ id
+      own-id = eqb-true _ _ (first-passes (hasId id) t noZone there)
+
+      zone-ok : soundZone lim c (getD t (find id t) noZone) ≡ true
+      zone-ok = all-at (soundZone lim c) t noZone (table-ok .zones) (find id t) there
+
+      pub low-id : ltb highestId id ≡ false
+      unfolding soundZone
+      low-id = let h : getD t (find id t) noZone .id ≤ highestId = leb-true _ _ (parts _ zone-ok .0) in le-ltb highestId id (omega (arith, own-id))
+
+      pub set-ok : (side : Side) → soundSet lim c (setAt t (find id t) side) ≡ true
+      set-ok side = set-sound lim c t table-ok (find id t) side there
+
+    -- every position is that of its id
+    found-own : (z : ℕ) → z < length t → find (getD t z noZone .id) t ≡ z
+    found-own z h =
+        first-is (hasId (getD t z noZone .id)) t noZone z h (eq-eqb (getD t z noZone .id) (getD t z noZone .id) refl) (λ j l. not-true _ (pairs-at idsDiffer t noZone (table-ok .ids) j z l h))
+
+    state-at : (z : ℕ) → z < length t → stateOf t (getD t z noZone .id) ≡ some (ghostOf (getD t z noZone))
+    state-at z h =
+        state-there (getD t z noZone .id) t (any-make (hasId (getD t z noZone .id)) t noZone z h (eq-eqb (getD t z noZone .id) (getD t z noZone .id) refl))
+        ∙ ap (λ (k : ℕ). some (ghostOf (getD t k noZone))) (found-own z h)
+
+    pub other-place : (id o : ℕ) → present id t ≡ true → present o t ≡ true → (o ≡ id → ⊥) → find o t ≡ find id t → ⊥
+    other-place id o e p ne q = ne (sym (own-id o p) ∙ ap (λ (k : ℕ). getD t k noZone .id) q ∙ own-id id e)
+
+    -- ---- 14 is the overlap clause of upstream's guards
+    module _ (id : ℕ) (e : present id t ≡ true) (r : Region) where
+      abbrev CpuClause : Type 0
+      CpuClause = (o : ℕ) (zone : GhostZone) (x : Region) → stateOf t o ≡ some zone → (zone .cpu-mem-set x ≡ true) ⊎ ((o ≡ id → ⊥) × (zone .iommu-mem-set x ≡ true)) → physOverlap r x ≡ false
+
+      cpu-clause : forbidden c (find id t) Cpu r t ≡ false → CpuClause
+      unfolding forbidden
+      cpu-clause f o zone x st m =
+          let (p, g) = state-some o t zone st in
+          let b = both-false _ _ f in
+          let z : Zone = getD t (find o t) noZone in
+          ⊎-elim (λ h. clear-of (physOverlap r) (z .cpu) x (none-at (λ (y : Zone). any (physOverlap r) (y .cpu)) t noZone (b .0) (find o t) (there o p)) (ap (λ (y : GhostZone). y .cpu-mem-set x) g ∙ h))
+          (λ (ne, h). clear-of (physOverlap r) (z .iommu) x (none-others (λ (y : Zone). any (physOverlap r) (y .iommu)) t (find id t) noZone (b .1) (find o t) (there o p) (other-place id o e p ne)) (ap (λ (y : GhostZone). y .iommu-mem-set x) g ∙ h))
+          m
+
+      cpu-clear : CpuClause → forbidden c (find id t) Cpu r t ≡ false
+      unfolding forbidden
+      cpu-clear f =
+          false-both _ _ (none-make (λ (y : Zone). any (physOverlap r) (y .cpu)) t noZone (λ z h. clear-make (physOverlap r) (getD t z noZone .cpu) (λ x m. f (getD t z noZone .id) (ghostOf (getD t z noZone)) x (state-at z h) (inl m))))
+          (none-others-make (λ (y : Zone). any (physOverlap r) (y .iommu)) t (find id t) noZone
+          (λ z h ne. clear-make (physOverlap r) (getD t z noZone .iommu) (λ x m. f (getD t z noZone .id) (ghostOf (getD t z noZone)) x (state-at z h) (inr ((λ q. ne (sym (found-own z h) ∙ ap (λ (i : ℕ). find i t) q)), m)))))
+
+      abbrev IommuClause : Type 0
+      IommuClause = (o : ℕ) (zone : GhostZone) (x : Region) → stateOf t o ≡ some zone → (o ≡ id → ⊥) → (zone .cpu-mem-set x ≡ true) ⊎ (zone .iommu-mem-set x ≡ true) → (r ≡ gicOf c) ⊎ ((x ≡ gicOf c) ⊎ (physOverlap r x ≡ false))
+
+      iommu-clause : forbidden c (find id t) Iommu r t ≡ false → IommuClause
+      unfolding forbidden
+      iommu-clause f o zone x st ne m =
+          let (p, g) = state-some o t zone st in
+          let z : Zone = getD t (find o t) noZone in
+          clash-told c r x
+          (clear-of (clash c r) (regionsOf z) x (none-others (λ (y : Zone). any (clash c r) (regionsOf y)) t (find id t) noZone f (find o t) (there o p) (other-place id o e p ne))
+          (held-either z x (⊎-elim (λ h. inl (ap (λ (y : GhostZone). y .cpu-mem-set x) g ∙ h)) (λ h. inr (ap (λ (y : GhostZone). y .iommu-mem-set x) g ∙ h)) m)))
+
+      iommu-clear : IommuClause → forbidden c (find id t) Iommu r t ≡ false
+      unfolding forbidden
+      iommu-clear f =
+          none-others-make (λ (y : Zone). any (clash c r) (regionsOf y)) t (find id t) noZone
+          (λ z h ne. let y : Zone = getD t z noZone in
+          clear-make (clash c r) (regionsOf y) (λ x m. clash-not c r x (f (y .id) (ghostOf y) x (state-at z h) (λ q. ne (sym (found-own z h) ∙ ap (λ (i : ℕ). find i t) q)) (one-true _ _ (sym (any-append (regionEq x) (y .cpu) (y .iommu)) ∙ m)))))
+
+    -- ---- the state after a change to the set of a zone
+    module _ (id : ℕ) (e : present id t ≡ true) where
+      here : Zone
+      here = getD t (find id t) noZone
+
+      put-state : (side : Side) (xs : List Region) (g : GhostZone) → ghostOf (withSide side xs here) ≡ g → stateOf (putSet (find id t) side xs t) ≡ map-insert (stateOf t) id g
+      unfolding putSet here
+      put-state side xs g h =
+          fun-ext (λ x. state-put id x t (withSide side xs here) (id-kept side xs here ∙ own-id id e) e ∙ ap (λ (y : GhostZone). map-insert (stateOf t) id y x) h)
+
+      pushed-state : (side : Side) (r : Region) (g : GhostZone) → ghostOf (withSide side (sideOf side here ++ r ∷ []) here) ≡ g → stateOf (pushed (find id t) side r t) ≡ map-insert (stateOf t) id g
+      unfolding pushed setAt here
+      pushed-state side r g h = put-state side (sideOf side here ++ r ∷ []) g h
+
+      cut-state : (side : Side) (m : ℕ) (g : GhostZone) → ghostOf (withSide side (removeAt m (sideOf side here)) here) ≡ g → stateOf (cut (find id t) side m t) ≡ map-insert (stateOf t) id g
+      unfolding cut setAt here
+      cut-state side m g h = put-state side (removeAt m (sideOf side here)) g h
+
+      -- ---- inserts and removals that were accepted
+      module _ (r : Region) where
+        cpu-inserted : wellFormed (pageOf lim Cpu) r ≡ true → inReach lim r ≡ true → configured c r ≡ true → onGic c Cpu r ≡ false → heldIn r (setAt t (find id t) Cpu) ≡ false → forbidden c (find id t) Cpu r t ≡ false → any (guestOverlap r) (setAt t (find id t) Cpu) ≡ false
+            → cpu-insert-region lim c id r (stateOf t) (stateOf (pushed (find id t) Cpu r t))
+        unfolding onGic setAt sideOf withSide here
+        cpu-inserted wf near conf gic held forb guest = record {
+          zone = ghostOf here;
+          there = state-there id t e;
+          valid = (wf, near);
+          allowed = (conf, gic, cpu-clause id e r forb);
+          absent = held;
+          apart = λ x m. clear-of (guestOverlap r) (here .cpu) x guest m;
+          update = pushed-state Cpu r _ (λ i. record { cpu-mem-set = held-pushed (here .cpu) r i; iommu-mem-set = λ x. heldIn x (here .iommu) });
+        }
+
+        iommu-inserted : wellFormed (pageOf lim Iommu) r ≡ true → inReach lim r ≡ true → configured c r ≡ true → heldIn r (setAt t (find id t) Iommu) ≡ false → forbidden c (find id t) Iommu r t ≡ false → any (guestOverlap r) (setAt t (find id t) Iommu) ≡ false
+            → iommu-insert-region lim c id r (stateOf t) (stateOf (pushed (find id t) Iommu r t))
+        unfolding setAt sideOf withSide here
+        iommu-inserted wf near conf held forb guest = record {
+          zone = ghostOf here;
+          there = state-there id t e;
+          valid = (wf, near);
+          allowed = (conf, iommu-clause id e r forb);
+          absent = held;
+          apart = λ x m. clear-of (guestOverlap r) (here .iommu) x guest m;
+          update = pushed-state Iommu r _ (λ i. record { cpu-mem-set = λ x. heldIn x (here .cpu); iommu-mem-set = held-pushed (here .iommu) r i });
+        }
+
+        cpu-removed : heldIn r (setAt t (find id t) Cpu) ≡ true → cpu-remove-region id r (stateOf t) (stateOf (cut (find id t) Cpu (firstIndex (regionEq r) (setAt t (find id t) Cpu)) t))
+        unfolding setAt sideOf withSide here
+        cpu-removed held = record {
+          zone = ghostOf here;
+          there = state-there id t e;
+          held = held;
+          update = cut-state Cpu (firstIndex (regionEq r) (here .cpu)) _ (λ i. record { cpu-mem-set = held-cut lim c config-ok (here .cpu) (set-ok id e Cpu) r held i; iommu-mem-set = λ x. heldIn x (here .iommu) });
+        }
+
+        iommu-removed : heldIn r (setAt t (find id t) Iommu) ≡ true → iommu-remove-region id r (stateOf t) (stateOf (cut (find id t) Iommu (firstIndex (regionEq r) (setAt t (find id t) Iommu)) t))
+        unfolding setAt sideOf withSide here
+        iommu-removed held = record {
+          zone = ghostOf here;
+          there = state-there id t e;
+          held = held;
+          update = cut-state Iommu (firstIndex (regionEq r) (here .iommu)) _ (λ i. record { cpu-mem-set = λ x. heldIn x (here .cpu); iommu-mem-set = held-cut lim c config-ok (here .iommu) (set-ok id e Iommu) r held i });
+        }
+
+    -- ---- every kind: an accepted request is a transition
+    accepted : (k : Kind) (id : ℕ) → firstRule (requestRules lim c k id t) 0 ≡ 0 → Transition lim c k id (stateOf t) (stateOf (after k id t)) × Corrections lim k id t
+    unfolding after requestRules kindRules addRules removeZoneRules insertRules regionRules setRules removeRules noRequest firstRule any
+    accepted AddZone id e =
+        let h = none-applies lim c AddZone id t e in
+        (record { absent = state-not id t (h .1 .1 .0); update = fun-ext (λ x. state-added id x t (h .1 .1 .0)) }, (ltb-false _ _ (h .1 .0), leb-false _ _ (h .1 .1 .1 .0)))
+    accepted RemoveZone id e =
+        let h = none-applies lim c RemoveZone id t e in
+        (record { zone = ghostOf (getD t (find id t) noZone); there = state-there id t (not-false _ (h .1 .1 .0)); update = fun-ext (λ x. state-dropped id x t (table-ok .ids)) }, h .1 .1 .1 .0)
+    accepted (Insert Cpu r) id e =
+        let h = none-applies lim c (Insert Cpu r) id t e .1 .1 in
+        let w = h .1 .1 .1 in
+        (cpu-inserted id (not-false _ (h .0)) r (not-false _ (h .1 .0)) (not-false _ (h .1 .1 .0)) (not-false _ (w .0)) (w .1 .0) (w .1 .1 .0) (w .1 .1 .1 .0) (w .1 .1 .1 .1 .0), leb-false _ _ (w .1 .1 .1 .1 .1 .0))
+    accepted (Insert Iommu r) id e =
+        let h = none-applies lim c (Insert Iommu r) id t e .1 .1 in
+        let w = h .1 .1 .1 in
+        (iommu-inserted id (not-false _ (h .0)) r (not-false _ (h .1 .0)) (not-false _ (h .1 .1 .0)) (not-false _ (w .0)) (w .1 .1 .0) (w .1 .1 .1 .0) (w .1 .1 .1 .1 .0), leb-false _ _ (w .1 .1 .1 .1 .1 .0))
+    accepted (Remove Cpu r) id e = let h = none-applies lim c (Remove Cpu r) id t e .1 .1 in (cpu-removed id (not-false _ (h .0)) r (not-false _ (h .1 .0)), tt)
+    accepted (Remove Iommu r) id e = let h = none-applies lim c (Remove Iommu r) id t e .1 .1 in (iommu-removed id (not-false _ (h .0)) r (not-false _ (h .1 .0)), tt)
+    accepted NoRequest id e = absurd (omega arith)
+
+    -- ---- and a transition, with the corrections, is accepted
+    quiet-zero : (k : Kind) (id : ℕ) → Quiet (requestRules lim c k id t) → firstRule (requestRules lim c k id t) 0 ≡ 0
+    quiet-zero k id q = sym (quiet-answer (requestRules lim c k id t) 0 q)
+
+    allowed-back : (k : Kind) (id : ℕ) (u : State) → Transition lim c k id (stateOf t) u → Corrections lim k id t → Quiet (requestRules lim c k id t)
+    unfolding requestRules kindRules addRules removeZoneRules insertRules regionRules setRules removeRules noRequest onGic setAt sideOf
+    allowed-back AddZone id u x k = (refl, (le-ltb _ _ (k .0), (state-none id t (x .absent), (lt-leb _ _ (k .1), tt))))
+    allowed-back RemoveZone id u x k = let p = state-some id t (x .zone) (x .there) .0 in (refl, (low-id id p, (not-holds _ p, (k, tt))))
+    allowed-back (Insert Cpu r) id u x k =
+        let (p, g) = state-some id t (x .zone) (x .there) in (
+          refl,
+          (
+            low-id id p,
+            (
+              not-holds _ p,
+              (
+                not-holds _ (x .valid .0),
+                (
+                  not-holds _ (x .valid .1),
+                  (
+                    not-holds _ (x .allowed .0),
+                    (
+                      x .allowed .1,
+                      (
+                        ap (λ (y : GhostZone). y .cpu-mem-set r) g ∙ x .absent,
+                        (
+                          cpu-clear id p r (x .allowed .2),
+                          (clear-make (guestOverlap r) _ (λ a m. x .apart a (sym (ap (λ (y : GhostZone). y .cpu-mem-set a) g) ∙ m)), (lt-leb _ _ k, tt)),
+                        ),
+                      ),
+                    ),
+                  ),
+                ),
+              ),
+            ),
+          ),
+        )
+    allowed-back (Insert Iommu r) id u x k =
+        let (p, g) = state-some id t (x .zone) (x .there) in (
+          refl,
+          (
+            low-id id p,
+            (
+              not-holds _ p,
+              (
+                not-holds _ (x .valid .0),
+                (
+                  not-holds _ (x .valid .1),
+                  (
+                    not-holds _ (x .allowed .0),
+                    (
+                      refl,
+                      (
+                        ap (λ (y : GhostZone). y .iommu-mem-set r) g ∙ x .absent,
+                        (
+                          iommu-clear id p r (x .allowed .1),
+                          (clear-make (guestOverlap r) _ (λ a m. x .apart a (sym (ap (λ (y : GhostZone). y .iommu-mem-set a) g) ∙ m)), (lt-leb _ _ k, tt)),
+                        ),
+                      ),
+                    ),
+                  ),
+                ),
+              ),
+            ),
+          ),
+        )
+    allowed-back (Remove Cpu r) id u x k = let (p, g) = state-some id t (x .zone) (x .there) in (refl, (low-id id p, (not-holds _ p, (not-holds _ (ap (λ (y : GhostZone). y .cpu-mem-set r) g ∙ x .held), tt))))
+    allowed-back (Remove Iommu r) id u x k = let (p, g) = state-some id t (x .zone) (x .there) in (refl, (low-id id p, (not-holds _ p, (not-holds _ (ap (λ (y : GhostZone). y .iommu-mem-set r) g ∙ x .held), tt))))
+    allowed-back NoRequest id u x k = absurd x
+
+  -- ---- a transition leads to one state
+  module _ (c : Configuration) (id : ℕ) (pre v w : State) where
+    one-zone : (f : GhostZone → GhostZone) (a b : GhostZone) → pre id ≡ some a → pre id ≡ some b → v ≡ map-insert pre id (f a) → w ≡ map-insert pre id (f b) → v ≡ w
+    one-zone f a b p q x y = x ∙ ap (λ (z : GhostZone). map-insert pre id (f z)) (Option·some-injective _ _ (sym p ∙ q)) ∙ sym y
+
+    one-state : (k : Kind) → Transition lim c k id pre v → Transition lim c k id pre w → v ≡ w
+    one-state AddZone x y = x .update ∙ sym (y .update)
+    one-state RemoveZone x y = x .update ∙ sym (y .update)
+    one-state (Insert Cpu r) x y = one-zone (λ z. record { cpu-mem-set = insert-region (z .cpu-mem-set) r; iommu-mem-set = z .iommu-mem-set }) (x .zone) (y .zone) (x .there) (y .there) (x .update) (y .update)
+    one-state (Insert Iommu r) x y = one-zone (λ z. record { cpu-mem-set = z .cpu-mem-set; iommu-mem-set = insert-region (z .iommu-mem-set) r }) (x .zone) (y .zone) (x .there) (y .there) (x .update) (y .update)
+    one-state (Remove Cpu r) x y = one-zone (λ z. record { cpu-mem-set = remove-region-exact (z .cpu-mem-set) r; iommu-mem-set = z .iommu-mem-set }) (x .zone) (y .zone) (x .there) (y .there) (x .update) (y .update)
+    one-state (Remove Iommu r) x y = one-zone (λ z. record { cpu-mem-set = z .cpu-mem-set; iommu-mem-set = remove-region-exact (z .iommu-mem-set) r }) (x .zone) (y .zone) (x .there) (y .there) (x .update) (y .update)
+    one-state NoRequest x y = absurd x
+
+  next-after : (c : Configuration) (t : List Zone) (q : Request) → refusal lim c t q ≡ 0 → after (q .kind) (q .zone) t ≡ next lim c t q
+  unfolding next
+  next-after c t q e = sym (ap (λ (b : Bool). cond b (after (q .kind) (q .zone) t) t) (eq-eqb (refusal lim c t q) 0 e))
+
+  pub accepted-is-upstream : AcceptedIsUpstream lim
+  unfolding refusal
+  accepted-is-upstream s t q ok e =
+      let (x, k) = accepted s t ok (q .kind) (q .zone) e in
+      (subst (λ (u : List Zone). Transition lim (configOf s) (q .kind) (q .zone) (stateOf t) (stateOf u)) (next-after (configOf s) t q e) x, k)
+
+  pub upstream-is-accepted : UpstreamIsAccepted lim
+  unfolding refusal
+  upstream-is-accepted s t q u ok x k =
+      let e = quiet-zero s t ok (q .kind) (q .zone) (allowed-back s t ok (q .kind) (q .zone) u x k) in
+      (e, one-state (configOf s) (q .zone) (stateOf t) (stateOf (next lim (configOf s) t q)) u (q .kind) (accepted-is-upstream s t q ok e .0) x)
+
+  -- ---- upstream's properties
+  zone-configured : (s : StoredConfig) (t : List Zone) (ok : SoundUnder lim s t) (zid : ℕ) → present zid t ≡ true → (side : Side) (r : Region) → heldIn r (setAt t (find zid t) side) ≡ true → configured (configOf s) r ≡ true
+  unfolding soundSet
+  zone-configured s t ok zid p side r h =
+      let (i, l, q) = held-at (setAt t (find zid t) side) r h in
+      ap (configured (configOf s)) q ∙ all-at (configured (configOf s)) (setAt t (find zid t) side) noRegion (parts _ (set-ok s t ok zid p side) .1 .0) i l
+
+  pub zone-cpu-region-in-all-regions : ZoneCpuRegionInAllRegions lim
+  unfolding setAt sideOf
+  zone-cpu-region-in-all-regions s t ok zid zone st r h = let (p, g) = state-some zid t zone st in zone-configured s t ok zid p Cpu r (ap (λ (y : GhostZone). y .cpu-mem-set r) g ∙ h)
+
+  pub zone-iommu-region-in-all-regions : ZoneIommuRegionInAllRegions lim
+  unfolding setAt sideOf
+  zone-iommu-region-in-all-regions s t ok zid zone st r h = let (p, g) = state-some zid t zone st in zone-configured s t ok zid p Iommu r (ap (λ (y : GhostZone). y .iommu-mem-set r) g ∙ h)
+
+  pub cross-zone-disjoint-except-gic : CrossZoneDisjointExceptGic lim
+  cross-zone-disjoint-except-gic s t ok zid1 zone1 zid2 zone2 st1 st2 ne r1 r2 h1 h2 =
+      let (p1, g1) = state-some zid1 t zone1 st1 in
+      let (p2, g2) = state-some zid2 t zone2 st2 in
+      clash-told (configOf s) r1 r2
+      (never-clash lim s t ok (find zid1 t) (find zid2 t) (there s t ok zid1 p1) (there s t ok zid2 p2) (other-place s t ok zid2 zid1 p2 p1 ne) r1 r2 (stands zid1 zone1 p1 g1 r1 h1) (stands zid2 zone2 p2 g2 r2 h2))
+    where
+      stands : (zid : ℕ) (zone : GhostZone) → present zid t ≡ true → ghostOf (getD t (find zid t) noZone) ≡ zone → (r : Region) → contains-region zone r ≡ true → In r (regionsOf (getD t (find zid t) noZone))
+      stands zid zone p g r h =
+          let z : Zone = getD t (find zid t) noZone in
+          let (i, l, q) = held-at (regionsOf z) r (any-append (regionEq r) (z .cpu) (z .iommu) ∙ ap (λ (y : GhostZone). contains-region y r) g ∙ h) in
+          (i, l, sym q)

@@ -9,3 +9,4 @@ pub mod Plans
 pub mod Editions
 pub mod Terminals
 pub mod Past
+pub mod Families

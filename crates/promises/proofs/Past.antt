@@ -36,17 +36,17 @@ no-bytes : (p : Plan) → readPlan limits [] ≡ got p [] → ⊥
 unfolding numberRead readPlan readFile readAs readBoth readHeaded readCount within readNumber when then
 no-bytes p e = let z : _≡_ {A = ℕ} 20 0 = ap numberRead e in omega arith
 
-adds-fit : ListFits 0 mostRequests AskedFits adds
-adds-fit = record { least = omega arith; most = omega arith; fits = (refl, ((omega arith, (omega arith, (omega arith, (omega arith, omega arith)))), tt)) }
+adds-fit : ListFits 4 0 mostRequests AskedFits adds
+adds-fit = record { said = omega arith; least = omega arith; most = omega arith; fits = (refl, ((omega arith, (omega arith, (omega arith, (omega arith, omega arith)))), tt)) }
 
-removes-fit : ListFits 0 mostRequests AskedFits removes
-removes-fit = record { least = omega arith; most = omega arith; fits = (refl, ((omega arith, (omega arith, (omega arith, (omega arith, omega arith)))), tt)) }
+removes-fit : ListFits 4 0 mostRequests AskedFits removes
+removes-fit = record { said = omega arith; least = omega arith; most = omega arith; fits = (refl, ((omega arith, (omega arith, (omega arith, (omega arith, omega arith)))), tt)) }
 
-may-add : MayAsk (without 0) adds
+may-add : MayAsk limits (without 0) adds
 unfolding next refusal after requestRules kindRules noRequest addRules configOf regionEq allOf firstRule any all room tableOf zoneOf setOf runFrom ended makeRequest makeKind added
 may-add = record { edition = omega arith; fits = adds-fit; accepted = refl }
 
-may-remove : MayAsk (with5 1) removes
+may-remove : MayAsk limits (with5 1) removes
 unfolding next refusal after requestRules kindRules noRequest removeZoneRules holdsAny dropped setAt sideOf configOf regionEq allOf firstRule firstIndex any all room removeAt tableOf zoneOf setOf runFrom ended makeRequest makeKind
 may-remove = record { edition = omega arith; fits = removes-fit; accepted = refl }
 

@@ -6,6 +6,7 @@ use mathlib.Core.Path.{_≡_, refl, sym, ap, subst, _∙_}
 use Rattle.lists.specs.Places.{places}
 use Rattle.lists.specs.Runs.{runs}
 use Rattle.formats.specs.Formats.{got, bad, Out}
+use Rattle.rules.specs.Limits.{Limits, Sayable}
 use Rattle.rules.specs.Applying.{lastEdition, store, apply, Terminal, Applied}
 use Rattle.rules.specs.Configuration.{configOf, StoredConfig}
 use Rattle.rules.specs.Plan.{Asked, Plan}
@@ -28,82 +29,83 @@ editionRead : Out Plan → ℕ
 editionRead (got p t) = p .marks .edition
 editionRead (bad k t) = 0
 
-one-edition : (s t : Terminal) (b : List ℕ) → (p : Plan) × PlanFor s b p → (p : Plan) × PlanFor t b p → s .edition ≡ t .edition
-unfolding editionRead
-one-edition s t b (p, (f, x)) (q, (g, y)) = x .edition ∙ ap editionRead (sym f ∙ g) ∙ sym (y .edition)
+module _ (lim : Limits) where
+  one-edition : (s t : Terminal) (b : List ℕ) → (p : Plan) × PlanFor lim s b p → (p : Plan) × PlanFor lim t b p → s .edition ≡ t .edition
+  unfolding editionRead
+  one-edition s t b (p, (f, x)) (q, (g, y)) = x .edition ∙ ap editionRead (sym f ∙ g) ∙ sym (y .edition)
 
-plan-leads : (s : State Held) (q : List Asked) → SoundHeld (s .table) → MayAsk (terminal s) q
-    → (terminals .number s (terminals .encode s q) ≡ 0) × (terminals .after s (terminals .encode s q) ≡ record { edition = suc (s .edition); table = terminals .next (s .table) q })
-plan-leads s q ok may =
-    let below : s .edition < lastEdition = may .edition in
-    let n : s .edition + 1 ≡ suc (s .edition) = omega arith in
-    let e = plan-is-accepted (terminal s) (planBytes (terminal s) q) (planFor (terminal s) q) (ok .stands) (plan-reads (terminal s) q (ok .records) (ok .stands) may, plan-for-base (terminal s) q) (λ l. omega arith) (may .accepted) in
-    (ap (λ (a : Applied). a .outcome .number) e, ap (λ (a : Applied). stateOf (a .state)) e ∙ (λ i. record { edition = n i; table = terminals .next (s .table) q }))
+  plan-leads : Sayable lim → (s : State Held) (q : List Asked) → SoundHeld lim (s .table) → MayAsk lim (terminal s) q
+      → (terminals lim .number s (terminals lim .encode s q) ≡ 0) × (terminals lim .after s (terminals lim .encode s q) ≡ record { edition = suc (s .edition); table = terminals lim .next (s .table) q })
+  plan-leads say s q ok may =
+      let below : s .edition < lastEdition = may .edition in
+      let n : s .edition + 1 ≡ suc (s .edition) = omega arith in
+      let e = plan-is-accepted lim (terminal s) (planBytes lim (terminal s) q) (planFor (terminal s) q) (ok .stands) (plan-reads lim say (terminal s) q (ok .records) (ok .stands) may, plan-for-base (terminal s) q) (λ l. omega arith) (may .accepted) in
+      (ap (λ (a : Applied). a .outcome .number) e, ap (λ (a : Applied). stateOf (a .state)) e ∙ (λ i. record { edition = n i; table = terminals lim .next (s .table) q }))
 
-next-sound : (h : Held) (q : List Asked) → SoundHeld h → SoundHeld (terminals .next h q)
-next-sound h q ok =
-    let (c, t) = stands-well (h .config) (h .table) (ok .stands) in
-    record { records = ok .records; stands = stored-stands (h .config) (ranAt (h .config) (h .table) q .table) c (run-from-keeps (configOf (h .config)) 0 (tableOf (h .table)) _ t) }
+  next-sound : (h : Held) (q : List Asked) → SoundHeld lim h → SoundHeld lim (terminals lim .next h q)
+  next-sound h q ok =
+      let (c, t) = stands-well lim (h .config) (h .table) (ok .stands) in
+      record { records = ok .records; stands = stored-stands lim (h .config) (ranAt lim (h .config) (h .table) q .table) c (run-from-keeps lim (configOf (h .config)) 0 (tableOf (h .table)) _ t) }
 
-pub terminals-are-lawful : TerminalsAreLawful
-terminals-are-lawful = record {
-  stays = λ s b ne. ap stateOf (refusal-stays (terminal s) b ne);
-  fits = λ s b e. (let (p, f, last, inner) = accepted-is-plan (terminal s) b e in (p, f));
-  tells = λ s t b f g. one-edition (terminal s) (terminal t) b f g;
-  leads = plan-leads;
-  keeps = λ s q ok may. next-sound (s .table) q ok;
-}
+  pub terminals-are-lawful : TerminalsAreLawful lim
+  terminals-are-lawful say = record {
+    stays = λ s b ne. ap stateOf (refusal-stays lim (terminal s) b ne);
+    fits = λ s b e. (let (p, f, last, inner) = accepted-is-plan lim (terminal s) b e in (p, f));
+    tells = λ s t b f g. one-edition (terminal s) (terminal t) b f g;
+    leads = plan-leads say;
+    keeps = λ s q ok may. next-sound (s .table) q ok;
+  }
 
--- ---- the planner's states are those of the rules
-module _ (c : StoredConfig) (asked : ℕ → List Asked) where
-  config-stays : (k : ℕ) → c ≡ tableAt terminals (planner c asked) k .config
-  unfolding tableAt
-  config-stays zero = refl
-  config-stays (suc k) = config-stays k
+  -- ---- the planner's states are those of the rules
+  module _ (c : StoredConfig) (asked : ℕ → List Asked) where
+    config-stays : (k : ℕ) → c ≡ tableAt (terminals lim) (planner lim c asked) k .config
+    unfolding tableAt
+    config-stays zero = refl
+    config-stays (suc k) = config-stays k
 
-  planned-at : (k : ℕ) → planned c asked k ≡ terminal (at terminals (planner c asked) k)
-  unfolding planned tableAt
-  planned-at zero = refl
-  planned-at (suc k) =
-      let p : c ≡ tableAt terminals (planner c asked) k .config = config-stays k in
-      let e : planned c asked k ≡ terminal (at terminals (planner c asked) k) = planned-at k in
-      (λ i. record { config = p i; table = store (ranAt (p i) (e i .table) (asked (suc k)) .table); edition = suc k })
+    planned-at : (k : ℕ) → planned lim c asked k ≡ terminal (at (terminals lim) (planner lim c asked) k)
+    unfolding planned tableAt
+    planned-at zero = refl
+    planned-at (suc k) =
+        let p : c ≡ tableAt (terminals lim) (planner lim c asked) k .config = config-stays k in
+        let e : planned lim c asked k ≡ terminal (at (terminals lim) (planner lim c asked) k) = planned-at k in
+        (λ i. record { config = p i; table = store lim (ranAt lim (p i) (e i .table) (asked (suc k)) .table); edition = suc k })
 
-  file-at : (i : ℕ) → planFile c asked i ≡ planOf terminals (planner c asked) i
-  file-at i = ap (λ (s : Terminal). planBytes s (asked i)) (planned-at (i - 1))
+    file-at : (i : ℕ) → planFile lim c asked i ≡ planOf (terminals lim) (planner lim c asked) i
+    file-at i = ap (λ (s : Terminal). planBytes lim s (asked i)) (planned-at (i - 1))
 
-  start-sound : Passed c → terminals .Sound (planner c asked .start)
-  start-sound (full, e) = record { records = full; stands = stored-stands c [] e (sound-parts (configOf c) [] (empty-is-sound (configOf c))) }
+    start-sound : Passed lim c → terminals lim .Sound (planner lim c asked .start)
+    start-sound (full, e) = record { records = full; stands = stored-stands lim c [] e (sound-parts lim (configOf c) [] (empty-is-sound lim (configOf c))) }
 
-pub terminals-follow : TerminalsFollow
-terminals-follow c ok asked h =
-    let (k, f) = always-in-step terminals terminals-are-lawful (planner c asked) (start-sound c asked ok) h in (
-      k,
-      record {
-        behind = f .behind;
-        same = ap terminal (f .same) ∙ sym (planned-at c asked k);
-        onward = λ l. subst (λ (b : List ℕ). (apply (terminalIn c asked h) b .outcome .number ≡ 0) × (apply (terminalIn c asked h) b .state ≡ planned c asked (suc k))) (sym (file-at c asked (suc k)))
-            (f .onward l .0, ap terminal (f .onward l .1) ∙ sym (planned-at c asked (suc k)));
-        others = λ i low high ne. subst (TurnsAway (terminalIn c asked h)) (sym (file-at c asked i)) (let r = f .others i low high ne in (r .0, ap terminal (r .1)));
-        stray = λ b ne. let r = f .stray b (λ x. ne (x .0) (x .1)) in (r .0, ap terminal (r .1));
-      },
-    )
+  pub terminals-follow : TerminalsFollow lim
+  terminals-follow say c ok asked h =
+      let (k, f) = always-in-step (terminals lim) (terminals-are-lawful say) (planner lim c asked) (start-sound c asked ok) h in (
+        k,
+        record {
+          behind = f .behind;
+          same = ap terminal (f .same) ∙ sym (planned-at c asked k);
+          onward = λ l. subst (λ (b : List ℕ). (apply lim (terminalIn lim c asked h) b .outcome .number ≡ 0) × (apply lim (terminalIn lim c asked h) b .state ≡ planned lim c asked (suc k))) (sym (file-at c asked (suc k)))
+              (f .onward l .0, ap terminal (f .onward l .1) ∙ sym (planned-at c asked (suc k)));
+          others = λ i low high ne. subst (TurnsAway lim (terminalIn lim c asked h)) (sym (file-at c asked i)) (let r = f .others i low high ne in (r .0, ap terminal (r .1)));
+          stray = λ b ne. let r = f .stray b (λ x. ne (x .0) (x .1)) in (r .0, ap terminal (r .1));
+        },
+      )
 
-pub equal-editions-equal-terminals : EqualEditionsEqualTerminals
-equal-editions-equal-terminals c ok asked g h e =
-    let t = equal-editions-equal-tables terminals terminals-are-lawful (planner c asked) (start-sound c asked ok) g h e in
-    (λ i. terminal (record { edition = e i; table = t i }))
+  pub equal-editions-equal-terminals : EqualEditionsEqualTerminals lim
+  equal-editions-equal-terminals say c ok asked g h e =
+      let t = equal-editions-equal-tables (terminals lim) (terminals-are-lawful say) (planner lim c asked) (start-sound c asked ok) g h e in
+      (λ i. terminal (record { edition = e i; table = t i }))
 
--- deliveries in turn, to the state and to the terminal
-in-turn : (s : State Held) (bs : List (List ℕ)) → runs (λ (t : Terminal) (b : List ℕ). apply t b .state) (terminal s) bs ≡ terminal (runs (terminals .after) s bs)
-unfolding runs
-in-turn s [] = refl
-in-turn s (b ∷ bs) = in-turn (terminals .after s b) bs
+  -- deliveries in turn, to the state and to the terminal
+  in-turn : (s : State Held) (bs : List (List ℕ)) → runs (λ (t : Terminal) (b : List ℕ). apply lim t b .state) (terminal s) bs ≡ terminal (runs (terminals lim .after) s bs)
+  unfolding runs
+  in-turn s [] = refl
+  in-turn s (b ∷ bs) = in-turn (terminals lim .after s b) bs
 
-pub lower-terminal-is-behind : LowerTerminalIsBehind
-lower-terminal-is-behind c ok asked g h l =
-    let j : ℕ = terminalIn c asked g .edition in
-    let k : ℕ = terminalIn c asked h .edition in
-    in-turn (world terminals (planner c asked) g .state) (map (planFile c asked) (places (suc j) (k - j)))
-    ∙ ap (λ (f : ℕ → List ℕ). terminal (runs (terminals .after) (world terminals (planner c asked) g .state) (map f (places (suc j) (k - j))))) (λ x i. file-at c asked i x)
-    ∙ ap terminal (lower-is-behind terminals terminals-are-lawful (planner c asked) (start-sound c asked ok) g h l)
+  pub lower-terminal-is-behind : LowerTerminalIsBehind lim
+  lower-terminal-is-behind say c ok asked g h l =
+      let j : ℕ = terminalIn lim c asked g .edition in
+      let k : ℕ = terminalIn lim c asked h .edition in
+      in-turn (world (terminals lim) (planner lim c asked) g .state) (map (planFile lim c asked) (places (suc j) (k - j)))
+      ∙ ap (λ (f : ℕ → List ℕ). terminal (runs (terminals lim .after) (world (terminals lim) (planner lim c asked) g .state) (map f (places (suc j) (k - j))))) (λ x i. file-at c asked i x)
+      ∙ ap terminal (lower-is-behind (terminals lim) (terminals-are-lawful say) (planner lim c asked) (start-sound c asked ok) g h l)

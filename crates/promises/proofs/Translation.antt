@@ -19,7 +19,7 @@ use Rattle.lists.proofs.Tests.{not-holds, parts}
 use Rattle.rules.specs.Changes.{setAt}
 use Rattle.rules.specs.Closure.{RegionSet, contains-vaddr, GhostZone}
 use Rattle.rules.specs.Configuration.{configOf, Configuration, StoredConfig}
-use Rattle.rules.specs.Limits.{highestId}
+use Rattle.rules.specs.Limits.{highestId, Limits}
 use Rattle.rules.specs.Regions.{regionEq, noRegion}
 use Rattle.rules.specs.Requests.{find, present, heldIn}
 use Rattle.rules.specs.Tables.{noZone, sideOf, regionsOf, configured, guestApart, soundSet, Zone}
@@ -82,22 +82,6 @@ stays-inside t id side a x (e, h) = (
   lies-in a x (coveringIn a (xs t id side a)) (covers t id side a e) (sym (comes-out t id side a e) ∙ h),
 )
 
-pub only-one-covers : OnlyOneCovers
-unfolding soundSet
-only-one-covers s t ok z side a i j h li lj ci cj =
-    elim (decLt i j) [
-      | yes l ↦ absurd (apart i j l lj ci cj)
-      | no l ↦
-          elim (decLt j i) [ yes m ↦ absurd (apart j i m li cj ci) | no m ↦ omega arith ]
-    ]
-  where
-    apart : (k m : ℕ) → k < m → m < length (setAt t z side) → coversGuest a (getD (setAt t z side) k noRegion) ≡ true → coversGuest a (getD (setAt t z side) m noRegion) ≡ true → ⊥
-    apart k m l u ck cm =
-        let p = parts _ (set-sound (configOf s) t (table-ok s t ok) z side h) in
-        true≢false
-        (sym (overlap-shared _ _ _ _ .1 (a, (covers-parts a (getD (setAt t z side) k noRegion) ck, covers-parts a (getD (setAt t z side) m noRegion) cm)))
-        ∙ not-true _ (pairs-at guestApart (setAt t z side) noRegion (p .1 .1 .0) k m l u))
-
 -- ---- two translations that come out at one place
 in-held : (r : Region) (xs : List Region) → In r xs → heldIn r xs ≡ true
 in-held r xs (i, l, q) = any-make (regionEq r) xs noRegion i l (ap (regionEq r) q ∙ equal-refl r)
@@ -110,45 +94,62 @@ held-by t k side r m = let (i, l, q) = held-at (regionsOf (getD t k noZone)) r (
     by Cpu h = inl h
     by Iommu h = inr h
 
-pub zones-meet-on-gic : ZonesMeetOnGic
-zones-meet-on-gic s t ok y z one other a b x ne (ea, ha) (eb, hb) =
-    let (r, mr, cr, pr) = stays-inside t y one a x (ea, ha) in
-    let (q, mq, cq, pq) = stays-inside t z other b x (eb, hb) in
-    let py = zone-there t y one a ea in
-    let pz = zone-there t z other b eb in
-    no-address-in-two-zones s t ok (find y t) (find z t) x (there s t ok y py) (there s t ok z pz) (other-place s t ok z y pz py ne) (r, held-by t (find y t) one r mr, pr) (q, held-by t (find z t) other q mq, pq)
+module _ (lim : Limits) where
+  pub only-one-covers : OnlyOneCovers lim
+  unfolding soundSet
+  only-one-covers s t ok z side a i j h li lj ci cj =
+      elim (decLt i j) [
+        | yes l ↦ absurd (apart i j l lj ci cj)
+        | no l ↦
+            elim (decLt j i) [ yes m ↦ absurd (apart j i m li cj ci) | no m ↦ omega arith ]
+      ]
+    where
+      apart : (k m : ℕ) → k < m → m < length (setAt t z side) → coversGuest a (getD (setAt t z side) k noRegion) ≡ true → coversGuest a (getD (setAt t z side) m noRegion) ≡ true → ⊥
+      apart k m l u ck cm =
+          let p = parts _ (set-sound lim (configOf s) t (table-ok lim s t ok) z side h) in
+          true≢false
+          (sym (overlap-shared _ _ _ _ .1 (a, (covers-parts a (getD (setAt t z side) k noRegion) ck, covers-parts a (getD (setAt t z side) m noRegion) cm)))
+          ∙ not-true _ (pairs-at guestApart (setAt t z side) noRegion (p .1 .1 .0) k m l u))
 
-pub one-to-one : OneToOne
-unfolding soundSet coveringIn physIn xs
-one-to-one s t ok id side a b x (ea, ha) (eb, hb) =
-    let c : Configuration = configOf s in
-    let zs : List Region = setAt t (find id t) side in
-    let ra : Region = coveringIn a zs in
-    let rb : Region = coveringIn b zs in
-    let all-configured = parts _ (set-ok s t ok id (zone-there t id side a ea) side) .1 .0 in
-    let pa : physIn a ra ≡ x = sym (comes-out t id side a ea) ∙ ha in
-    let pb : physIn b rb ≡ x = sym (comes-out t id side b eb) ∙ hb in
-    let ca = covers t id side a ea in
-    let cb = covers t id side b eb in
-    let same : ra ≡ rb = overlap-same c (config-ok s t ok) ra rb (all-at (configured c) zs noRegion all-configured _ (within t id side a ea)) (all-at (configured c) zs noRegion all-configured _ (within t id side b eb)) (overlap-shared _ _ _ _ .1 (x, (lies-in a x ra ca pa, lies-in b x rb cb pb))) in
-    equal-from a b ra rb ca cb same (pa ∙ sym pb)
-  where
-    equal-from : (a b : ℕ) (r q : Region) → coversGuest a r ≡ true → coversGuest b q ≡ true → r ≡ q → physIn a r ≡ physIn b q → a ≡ b
-    equal-from a b r q ca cb e h = let (la, ua) = covers-parts a r ca in let (lb, ub) = covers-parts b q cb in omega (arith, ap (λ (k : Region). k .v .0) e, ap (λ (k : Region). k .p .0) e)
+  pub zones-meet-on-gic : ZonesMeetOnGic lim
+  zones-meet-on-gic s t ok y z one other a b x ne (ea, ha) (eb, hb) =
+      let (r, mr, cr, pr) = stays-inside t y one a x (ea, ha) in
+      let (q, mq, cq, pq) = stays-inside t z other b x (eb, hb) in
+      let py = zone-there t y one a ea in
+      let pz = zone-there t z other b eb in
+      no-address-in-two-zones lim s t ok (find y t) (find z t) x (there lim s t ok y py) (there lim s t ok z pz) (other-place lim s t ok z y pz py ne) (r, held-by t (find y t) one r mr, pr) (q, held-by t (find z t) other q mq, pq)
 
--- ---- upstream's properties
-isolated : (s : StoredConfig) (t : List Zone) (ok : SoundUnder s t) (zid : ℕ) (side : Side) (set : RegionSet) (v : ℕ) → present zid t ≡ true → ((r : Region) → set r ≡ heldIn r (setAt t (find zid t) side)) → contains-vaddr set v → Isolated t zid side set v
-unfolding xs
-isolated s t ok zid side set v p same (r, m, k) =
-    let (i, l, q) = held-at (setAt t (find zid t) side) r (sym (same r) ∙ m) in
-    let e = translates t zid side v (low-id s t ok zid p) p (any-make (coversGuest v) (setAt t (find zid t) side) noRegion i l (ap (coversGuest v) (sym q) ∙ k)) in
-    let (g, mg, cg, pg) = stays-inside t zid side v (translation t zid side v .phys .0) (e, refl) in
-    (translation t zid side v .phys .0, (e, refl), (g, same g ∙ in-held g (setAt t (find zid t) side) mg, cg, pg))
+  pub one-to-one : OneToOne lim
+  unfolding soundSet coveringIn physIn xs
+  one-to-one s t ok id side a b x (ea, ha) (eb, hb) =
+      let c : Configuration = configOf s in
+      let zs : List Region = setAt t (find id t) side in
+      let ra : Region = coveringIn a zs in
+      let rb : Region = coveringIn b zs in
+      let all-configured = parts _ (set-ok lim s t ok id (zone-there t id side a ea) side) .1 .0 in
+      let pa : physIn a ra ≡ x = sym (comes-out t id side a ea) ∙ ha in
+      let pb : physIn b rb ≡ x = sym (comes-out t id side b eb) ∙ hb in
+      let ca = covers t id side a ea in
+      let cb = covers t id side b eb in
+      let same : ra ≡ rb = overlap-same lim c (config-ok lim s t ok) ra rb (all-at (configured c) zs noRegion all-configured _ (within t id side a ea)) (all-at (configured c) zs noRegion all-configured _ (within t id side b eb)) (overlap-shared _ _ _ _ .1 (x, (lies-in a x ra ca pa, lies-in b x rb cb pb))) in
+      equal-from a b ra rb ca cb same (pa ∙ sym pb)
+    where
+      equal-from : (a b : ℕ) (r q : Region) → coversGuest a r ≡ true → coversGuest b q ≡ true → r ≡ q → physIn a r ≡ physIn b q → a ≡ b
+      equal-from a b r q ca cb e h = let (la, ua) = covers-parts a r ca in let (lb, ub) = covers-parts b q cb in omega (arith, ap (λ (k : Region). k .v .0) e, ap (λ (k : Region). k .p .0) e)
 
-pub zone-isolated : ZoneIsolated
-unfolding setAt sideOf
-zone-isolated s t ok zid zone v st k = let (p, g) = state-some zid t zone st in isolated s t ok zid Cpu (zone .cpu-mem-set) v p (λ r. sym (ap (λ (y : GhostZone). y .cpu-mem-set r) g)) k
+  -- ---- upstream's properties
+  isolated : (s : StoredConfig) (t : List Zone) (ok : SoundUnder lim s t) (zid : ℕ) (side : Side) (set : RegionSet) (v : ℕ) → present zid t ≡ true → ((r : Region) → set r ≡ heldIn r (setAt t (find zid t) side)) → contains-vaddr set v → Isolated t zid side set v
+  unfolding xs
+  isolated s t ok zid side set v p same (r, m, k) =
+      let (i, l, q) = held-at (setAt t (find zid t) side) r (sym (same r) ∙ m) in
+      let e = translates t zid side v (low-id lim s t ok zid p) p (any-make (coversGuest v) (setAt t (find zid t) side) noRegion i l (ap (coversGuest v) (sym q) ∙ k)) in
+      let (g, mg, cg, pg) = stays-inside t zid side v (translation t zid side v .phys .0) (e, refl) in
+      (translation t zid side v .phys .0, (e, refl), (g, same g ∙ in-held g (setAt t (find zid t) side) mg, cg, pg))
 
-pub iommu-zone-isolated : IommuZoneIsolated
-unfolding setAt sideOf
-iommu-zone-isolated s t ok zid zone v st k = let (p, g) = state-some zid t zone st in isolated s t ok zid Iommu (zone .iommu-mem-set) v p (λ r. sym (ap (λ (y : GhostZone). y .iommu-mem-set r) g)) k
+  pub zone-isolated : ZoneIsolated lim
+  unfolding setAt sideOf
+  zone-isolated s t ok zid zone v st k = let (p, g) = state-some zid t zone st in isolated s t ok zid Cpu (zone .cpu-mem-set) v p (λ r. sym (ap (λ (y : GhostZone). y .cpu-mem-set r) g)) k
+
+  pub iommu-zone-isolated : IommuZoneIsolated lim
+  unfolding setAt sideOf
+  iommu-zone-isolated s t ok zid zone v st k = let (p, g) = state-some zid t zone st in isolated s t ok zid Iommu (zone .iommu-mem-set) v p (λ r. sym (ap (λ (y : GhostZone). y .iommu-mem-set r) g)) k

@@ -9,7 +9,7 @@ use lib.ListN.{length}
 use Rattle.rules.specs.Changes.{setAt}
 use Rattle.rules.specs.Closure.{contains-region, State, all-regions, gic-region, initialize, stateOf, Transition, GhostZone}
 use Rattle.rules.specs.Configuration.{configOf, StoredConfig}
-use Rattle.rules.specs.Limits.{mostZones, highestId, mostInSet}
+use Rattle.rules.specs.Limits.{highestId, Limits}
 use Rattle.rules.specs.Regions.{physOverlap}
 use Rattle.rules.specs.Requests.{find, holdsAny, refusal, next}
 use Rattle.rules.specs.Tables.{Zone}
@@ -20,34 +20,34 @@ use Rattle.rules.specs.declared.Request.{Request}
 use Rattle.promises.specs.Tables.{SoundUnder}
 
 -- what document 01 asks beyond upstream's guards: ids that a table can hold, room, and that only an empty zone is removed
-abbrev pub Corrections : Kind → ℕ → List Zone → Type 0
-Corrections AddZone id t = (id ≤ highestId) × (length t < mostZones)
-Corrections RemoveZone id t = holdsAny (find id t) t ≡ false
-Corrections (Insert s r) id t = length (setAt t (find id t) s) < mostInSet
-Corrections (Remove s r) id t = Unit {0}
-Corrections NoRequest id t = Unit {0}
+abbrev pub Corrections : Limits → Kind → ℕ → List Zone → Type 0
+Corrections l AddZone id t = (id ≤ highestId) × (length t < l .zones)
+Corrections l RemoveZone id t = holdsAny (find id t) t ≡ false
+Corrections l (Insert s r) id t = length (setAt t (find id t) s) < l .inSet
+Corrections l (Remove s r) id t = Unit {0}
+Corrections l NoRequest id t = Unit {0}
 
 -- an accepted request is upstream's transition, from the table's state to that of the next table
-abbrev pub AcceptedIsUpstream : Type 0
-AcceptedIsUpstream = (s : StoredConfig) (t : List Zone) (q : Request) → SoundUnder s t → refusal (configOf s) t q ≡ 0
-    → Transition (configOf s) (q .kind) (q .zone) (stateOf t) (stateOf (next (configOf s) t q)) × Corrections (q .kind) (q .zone) t
+abbrev pub AcceptedIsUpstream : Limits → Type 0
+AcceptedIsUpstream l = (s : StoredConfig) (t : List Zone) (q : Request) → SoundUnder l s t → refusal l (configOf s) t q ≡ 0
+    → Transition l (configOf s) (q .kind) (q .zone) (stateOf t) (stateOf (next l (configOf s) t q)) × Corrections l (q .kind) (q .zone) t
 
 -- where upstream has a transition and the corrections hold, the request is accepted and leads to upstream's next state
-abbrev pub UpstreamIsAccepted : Type 0
-UpstreamIsAccepted = (s : StoredConfig) (t : List Zone) (q : Request) (u : State) → SoundUnder s t → Transition (configOf s) (q .kind) (q .zone) (stateOf t) u → Corrections (q .kind) (q .zone) t
-    → (refusal (configOf s) t q ≡ 0) × (stateOf (next (configOf s) t q) ≡ u)
+abbrev pub UpstreamIsAccepted : Limits → Type 0
+UpstreamIsAccepted l = (s : StoredConfig) (t : List Zone) (q : Request) (u : State) → SoundUnder l s t → Transition l (configOf s) (q .kind) (q .zone) (stateOf t) u → Corrections l (q .kind) (q .zone) t
+    → (refusal l (configOf s) t q ≡ 0) × (stateOf (next l (configOf s) t q) ≡ u)
 
 -- the empty table is upstream's first state
 abbrev pub InitializeIsEmpty : Type 0
 InitializeIsEmpty = stateOf [] ≡ initialize
 
 -- ---- upstream's properties, with their conclusions
-abbrev pub ZoneCpuRegionInAllRegions : Type 0
-ZoneCpuRegionInAllRegions = (s : StoredConfig) (t : List Zone) → SoundUnder s t → (zid : ℕ) (zone : GhostZone) → stateOf t zid ≡ some zone → (r : Region) → zone .cpu-mem-set r ≡ true → all-regions (configOf s) r ≡ true
+abbrev pub ZoneCpuRegionInAllRegions : Limits → Type 0
+ZoneCpuRegionInAllRegions l = (s : StoredConfig) (t : List Zone) → SoundUnder l s t → (zid : ℕ) (zone : GhostZone) → stateOf t zid ≡ some zone → (r : Region) → zone .cpu-mem-set r ≡ true → all-regions (configOf s) r ≡ true
 
-abbrev pub ZoneIommuRegionInAllRegions : Type 0
-ZoneIommuRegionInAllRegions = (s : StoredConfig) (t : List Zone) → SoundUnder s t → (zid : ℕ) (zone : GhostZone) → stateOf t zid ≡ some zone → (r : Region) → zone .iommu-mem-set r ≡ true → all-regions (configOf s) r ≡ true
+abbrev pub ZoneIommuRegionInAllRegions : Limits → Type 0
+ZoneIommuRegionInAllRegions l = (s : StoredConfig) (t : List Zone) → SoundUnder l s t → (zid : ℕ) (zone : GhostZone) → stateOf t zid ≡ some zone → (r : Region) → zone .iommu-mem-set r ≡ true → all-regions (configOf s) r ≡ true
 
-abbrev pub CrossZoneDisjointExceptGic : Type 0
-CrossZoneDisjointExceptGic = (s : StoredConfig) (t : List Zone) → SoundUnder s t → (zid1 : ℕ) (zone1 : GhostZone) (zid2 : ℕ) (zone2 : GhostZone) → stateOf t zid1 ≡ some zone1 → stateOf t zid2 ≡ some zone2 → (zid1 ≡ zid2 → ⊥)
+abbrev pub CrossZoneDisjointExceptGic : Limits → Type 0
+CrossZoneDisjointExceptGic l = (s : StoredConfig) (t : List Zone) → SoundUnder l s t → (zid1 : ℕ) (zone1 : GhostZone) (zid2 : ℕ) (zone2 : GhostZone) → stateOf t zid1 ≡ some zone1 → stateOf t zid2 ≡ some zone2 → (zid1 ≡ zid2 → ⊥)
     → (r1 r2 : Region) → contains-region zone1 r1 ≡ true → contains-region zone2 r2 ≡ true → (r1 ≡ gic-region (configOf s)) ⊎ ((r2 ≡ gic-region (configOf s)) ⊎ (physOverlap r1 r2 ≡ false))

@@ -4,6 +4,7 @@ use Prim.Native.Nat.{ℕ, zero, suc}
 use mathlib.Core.List.{List, [], _∷_}
 use mathlib.Core.Path.{_≡_}
 use Rattle.lists.specs.Runs.{runs}
+use Rattle.rules.specs.Limits.{limits}
 use Rattle.rules.specs.Desk.{deskTerminal}
 use Rattle.rules.specs.Plan.{Asked}
 use Rattle.rules.specs.Story.{with5, adds, removes}
@@ -17,24 +18,24 @@ askedFor (suc zero) = adds
 askedFor (suc (suc k)) = removes
 
 -- from the empty table under the whole plan's configuration
-abbrev pub deskPlanner : Planner terminals
-deskPlanner = planner (deskTerminal .config) askedFor
+abbrev pub deskPlanner : Planner (terminals limits)
+deskPlanner = planner limits (deskTerminal .config) askedFor
 
-abbrev pub start : World terminals
-start = begin terminals deskPlanner
+abbrev pub start : World (terminals limits)
+start = begin (terminals limits) deskPlanner
 
 -- what happens
 abbrev pub events : List (Event (List ℕ))
 events = makes ∷ plan 1 ∷ plan 1 ∷ makes ∷ noise [] ∷ plan 2 ∷ plan 1 ∷ restart 2 ∷ []
 
 -- the numbers that deliveries answer, in turn
-unfoldable pub numbers : World terminals → List (Event (List ℕ)) → List ℕ
+unfoldable pub numbers : World (terminals limits) → List (Event (List ℕ)) → List ℕ
 numbers w [] = []
-numbers w (makes ∷ es) = numbers (happens terminals deskPlanner w makes) es
-numbers w (plan i ∷ es) = terminals .number (w .state) (planOf terminals deskPlanner i) ∷ numbers (happens terminals deskPlanner w (plan i)) es
-numbers w (noise b ∷ es) = terminals .number (w .state) b ∷ numbers (happens terminals deskPlanner w (noise b)) es
-numbers w (restart i ∷ es) = numbers (happens terminals deskPlanner w (restart i)) es
+numbers w (makes ∷ es) = numbers (happens (terminals limits) deskPlanner w makes) es
+numbers w (plan i ∷ es) = terminals limits .number (w .state) (planOf (terminals limits) deskPlanner i) ∷ numbers (happens (terminals limits) deskPlanner w (plan i)) es
+numbers w (noise b ∷ es) = terminals limits .number (w .state) b ∷ numbers (happens (terminals limits) deskPlanner w (noise b)) es
+numbers w (restart i ∷ es) = numbers (happens (terminals limits) deskPlanner w (restart i)) es
 
 -- all of it is legal; each plan is accepted once; and the restart leaves the terminal at edition 1 with zone 5
 abbrev pub PastShown : Type 0
-PastShown = AllLegal terminals deskPlanner start events × (numbers start events ≡ 0 ∷ 24 ∷ 20 ∷ 0 ∷ 24 ∷ []) × (terminal (runs (happens terminals deskPlanner) start events .state) ≡ with5 1)
+PastShown = AllLegal (terminals limits) deskPlanner start events × (numbers start events ≡ 0 ∷ 24 ∷ 20 ∷ 0 ∷ 24 ∷ []) × (terminal (runs (happens (terminals limits) deskPlanner) start events .state) ≡ with5 1)

@@ -5,6 +5,7 @@ use mathlib.Core.List.{List}
 use mathlib.Core.Option.{some}
 use mathlib.Core.Path.{_≡_}
 use lib.ListN.{length, getD}
+use Rattle.rules.specs.Limits.{Limits}
 use Rattle.rules.specs.Changes.{setAt}
 use Rattle.rules.specs.Closure.{contains-vaddr, stateOf, RegionSet, GhostZone}
 use Rattle.rules.specs.Configuration.{gicOf, configOf, StoredConfig}
@@ -22,28 +23,28 @@ abbrev pub TranslatesTo : List Zone → ℕ → Side → ℕ → ℕ → Type 0
 TranslatesTo t id side a x = (translation t id side a .number ≡ 0) × (translation t id side a .phys .0 ≡ x)
 
 -- the covering region is the only one
-abbrev pub OnlyOneCovers : Type 0
-OnlyOneCovers = (s : StoredConfig) (t : List Zone) → SoundUnder s t → (z : ℕ) (side : Side) (a i j : ℕ) → z < length t → i < length (setAt t z side) → j < length (setAt t z side) → coversGuest a (getD (setAt t z side) i noRegion) ≡ true → coversGuest a (getD (setAt t z side) j noRegion) ≡ true → i ≡ j
+abbrev pub OnlyOneCovers : Limits → Type 0
+OnlyOneCovers l = (s : StoredConfig) (t : List Zone) → SoundUnder l s t → (z : ℕ) (side : Side) (a i j : ℕ) → z < length t → i < length (setAt t z side) → j < length (setAt t z side) → coversGuest a (getD (setAt t z side) i noRegion) ≡ true → coversGuest a (getD (setAt t z side) j noRegion) ≡ true → i ≡ j
 
 -- what comes out lies in the physical range of a region of that set that covers the address
 abbrev pub StaysInside : Type 0
 StaysInside = (t : List Zone) (id : ℕ) (side : Side) (a x : ℕ) → TranslatesTo t id side a x → (r : Region) × In r (setAt t (find id t) side) × (coversGuest a r ≡ true) × CoversPhys r x
 
 -- no two addresses of one set come out at one place
-abbrev pub OneToOne : Type 0
-OneToOne = (s : StoredConfig) (t : List Zone) → SoundUnder s t → (id : ℕ) (side : Side) (a b x : ℕ) → TranslatesTo t id side a x → TranslatesTo t id side b x → a ≡ b
+abbrev pub OneToOne : Limits → Type 0
+OneToOne l = (s : StoredConfig) (t : List Zone) → SoundUnder l s t → (id : ℕ) (side : Side) (a b x : ℕ) → TranslatesTo t id side a x → TranslatesTo t id side b x → a ≡ b
 
 -- two different zones, on whichever sides, come out at one byte only inside the GIC region
-abbrev pub ZonesMeetOnGic : Type 0
-ZonesMeetOnGic = (s : StoredConfig) (t : List Zone) → SoundUnder s t → (y z : ℕ) (one other : Side) (a b x : ℕ) → (y ≡ z → ⊥) → TranslatesTo t y one a x → TranslatesTo t z other b x → CoversPhys (gicOf (configOf s)) x
+abbrev pub ZonesMeetOnGic : Limits → Type 0
+ZonesMeetOnGic l = (s : StoredConfig) (t : List Zone) → SoundUnder l s t → (y z : ℕ) (one other : Side) (a b x : ℕ) → (y ≡ z → ⊥) → TranslatesTo t y one a x → TranslatesTo t z other b x → CoversPhys (gicOf (configOf s)) x
 
 -- ---- upstream's two properties, with their conclusions
 -- an address that the set contains translates, into the physical range of a region of the set that covers it
 abbrev pub Isolated : List Zone → ℕ → Side → RegionSet → ℕ → Type 0
 Isolated t zid side set v = (x : ℕ) × TranslatesTo t zid side v x × ((r : Region) × (set r ≡ true) × (coversGuest v r ≡ true) × CoversPhys r x)
 
-abbrev pub ZoneIsolated : Type 0
-ZoneIsolated = (s : StoredConfig) (t : List Zone) → SoundUnder s t → (zid : ℕ) (zone : GhostZone) (v : ℕ) → stateOf t zid ≡ some zone → contains-vaddr (zone .cpu-mem-set) v → Isolated t zid Cpu (zone .cpu-mem-set) v
+abbrev pub ZoneIsolated : Limits → Type 0
+ZoneIsolated l = (s : StoredConfig) (t : List Zone) → SoundUnder l s t → (zid : ℕ) (zone : GhostZone) (v : ℕ) → stateOf t zid ≡ some zone → contains-vaddr (zone .cpu-mem-set) v → Isolated t zid Cpu (zone .cpu-mem-set) v
 
-abbrev pub IommuZoneIsolated : Type 0
-IommuZoneIsolated = (s : StoredConfig) (t : List Zone) → SoundUnder s t → (zid : ℕ) (zone : GhostZone) (v : ℕ) → stateOf t zid ≡ some zone → contains-vaddr (zone .iommu-mem-set) v → Isolated t zid Iommu (zone .iommu-mem-set) v
+abbrev pub IommuZoneIsolated : Limits → Type 0
+IommuZoneIsolated l = (s : StoredConfig) (t : List Zone) → SoundUnder l s t → (zid : ℕ) (zone : GhostZone) (v : ℕ) → stateOf t zid ≡ some zone → contains-vaddr (zone .iommu-mem-set) v → Isolated t zid Iommu (zone .iommu-mem-set) v

@@ -6,11 +6,12 @@ use rules::limits::PHYS_REACH;
 ghost use Prim.Native.Nat.{_+_};
 ghost use mathlib.Core.Path.{_≡_};
 ghost use lib.Dec.{leb};
+ghost use Rattle.rules.specs.Limits.{limits};
 ghost use Rattle.rules.specs.Addresses.{overlaps};
 ghost use Rattle.rules.specs.Regions.{wellFormed, inReach, regionEq, physOverlap, guestOverlap};
 
 pub fn well_formed(r: Region) -> bool
-    ensures { λ b. ⌜ b ≡ wellFormed r ⌝ }
+    ensures { λ b. ⌜ b ≡ wellFormed (limits .page) r ⌝ }
 {
     if r.size == 0 {
         return false;
@@ -25,7 +26,7 @@ pub fn well_formed(r: Region) -> bool
 }
 
 pub fn in_reach(r: Region) -> bool
-    ensures { λ b. ⌜ b ≡ inReach r ⌝ }
+    ensures { λ b. ⌜ b ≡ inReach limits r ⌝ }
 {
     if !ends_by(r.v.0, r.size, GUEST_REACH) {
         return false;

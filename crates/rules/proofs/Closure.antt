@@ -17,6 +17,7 @@ use Rattle.lists.proofs.Every.{all-at, none-make, none-others-make, any-append,
 use Rattle.lists.proofs.First.{any-first, first-passes}
 use Rattle.lists.proofs.Pairs.{pairs-at}
 use Rattle.lists.proofs.Tests.{both-true, both-false, holds-or-fails, false-of, parts}
+use Rattle.rules.specs.Limits.{Limits}
 use Rattle.rules.specs.Changes.{added, dropped}
 use Rattle.rules.specs.Closure.{insert-region, remove-region-exact, map-insert, map-remove, ghostOf, stateOf, GhostZone}
 use Rattle.rules.specs.Configuration.{Configuration}
@@ -113,37 +114,38 @@ pub held-pushed : (xs : List Region) (r : Region) → (λ (x : Region). heldIn x
 unfolding any
 held-pushed xs r = fun-ext (λ x. any-append (regionEq x) xs (r ∷ []) ∙ ap (λ (b : Bool). heldIn x xs || b) (or-false (regionEq x r)))
 
--- one less: in a set whose regions are configured and apart each stands once
-module _ (c : Configuration) (ok : SoundConfiguration c) (xs : List Region) (sound-set : soundSet c xs ≡ true) (r : Region) (there : heldIn r xs ≡ true) where
-  i : ℕ
-  i = firstIndex (regionEq r) xs
+module _ (lim : Limits) where
+  -- one less: in a set whose regions are configured and apart each stands once
+  module _ (c : Configuration) (ok : SoundConfiguration lim c) (xs : List Region) (sound-set : soundSet lim c xs ≡ true) (r : Region) (there : heldIn r xs ≡ true) where
+    i : ℕ
+    i = firstIndex (regionEq r) xs
 
-  inside : i < length xs
-  unfolding i
-  inside = ltb-true _ _ (sym (any-first (regionEq r) xs) ∙ there)
+    inside : i < length xs
+    unfolding i
+    inside = ltb-true _ _ (sym (any-first (regionEq r) xs) ∙ there)
 
-  here : r ≡ getD xs i noRegion
-  unfolding i
-  here = equal-same r (getD xs (firstIndex (regionEq r) xs) noRegion) (first-passes (regionEq r) xs noRegion inside)
+    here : r ≡ getD xs i noRegion
+    unfolding i
+    here = equal-same r (getD xs (firstIndex (regionEq r) xs) noRegion) (first-passes (regionEq r) xs noRegion inside)
 
-  apart : (j k : ℕ) → j < k → k < length xs → getD xs j noRegion ≡ getD xs k noRegion → ⊥
-  unfolding soundSet
-  apart j k h l e =
-      let p = parts _ sound-set in
-      true≢false
-      (sym (guest-overlaps-itself c ok (getD xs j noRegion) (all-at (configured c) xs noRegion (p .1 .0) j (omega arith)))
-      ∙ ap (guestOverlap (getD xs j noRegion)) e ∙ not-true _ (pairs-at guestApart xs noRegion (p .1 .1 .0) j k h l))
+    apart : (j k : ℕ) → j < k → k < length xs → getD xs j noRegion ≡ getD xs k noRegion → ⊥
+    unfolding soundSet
+    apart j k h l e =
+        let p = parts _ sound-set in
+        true≢false
+        (sym (guest-overlaps-itself lim c ok (getD xs j noRegion) (all-at (configured c) xs noRegion (p .1 .0) j (omega arith)))
+        ∙ ap (guestOverlap (getD xs j noRegion)) e ∙ not-true _ (pairs-at guestApart xs noRegion (p .1 .1 .0) j k h l))
 
-  once : any (regionEq r) (removeAt i xs) ≡ false
-  once =
-      none-others-make (regionEq r) xs i noRegion
-      (λ j h ne. false-of _ (λ e. let s : getD xs i noRegion ≡ getD xs j noRegion = sym here ∙ equal-same r _ e in elim (decLt i j) [ yes l ↦ apart i j l h s | no l ↦ apart j i (omega arith) inside (sym s) ]))
+    once : any (regionEq r) (removeAt i xs) ≡ false
+    once =
+        none-others-make (regionEq r) xs i noRegion
+        (λ j h ne. false-of _ (λ e. let s : getD xs i noRegion ≡ getD xs j noRegion = sym here ∙ equal-same r _ e in elim (decLt i j) [ yes l ↦ apart i j l h s | no l ↦ apart j i (omega arith) inside (sym s) ]))
 
-  pub held-cut : (λ (x : Region). heldIn x (removeAt (firstIndex (regionEq r) xs) xs)) ≡ remove-region-exact (λ x. heldIn x xs) r
-  unfolding i
-  held-cut =
-      fun-ext (λ x. by x (regionEq x r) refl ∙ ap (λ (b : Bool). b && not (regionEq x r)) (sym (any-split (regionEq x) xs i noRegion inside ∙ ap (λ (y : Region). regionEq x y || any (regionEq x) (removeAt i xs)) (sym here))))
-    where
-      by : (x : Region) (b : Bool) → regionEq x r ≡ b → any (regionEq x) (removeAt i xs) ≡ ((b || any (regionEq x) (removeAt i xs)) && not b)
-      by x true e = ap (λ (y : Region). any (regionEq y) (removeAt i xs)) (equal-same x r e) ∙ once
-      by x false e = sym (and-true _)
+    pub held-cut : (λ (x : Region). heldIn x (removeAt (firstIndex (regionEq r) xs) xs)) ≡ remove-region-exact (λ x. heldIn x xs) r
+    unfolding i
+    held-cut =
+        fun-ext (λ x. by x (regionEq x r) refl ∙ ap (λ (b : Bool). b && not (regionEq x r)) (sym (any-split (regionEq x) xs i noRegion inside ∙ ap (λ (y : Region). regionEq x y || any (regionEq x) (removeAt i xs)) (sym here))))
+      where
+        by : (x : Region) (b : Bool) → regionEq x r ≡ b → any (regionEq x) (removeAt i xs) ≡ ((b || any (regionEq x) (removeAt i xs)) && not b)
+        by x true e = ap (λ (y : Region). any (regionEq y) (removeAt i xs)) (equal-same x r e) ∙ once
+        by x false e = sym (and-true _)

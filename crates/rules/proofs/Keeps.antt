@@ -20,8 +20,8 @@ use Rattle.lists.proofs.Runs.{run-keeps}
 use Rattle.lists.proofs.Tests.{both-false, false-both, not-fails, parts, whole}
 use Rattle.rules.specs.Changes.{setAt, withSide, putSet, added, pushed, cut, dropped}
 use Rattle.rules.specs.Configuration.{gicOf, Configuration}
-use Rattle.rules.specs.Limits.{mostZones, highestId, mostInSet}
-use Rattle.rules.specs.Regions.{regionEq, physOverlap, guestOverlap, noRegion}
+use Rattle.rules.specs.Limits.{highestId, Limits, pageOf}
+use Rattle.rules.specs.Regions.{wellFormed, regionEq, physOverlap, guestOverlap, noRegion}
 use Rattle.rules.specs.Requests.{find, present, heldIn, onGic, forbidden, addRules, removeZoneRules, regionRules, setRules, insertRules, removeRules, kindRules, noRequest, requestRules, refusal, after, next}
 use Rattle.rules.specs.Tables.{emptyZone, noZone, sideOf, hasId, regionsOf, configured, guestApart, offGic, clash, soundSet, soundZone, idsDiffer, zonesApart, sound, Zone}
 use Rattle.rules.specs.declared.Kind.{Kind}
@@ -32,28 +32,6 @@ use Rattle.rules.specs.declared.Side.{Side}
 use Rattle.rules.specs.declared.Side.the-variants.{Cpu, Iommu}
 use Rattle.rules.proofs.Addresses.{overlap-symmetric}
 use Rattle.rules.proofs.Requests.{none-applies}
-
--- ---- a sound table, part by part
-pub record SoundTable (c : Configuration) (t : List Zone) : Type 0 where
-  pub few : length t ≤ mostZones
-  pub zones : all (soundZone c) t ≡ true
-  pub ids : pairwise idsDiffer t ≡ true
-  pub disjoint : pairwise (zonesApart c) t ≡ true
-
-module _ (c : Configuration) (t : List Zone) where
-  pub sound-parts : sound c t ≡ true → SoundTable c t
-  unfolding sound
-  sound-parts e = let h = parts _ e in record { few = leb-true _ _ (h .0); zones = h .1 .0; ids = h .1 .1 .0; disjoint = h .1 .1 .1 .0 }
-
-  pub parts-sound : SoundTable c t → sound c t ≡ true
-  unfolding sound
-  parts-sound s = whole _ (le-leb _ _ (s .few), (s .zones, (s .ids, (s .disjoint, tt))))
-
--- the set of a zone of a sound table
-pub set-sound : (c : Configuration) (t : List Zone) → SoundTable c t → (z : ℕ) (s : Side) → z < length t → soundSet c (setAt t z s) ≡ true
-unfolding soundZone setAt sideOf
-set-sound c t ok z Cpu h = parts _ (all-at (soundZone c) t noZone (ok .zones) z h) .1 .0
-set-sound c t ok z Iommu h = parts _ (all-at (soundZone c) t noZone (ok .zones) z h) .1 .1 .0
 
 -- ---- clashes go both ways, and there is none without an overlap
 pub clash-symmetric : (c : Configuration) (a b : Region) → clash c a b ≡ clash c b a
@@ -75,16 +53,6 @@ clear-clash c a b e = rw e (last (not (regionEq a (gicOf c))) (not (regionEq b (
     last true false = refl
     last false y = refl
 
--- ---- one more region in a set
-set-pushed : (c : Configuration) (xs : List Region) (r : Region) → soundSet c xs ≡ true → configured c r ≡ true → any (guestOverlap r) xs ≡ false → leb mostInSet (length xs) ≡ false → soundSet c (xs ++ r ∷ []) ≡ true
-unfolding soundSet
-set-pushed c xs r e conf guest room =
-    let h = parts _ e in
-    let few : length xs < mostInSet = leb-false _ _ room in
-    let len : length (xs ++ r ∷ []) ≤ mostInSet = omega (arith, length-append xs (r ∷ [])) in
-    let apart : all (λ (x : Region). guestApart x r) xs ≡ true = all-same _ _ (λ x. ap not (overlap-symmetric _ _ _ _)) xs ∙ sym (none-all (guestOverlap r) xs) ∙ ap not guest in
-    whole _ (le-leb _ _ len, (all-append (configured c) xs (r ∷ []) (h .1 .0) (all-one (configured c) r conf), (pairs-append guestApart xs r (h .1 .1 .0) apart, tt)))
-
 -- a test that every region of a zone passes, after one more is pushed and after one is cut
 all-pushed : (p : Region → Bool) (s : Side) (z : Zone) (r : Region) → all p (regionsOf z) ≡ true → p r ≡ true → all p (regionsOf (withSide s (sideOf s z ++ r ∷ []) z)) ≡ true
 unfolding withSide sideOf
@@ -101,29 +69,6 @@ unfolding withSide
 id-kept Cpu xs z = refl
 id-kept Iommu xs z = refl
 
-zone-pushed : (c : Configuration) (s : Side) (z : Zone) (r : Region) → soundZone c z ≡ true → configured c r ≡ true → onGic c s r ≡ false → any (guestOverlap r) (sideOf s z) ≡ false → leb mostInSet (length (sideOf s z)) ≡ false → soundZone c (withSide s (sideOf s z ++ r ∷ []) z) ≡ true
-unfolding soundZone withSide sideOf onGic
-zone-pushed c Cpu z r e conf gic guest room =
-    let h = parts _ e in
-    whole _ (h .0, (set-pushed c (z .cpu) r (h .1 .0) conf guest room, (h .1 .1 .0, (all-append (offGic c) (z .cpu) (r ∷ []) (h .1 .1 .1 .0) (all-one (offGic c) r (not-fails _ gic)), tt))))
-zone-pushed c Iommu z r e conf gic guest room =
-    let h = parts _ e in
-    whole _ (h .0, (h .1 .0, (set-pushed c (z .iommu) r (h .1 .1 .0) conf guest room, (h .1 .1 .1 .0, tt))))
-
--- ---- one region less
-set-cut : (c : Configuration) (xs : List Region) (m : ℕ) → m < length xs → soundSet c xs ≡ true → soundSet c (removeAt m xs) ≡ true
-unfolding soundSet
-set-cut c xs m lt e =
-    let h = parts _ e in
-    let few : length xs ≤ mostInSet = leb-true _ _ (h .0) in
-    let fewer : length (removeAt m xs) ≤ mostInSet = omega (arith, length-removed xs m lt) in
-    whole _ (le-leb _ _ fewer, (all-removed (configured c) xs m (h .1 .0), (pairs-removed guestApart xs m (h .1 .1 .0), tt)))
-
-zone-cut : (c : Configuration) (s : Side) (z : Zone) (m : ℕ) → m < length (sideOf s z) → soundZone c z ≡ true → soundZone c (withSide s (removeAt m (sideOf s z)) z) ≡ true
-unfolding soundZone withSide sideOf
-zone-cut c Cpu z m lt e = let h = parts _ e in whole _ (h .0, (set-cut c (z .cpu) m lt (h .1 .0), (h .1 .1 .0, (all-removed (offGic c) (z .cpu) m (h .1 .1 .1 .0), tt))))
-zone-cut c Iommu z m lt e = let h = parts _ e in whole _ (h .0, (h .1 .0, (set-cut c (z .iommu) m lt (h .1 .1 .0), (h .1 .1 .1 .0, tt))))
-
 -- ---- 14 does not apply: r clashes with no region of another zone
 others-clear : (c : Configuration) (k : ℕ) (s : Side) (r : Region) (t : List Zone) → forbidden c k s r t ≡ false → (j : ℕ) → j < length t → (j ≡ k → ⊥) → any (clash c r) (regionsOf (getD t j noZone)) ≡ false
 unfolding forbidden
@@ -136,103 +81,159 @@ others-clear c k Cpu r t e j h ne =
     none-make (clash c r) (regionsOf z) noRegion (λ i l. clear-clash c r _ (none-at (physOverlap r) (regionsOf z) noRegion clear i l))
 others-clear c k Iommu r t e j h ne = none-others (λ (y : Zone). any (clash c r) (regionsOf y)) t k noZone e j h ne
 
--- ---- another zone in the place of zone k, with its id
-module _ (c : Configuration) (t : List Zone) (k : ℕ) (kin : k < length t) (ok : SoundTable c t) (new : Zone) (same : new .id ≡ getD t k noZone .id) (fine : soundZone c new ≡ true)
-    (earlier : (j : ℕ) → j < length t → j < k → zonesApart c (getD t j noZone) new ≡ true)
-    (later : (j : ℕ) → j < length t → k < j → zonesApart c new (getD t j noZone) ≡ true) where
-  replace-keeps : SoundTable c (set t k new)
-  replace-keeps = record {
-    few = rw (length-set t k new) (ok .few);
-    zones = all-set (soundZone c) t k new (ok .zones) fine;
-    ids = pairs-set idsDiffer t k new noZone (ok .ids) (λ j h q. rw same (pairs-at idsDiffer t noZone (ok .ids) j k q kin)) (λ j h q. rw same (pairs-at idsDiffer t noZone (ok .ids) k j q h));
-    disjoint = pairs-set (zonesApart c) t k new noZone (ok .disjoint) earlier later;
-  }
-
-module _ (c : Configuration) (t : List Zone) (k : ℕ) (s : Side) (r : Region) (kin : k < length t) (ok : SoundTable c t) where
-  here : Zone
-  here = getD t k noZone
-
-  here-sound : soundZone c here ≡ true
-  unfolding here
-  here-sound = all-at (soundZone c) t noZone (ok .zones) k kin
-
-  apart-at : (i j : ℕ) → i < j → j < length t → zonesApart c (getD t i noZone) (getD t j noZone) ≡ true
-  apart-at = pairs-at (zonesApart c) t noZone (ok .disjoint)
-
-  -- an accepted insert
-  pub insert-keeps : configured c r ≡ true → onGic c s r ≡ false → forbidden c k s r t ≡ false → any (guestOverlap r) (setAt t k s) ≡ false → leb mostInSet (length (setAt t k s)) ≡ false → SoundTable c (pushed k s r t)
-  unfolding pushed putSet setAt zonesApart here
-  insert-keeps conf gic forb guest room =
-      let z : Zone = here in
-      let new : Zone = withSide s (sideOf s z ++ r ∷ []) z in
-      replace-keeps c t k kin ok new (id-kept s (sideOf s z ++ r ∷ []) z) (zone-pushed c s z r here-sound conf gic guest room)
-      (λ j h q. all-from (λ (a : Region). not (any (clash c a) (regionsOf z))) (λ (a : Region). not (clash c r a)) (λ (a : Region). not (any (clash c a) (regionsOf new)))
-      (λ a x y. none-all (clash c a) (regionsOf new) ∙ all-pushed (λ (b : Region). not (clash c a b)) s z r (sym (none-all (clash c a) (regionsOf z)) ∙ x) (ap not (clash-symmetric c a r) ∙ y))
-      (regionsOf (getD t j noZone)) (apart-at j k q kin) (sym (none-all (clash c r) (regionsOf (getD t j noZone))) ∙ ap not (others-clear c k s r t forb j h (omega arith))))
-      (λ j h q. all-pushed (λ (a : Region). not (any (clash c a) (regionsOf (getD t j noZone)))) s z r (apart-at k j q h) (ap not (others-clear c k s r t forb j h (omega arith))))
-
-  -- an accepted removal
-  pub remove-keeps : heldIn r (setAt t k s) ≡ true → SoundTable c (cut k s (firstIndex (regionEq r) (setAt t k s)) t)
-  unfolding cut putSet setAt zonesApart here
-  remove-keeps there =
-      let z : Zone = here in
-      let m : ℕ = firstIndex (regionEq r) (sideOf s z) in
-      let new : Zone = withSide s (removeAt m (sideOf s z)) z in
-      let inside : m < length (sideOf s z) = ltb-true _ _ (sym (any-first (regionEq r) (sideOf s z)) ∙ there) in
-      replace-keeps c t k kin ok new (id-kept s (removeAt m (sideOf s z)) z) (zone-cut c s z m inside here-sound)
-      (λ j h q. let old : Region → Bool = λ a. not (any (clash c a) (regionsOf z)) in
-      all-from old old (λ (a : Region). not (any (clash c a) (regionsOf new)))
-      (λ a x y. none-all (clash c a) (regionsOf new) ∙ all-cut (λ (b : Region). not (clash c a b)) s z m (sym (none-all (clash c a) (regionsOf z)) ∙ x)) (regionsOf (getD t j noZone)) (apart-at j k q kin) (apart-at j k q kin))
-      (λ j h q. all-cut (λ (a : Region). not (any (clash c a) (regionsOf (getD t j noZone)))) s z m (apart-at k j q h))
-
--- ---- zones come and go
-pub remove-zone-keeps : (c : Configuration) (t : List Zone) (k : ℕ) → k < length t → SoundTable c t → SoundTable c (dropped k t)
-unfolding dropped
-remove-zone-keeps c t k h s = record {
-  few = omega (arith, length-removed t k h, s .few);
-  zones = all-removed (soundZone c) t k (s .zones);
-  ids = pairs-removed idsDiffer t k (s .ids);
-  disjoint = pairs-removed (zonesApart c) t k (s .disjoint);
-}
-
-pub add-keeps : (c : Configuration) (t : List Zone) (id : ℕ) → id ≤ highestId → length t < mostZones → present id t ≡ false → SoundTable c t → SoundTable c (added id t)
-unfolding added soundZone soundSet zonesApart all any pairwise
-add-keeps c t id h room fresh s = record {
-  few = omega (arith, length-append t (emptyZone id ∷ []));
-  zones = all-append (soundZone c) t (emptyZone id ∷ []) (s .zones) (all-one (soundZone c) (emptyZone id) (whole _ (le-leb _ _ h, (whole _ (refl, (refl, (refl, tt))), (whole _ (refl, (refl, (refl, tt))), (refl, tt))))));
-  ids = pairs-append idsDiffer t (emptyZone id) (s .ids) (sym (none-all (hasId id) t) ∙ ap not fresh);
-  disjoint = pairs-append (zonesApart c) t (emptyZone id) (s .disjoint) (all-make (λ (y : Zone). zonesApart c y (emptyZone id)) t noZone (λ j q. all-make _ (regionsOf (getD t j noZone)) noRegion (λ m w. refl)));
-}
-
 -- ---- any step
 found : (id : ℕ) (t : List Zone) → present id t ≡ true → find id t < length t
 found id t e = ltb-true _ _ (sym (any-first (hasId id) t) ∙ e)
 
-accepted-keeps : (c : Configuration) (t : List Zone) (k : Kind) (id : ℕ) → SoundTable c t → firstRule (requestRules c k id t) 0 ≡ 0 → SoundTable c (after k id t)
-unfolding after requestRules kindRules addRules removeZoneRules insertRules regionRules setRules removeRules noRequest
-accepted-keeps c t AddZone id s e =
-    let h = none-applies c AddZone id t e in
-    add-keeps c t id (ltb-false _ _ (h .1 .0)) (leb-false _ _ (h .1 .1 .1 .0)) (h .1 .1 .0) s
-accepted-keeps c t RemoveZone id s e =
-    let h = none-applies c RemoveZone id t e in
-    remove-zone-keeps c t (find id t) (found id t (not-false _ (h .1 .1 .0))) s
-accepted-keeps c t (Insert side r) id s e =
-    let h = none-applies c (Insert side r) id t e in
-    let w = h .1 .1 .1 .1 .1 in
-    insert-keeps c t (find id t) side r (found id t (not-false _ (h .1 .1 .0))) s (not-false _ (w .0)) (w .1 .0) (w .1 .1 .1 .0) (w .1 .1 .1 .1 .0) (w .1 .1 .1 .1 .1 .0)
-accepted-keeps c t (Remove side r) id s e =
-    let h = none-applies c (Remove side r) id t e in
-    remove-keeps c t (find id t) side r (found id t (not-false _ (h .1 .1 .0))) s (not-false _ (h .1 .1 .1 .0))
-accepted-keeps c t NoRequest id s e = s
+module _ (lim : Limits) where
+  -- ---- a sound table, part by part
+  pub record SoundTable (c : Configuration) (t : List Zone) : Type 0 where
+    pub few : length t ≤ lim .zones
+    pub zones : all (soundZone lim c) t ≡ true
+    pub ids : pairwise idsDiffer t ≡ true
+    pub disjoint : pairwise (zonesApart c) t ≡ true
 
-pub next-keeps : (c : Configuration) (t : List Zone) (q : Request) → SoundTable c t → SoundTable c (next c t q)
-unfolding next refusal
-next-keeps c t q s = by (eqb (firstRule (requestRules c (q .kind) (q .zone) t) 0) 0) refl
-  where
-    by : (b : Bool) → eqb (firstRule (requestRules c (q .kind) (q .zone) t) 0) 0 ≡ b → SoundTable c (cond b (after (q .kind) (q .zone) t) t)
-    by true e = accepted-keeps c t (q .kind) (q .zone) s (eqb-true _ _ e)
-    by false e = s
+  module _ (c : Configuration) (t : List Zone) where
+    pub sound-parts : sound lim c t ≡ true → SoundTable c t
+    unfolding sound
+    sound-parts e = let h = parts _ e in record { few = leb-true _ _ (h .0); zones = h .1 .0; ids = h .1 .1 .0; disjoint = h .1 .1 .1 .0 }
 
--- ---- and so any run
-pub runs-keep : (c : Configuration) (t : List Zone) (qs : List Request) → SoundTable c t → SoundTable c (runs (next c) t qs)
-runs-keep c t qs s = run-keeps (next c) (SoundTable c) (next-keeps c) t qs s
+    pub parts-sound : SoundTable c t → sound lim c t ≡ true
+    unfolding sound
+    parts-sound s = whole _ (le-leb _ _ (s .few), (s .zones, (s .ids, (s .disjoint, tt))))
+
+  -- the set of a zone of a sound table
+  pub set-sound : (c : Configuration) (t : List Zone) → SoundTable c t → (z : ℕ) (s : Side) → z < length t → soundSet lim c (setAt t z s) ≡ true
+  unfolding soundZone setAt sideOf
+  set-sound c t ok z Cpu h = parts _ (all-at (soundZone lim c) t noZone (ok .zones) z h) .1 .0
+  set-sound c t ok z Iommu h = parts _ (all-at (soundZone lim c) t noZone (ok .zones) z h) .1 .1 .0
+
+  -- ---- one more region in a set
+  set-pushed : (c : Configuration) (xs : List Region) (r : Region) → soundSet lim c xs ≡ true → configured c r ≡ true → any (guestOverlap r) xs ≡ false → leb (lim .inSet) (length xs) ≡ false → soundSet lim c (xs ++ r ∷ []) ≡ true
+  unfolding soundSet
+  set-pushed c xs r e conf guest room =
+      let h = parts _ e in
+      let few : length xs < lim .inSet = leb-false _ _ room in
+      let len : length (xs ++ r ∷ []) ≤ lim .inSet = omega (arith, length-append xs (r ∷ [])) in
+      let apart : all (λ (x : Region). guestApart x r) xs ≡ true = all-same _ _ (λ x. ap not (overlap-symmetric _ _ _ _)) xs ∙ sym (none-all (guestOverlap r) xs) ∙ ap not guest in
+      whole _ (le-leb _ _ len, (all-append (configured c) xs (r ∷ []) (h .1 .0) (all-one (configured c) r conf), (pairs-append guestApart xs r (h .1 .1 .0) apart, tt)))
+
+  zone-pushed : (c : Configuration) (s : Side) (z : Zone) (r : Region) → soundZone lim c z ≡ true → wellFormed (pageOf lim s) r ≡ true → configured c r ≡ true → onGic c s r ≡ false → any (guestOverlap r) (sideOf s z) ≡ false → leb (lim .inSet) (length (sideOf s z)) ≡ false → soundZone lim c (withSide s (sideOf s z ++ r ∷ []) z) ≡ true
+  unfolding soundZone withSide sideOf onGic pageOf
+  zone-pushed c Cpu z r e formed conf gic guest room =
+      let h = parts _ e in
+      whole _ (h .0, (set-pushed c (z .cpu) r (h .1 .0) conf guest room, (h .1 .1 .0, (all-append (offGic c) (z .cpu) (r ∷ []) (h .1 .1 .1 .0) (all-one (offGic c) r (not-fails _ gic)), (h .1 .1 .1 .1 .0, tt)))))
+  zone-pushed c Iommu z r e formed conf gic guest room =
+      let h = parts _ e in
+      whole _ (h .0, (h .1 .0, (set-pushed c (z .iommu) r (h .1 .1 .0) conf guest room, (h .1 .1 .1 .0, (all-append (wellFormed (lim .iommuPage)) (z .iommu) (r ∷ []) (h .1 .1 .1 .1 .0) (all-one (wellFormed (lim .iommuPage)) r formed), tt)))))
+
+  -- ---- one region less
+  set-cut : (c : Configuration) (xs : List Region) (m : ℕ) → m < length xs → soundSet lim c xs ≡ true → soundSet lim c (removeAt m xs) ≡ true
+  unfolding soundSet
+  set-cut c xs m lt e =
+      let h = parts _ e in
+      let few : length xs ≤ lim .inSet = leb-true _ _ (h .0) in
+      let fewer : length (removeAt m xs) ≤ lim .inSet = omega (arith, length-removed xs m lt) in
+      whole _ (le-leb _ _ fewer, (all-removed (configured c) xs m (h .1 .0), (pairs-removed guestApart xs m (h .1 .1 .0), tt)))
+
+  zone-cut : (c : Configuration) (s : Side) (z : Zone) (m : ℕ) → m < length (sideOf s z) → soundZone lim c z ≡ true → soundZone lim c (withSide s (removeAt m (sideOf s z)) z) ≡ true
+  unfolding soundZone withSide sideOf
+  zone-cut c Cpu z m lt e = let h = parts _ e in whole _ (h .0, (set-cut c (z .cpu) m lt (h .1 .0), (h .1 .1 .0, (all-removed (offGic c) (z .cpu) m (h .1 .1 .1 .0), (h .1 .1 .1 .1 .0, tt)))))
+  zone-cut c Iommu z m lt e = let h = parts _ e in whole _ (h .0, (h .1 .0, (set-cut c (z .iommu) m lt (h .1 .1 .0), (h .1 .1 .1 .0, (all-removed (wellFormed (lim .iommuPage)) (z .iommu) m (h .1 .1 .1 .1 .0), tt)))))
+
+  -- ---- another zone in the place of zone k, with its id
+  module _ (c : Configuration) (t : List Zone) (k : ℕ) (kin : k < length t) (ok : SoundTable c t) (new : Zone) (same : new .id ≡ getD t k noZone .id) (fine : soundZone lim c new ≡ true)
+      (earlier : (j : ℕ) → j < length t → j < k → zonesApart c (getD t j noZone) new ≡ true)
+      (later : (j : ℕ) → j < length t → k < j → zonesApart c new (getD t j noZone) ≡ true) where
+    replace-keeps : SoundTable c (set t k new)
+    replace-keeps = record {
+      few = rw (length-set t k new) (ok .few);
+      zones = all-set (soundZone lim c) t k new (ok .zones) fine;
+      ids = pairs-set idsDiffer t k new noZone (ok .ids) (λ j h q. rw same (pairs-at idsDiffer t noZone (ok .ids) j k q kin)) (λ j h q. rw same (pairs-at idsDiffer t noZone (ok .ids) k j q h));
+      disjoint = pairs-set (zonesApart c) t k new noZone (ok .disjoint) earlier later;
+    }
+
+  module _ (c : Configuration) (t : List Zone) (k : ℕ) (s : Side) (r : Region) (kin : k < length t) (ok : SoundTable c t) where
+    here : Zone
+    here = getD t k noZone
+
+    here-sound : soundZone lim c here ≡ true
+    unfolding here
+    here-sound = all-at (soundZone lim c) t noZone (ok .zones) k kin
+
+    apart-at : (i j : ℕ) → i < j → j < length t → zonesApart c (getD t i noZone) (getD t j noZone) ≡ true
+    apart-at = pairs-at (zonesApart c) t noZone (ok .disjoint)
+
+    -- an accepted insert
+    pub insert-keeps : wellFormed (pageOf lim s) r ≡ true → configured c r ≡ true → onGic c s r ≡ false → forbidden c k s r t ≡ false → any (guestOverlap r) (setAt t k s) ≡ false → leb (lim .inSet) (length (setAt t k s)) ≡ false → SoundTable c (pushed k s r t)
+    unfolding pushed putSet setAt zonesApart here
+    insert-keeps formed conf gic forb guest room =
+        let z : Zone = here in
+        let new : Zone = withSide s (sideOf s z ++ r ∷ []) z in
+        replace-keeps c t k kin ok new (id-kept s (sideOf s z ++ r ∷ []) z) (zone-pushed c s z r here-sound formed conf gic guest room)
+        (λ j h q. all-from (λ (a : Region). not (any (clash c a) (regionsOf z))) (λ (a : Region). not (clash c r a)) (λ (a : Region). not (any (clash c a) (regionsOf new)))
+        (λ a x y. none-all (clash c a) (regionsOf new) ∙ all-pushed (λ (b : Region). not (clash c a b)) s z r (sym (none-all (clash c a) (regionsOf z)) ∙ x) (ap not (clash-symmetric c a r) ∙ y))
+        (regionsOf (getD t j noZone)) (apart-at j k q kin) (sym (none-all (clash c r) (regionsOf (getD t j noZone))) ∙ ap not (others-clear c k s r t forb j h (omega arith))))
+        (λ j h q. all-pushed (λ (a : Region). not (any (clash c a) (regionsOf (getD t j noZone)))) s z r (apart-at k j q h) (ap not (others-clear c k s r t forb j h (omega arith))))
+
+    -- an accepted removal
+    pub remove-keeps : heldIn r (setAt t k s) ≡ true → SoundTable c (cut k s (firstIndex (regionEq r) (setAt t k s)) t)
+    unfolding cut putSet setAt zonesApart here
+    remove-keeps there =
+        let z : Zone = here in
+        let m : ℕ = firstIndex (regionEq r) (sideOf s z) in
+        let new : Zone = withSide s (removeAt m (sideOf s z)) z in
+        let inside : m < length (sideOf s z) = ltb-true _ _ (sym (any-first (regionEq r) (sideOf s z)) ∙ there) in
+        replace-keeps c t k kin ok new (id-kept s (removeAt m (sideOf s z)) z) (zone-cut c s z m inside here-sound)
+        (λ j h q. let old : Region → Bool = λ a. not (any (clash c a) (regionsOf z)) in
+        all-from old old (λ (a : Region). not (any (clash c a) (regionsOf new)))
+        (λ a x y. none-all (clash c a) (regionsOf new) ∙ all-cut (λ (b : Region). not (clash c a b)) s z m (sym (none-all (clash c a) (regionsOf z)) ∙ x)) (regionsOf (getD t j noZone)) (apart-at j k q kin) (apart-at j k q kin))
+        (λ j h q. all-cut (λ (a : Region). not (any (clash c a) (regionsOf (getD t j noZone)))) s z m (apart-at k j q h))
+
+  -- ---- zones come and go
+  pub remove-zone-keeps : (c : Configuration) (t : List Zone) (k : ℕ) → k < length t → SoundTable c t → SoundTable c (dropped k t)
+  unfolding dropped
+  remove-zone-keeps c t k h s = record {
+    few = omega (arith, length-removed t k h, s .few);
+    zones = all-removed (soundZone lim c) t k (s .zones);
+    ids = pairs-removed idsDiffer t k (s .ids);
+    disjoint = pairs-removed (zonesApart c) t k (s .disjoint);
+  }
+
+  pub add-keeps : (c : Configuration) (t : List Zone) (id : ℕ) → id ≤ highestId → length t < lim .zones → present id t ≡ false → SoundTable c t → SoundTable c (added id t)
+  unfolding added soundZone soundSet zonesApart all any pairwise
+  add-keeps c t id h room fresh s = let none : leb 0 (lim .inSet) ≡ true = le-leb 0 (lim .inSet) (omega arith) in record {
+    few = omega (arith, length-append t (emptyZone id ∷ []));
+    zones = all-append (soundZone lim c) t (emptyZone id ∷ []) (s .zones) (all-one (soundZone lim c) (emptyZone id) (whole _ (le-leb _ _ h, (whole _ (none, (refl, (refl, tt))), (whole _ (none, (refl, (refl, tt))), (refl, (refl, tt)))))));
+    ids = pairs-append idsDiffer t (emptyZone id) (s .ids) (sym (none-all (hasId id) t) ∙ ap not fresh);
+    disjoint = pairs-append (zonesApart c) t (emptyZone id) (s .disjoint) (all-make (λ (y : Zone). zonesApart c y (emptyZone id)) t noZone (λ j q. all-make _ (regionsOf (getD t j noZone)) noRegion (λ m w. refl)));
+  }
+
+  accepted-keeps : (c : Configuration) (t : List Zone) (k : Kind) (id : ℕ) → SoundTable c t → firstRule (requestRules lim c k id t) 0 ≡ 0 → SoundTable c (after k id t)
+  unfolding after requestRules kindRules addRules removeZoneRules insertRules regionRules setRules removeRules noRequest
+  accepted-keeps c t AddZone id s e =
+      let h = none-applies lim c AddZone id t e in
+      add-keeps c t id (ltb-false _ _ (h .1 .0)) (leb-false _ _ (h .1 .1 .1 .0)) (h .1 .1 .0) s
+  accepted-keeps c t RemoveZone id s e =
+      let h = none-applies lim c RemoveZone id t e in
+      remove-zone-keeps c t (find id t) (found id t (not-false _ (h .1 .1 .0))) s
+  accepted-keeps c t (Insert side r) id s e =
+      let h = none-applies lim c (Insert side r) id t e in
+      let w = h .1 .1 .1 .1 .1 in
+      insert-keeps c t (find id t) side r (found id t (not-false _ (h .1 .1 .0))) s (not-false _ (h .1 .1 .1 .0)) (not-false _ (w .0)) (w .1 .0) (w .1 .1 .1 .0) (w .1 .1 .1 .1 .0) (w .1 .1 .1 .1 .1 .0)
+  accepted-keeps c t (Remove side r) id s e =
+      let h = none-applies lim c (Remove side r) id t e in
+      remove-keeps c t (find id t) side r (found id t (not-false _ (h .1 .1 .0))) s (not-false _ (h .1 .1 .1 .0))
+  accepted-keeps c t NoRequest id s e = s
+
+  pub next-keeps : (c : Configuration) (t : List Zone) (q : Request) → SoundTable c t → SoundTable c (next lim c t q)
+  unfolding next refusal
+  next-keeps c t q s = by (eqb (firstRule (requestRules lim c (q .kind) (q .zone) t) 0) 0) refl
+    where
+      by : (b : Bool) → eqb (firstRule (requestRules lim c (q .kind) (q .zone) t) 0) 0 ≡ b → SoundTable c (cond b (after (q .kind) (q .zone) t) t)
+      by true e = accepted-keeps c t (q .kind) (q .zone) s (eqb-true _ _ e)
+      by false e = s
+
+  -- ---- and so any run
+  pub runs-keep : (c : Configuration) (t : List Zone) (qs : List Request) → SoundTable c t → SoundTable c (runs (next lim c) t qs)
+  runs-keep c t qs s = run-keeps (next lim c) (SoundTable c) (next-keeps c) t qs s

@@ -7,17 +7,11 @@ use lib.ListN.{length}
 use Rattle.lists.specs.Bytes.{Bytes}
 use Rattle.formats.specs.Formats.{got, bad, number, both, as-type, many, listed, Format, All, ListFits}
 use Rattle.formats.proofs.Formats.{Lawful, lawful-number, lawful-both, lawful-field, lawful-as, lawful-many, lawful-headed, file-back, file-tight, file-refuses, file-ends}
-use Rattle.rules.specs.Limits.{limits, Limits}
+use Rattle.formats.proofs.Spelled.{spelled-number, spelled-both, spelled-many, spelled-headed, Spelled}
+use Rattle.rules.specs.Limits.{Limits}
 use Rattle.rules.specs.Plan.{short, long, regionTo, regionFrom, regionNumbers, regionField, askedTo, askedFrom, askedField, marksTo, marksFrom, marksSection, regionsSection, setFormat, zoneTo, zoneFrom, zoneFormat, zonesSection, requestsSection, planTo, planFrom, planFormat, readPlan, encode, Short, Long, RegionFits, AskedFits, MarksFit, SetFits, ZoneFits, PlanFits, Asked, Plan}
 use Rattle.rules.specs.Tables.{Zone}
 use Rattle.rules.specs.declared.Region.{Region}
-
--- counts that a field of 4 bytes can say
-pub record Sayable (l : Limits) : Type 0 where
-  pub regions : l .regions < 256 ^ 4
-  pub zones : l .zones < 256 ^ 4
-  pub inSet : l .inSet < 256 ^ 4
-  pub requests : l .requests < 256 ^ 4
 
 -- ---- fields
 lawful-region : Lawful regionNumbers RegionFits
@@ -26,10 +20,10 @@ lawful-region =
     (lawful-both long (both long long) Long (λ t. Long (t .0) × Long (t .1)) (lawful-number 8) (lawful-both long long Long Long (lawful-number 8) (lawful-number 8)))
     regionTo regionFrom (λ r. refl) (λ t. refl)
 
-lawful-region-field : Lawful regionField RegionFits
+pub lawful-region-field : Lawful regionField RegionFits
 lawful-region-field = lawful-field regionNumbers RegionFits lawful-region
 
-lawful-asked : Lawful askedField AskedFits
+pub lawful-asked : Lawful askedField AskedFits
 lawful-asked =
     lawful-field (as-type (both short (both short regionNumbers)) askedTo askedFrom) AskedFits
     (lawful-as (both short (both short regionNumbers)) (λ t. Short (t .0) × (Short (t .1 .0) × RegionFits (t .1 .1)))
@@ -37,19 +31,19 @@ lawful-asked =
     askedTo askedFrom (λ a. refl) (λ t. refl))
 
 -- ---- sections
-module _ {A : Type 0} (lo hi : ℕ) (small : hi < 256 ^ 4) (F : Format A) (P : A → Type 0) (f : Lawful F P) where
-  lawful-list : Lawful (listed 4 lo hi F) (ListFits lo hi P)
-  lawful-list = lawful-headed 4 lo hi small (many F) length (λ n xs. (length xs ≡ n) × All P xs) (lawful-many F P f) (λ c xs a z h. h .0)
+module _ {A : Type 0} (lo hi : ℕ) (F : Format A) (P : A → Type 0) (f : Lawful F P) where
+  lawful-list : Lawful (listed 4 lo hi F) (ListFits 4 lo hi P)
+  lawful-list = lawful-headed 4 lo hi (many F) length (λ n xs. (length xs ≡ n) × All P xs) (lawful-many F P f) (λ c xs a z h. h .0)
 
 pub lawful-marks : Lawful marksSection MarksFit
 lawful-marks =
-    lawful-headed 4 2 2 (omega arith) (λ c. as-type (both short short) marksTo marksFrom) (λ m. 2) (λ c m. Short (m .gic) × Short (m .edition))
+    lawful-headed 4 2 2 (λ c. as-type (both short short) marksTo marksFrom) (λ m. 2) (λ c m. Short (m .gic) × Short (m .edition))
     (λ c. lawful-as (both short short) (λ t. Short (t .0) × Short (t .1)) (lawful-both short short Short Short (lawful-number 4) (lawful-number 4)) marksTo marksFrom (λ m. refl) (λ t. refl))
     (λ c m a z h. omega arith)
 
-module _ (l : Limits) (say : Sayable l) where
+module _ (l : Limits) where
   lawful-set : Lawful (setFormat l) (SetFits l)
-  lawful-set = lawful-list 0 (l .inSet) (say .inSet) regionField RegionFits lawful-region-field
+  lawful-set = lawful-list 0 (l .inSet) regionField RegionFits lawful-region-field
 
   lawful-zone : Lawful (zoneFormat l) (ZoneFits l)
   lawful-zone =
@@ -58,22 +52,22 @@ module _ (l : Limits) (say : Sayable l) where
       zoneTo zoneFrom (λ z. refl) (λ t. refl)
 
   abbrev Regions : List Region → Type 0
-  Regions = ListFits 1 (l .regions) RegionFits
+  Regions = ListFits 4 1 (l .regions) RegionFits
 
   abbrev Zones : List Zone → Type 0
-  Zones = ListFits 0 (l .zones) (ZoneFits l)
+  Zones = ListFits 4 0 (l .zones) (ZoneFits l)
 
   abbrev Requests : List Asked → Type 0
-  Requests = ListFits 0 (l .requests) AskedFits
+  Requests = ListFits 4 0 (l .requests) AskedFits
 
   pub lawful-regions : Lawful (regionsSection l) Regions
-  lawful-regions = lawful-list 1 (l .regions) (say .regions) regionField RegionFits lawful-region-field
+  lawful-regions = lawful-list 1 (l .regions) regionField RegionFits lawful-region-field
 
   pub lawful-zones : Lawful (zonesSection l) Zones
-  lawful-zones = lawful-list 0 (l .zones) (say .zones) (zoneFormat l) (ZoneFits l) lawful-zone
+  lawful-zones = lawful-list 0 (l .zones) (zoneFormat l) (ZoneFits l) lawful-zone
 
   pub lawful-requests : Lawful (requestsSection l) Requests
-  lawful-requests = lawful-list 0 (l .requests) (say .requests) askedField AskedFits lawful-asked
+  lawful-requests = lawful-list 0 (l .requests) askedField AskedFits lawful-asked
 
   lawful-plan : Lawful (planFormat l) (PlanFits l)
   lawful-plan =
@@ -96,9 +90,32 @@ module _ (l : Limits) (say : Sayable l) where
   unfolding readPlan
   plan-refuses b k t e = file-refuses (planFormat l) (PlanFits l) lawful-plan b k t e
 
-pub limits-sayable : Sayable limits
-limits-sayable = record { regions = omega arith; zones = omega arith; inSet = omega arith; requests = omega arith }
-
 pub plan-ends : (l : Limits) (b : List ℕ) (p : Plan) (t : List ℕ) → readPlan l b ≡ got p t → t ≡ []
 unfolding readPlan
 plan-ends l b p t e = file-ends (planFormat l) b p t e
+
+-- ---- what is written of a plan is bytes
+spelled-region : Spelled regionField
+spelled-region r = spelled-both long (both long long) (spelled-number 8) (spelled-both long long (spelled-number 8) (spelled-number 8)) (regionFrom r)
+
+spelled-list : {A : Type 0} (lo hi : ℕ) (F : Format A) → Spelled F → Spelled (listed 4 lo hi F)
+spelled-list lo hi F f = spelled-headed 4 lo hi (many F) length (spelled-many F f)
+
+spelled-marks : Spelled marksSection
+spelled-marks = spelled-headed 4 2 2 (λ c. as-type (both short short) marksTo marksFrom) (λ m. 2) (λ c m. spelled-both short short (spelled-number 4) (spelled-number 4) (marksFrom m))
+
+spelled-asked : Spelled askedField
+spelled-asked a = spelled-both short (both short regionNumbers) (spelled-number 4) (spelled-both short regionNumbers (spelled-number 4) spelled-region) (askedFrom a)
+
+spelled-zone : (l : Limits) → Spelled (zoneFormat l)
+spelled-zone l z =
+    let set : Spelled (setFormat l) = spelled-list 0 (l .inSet) regionField spelled-region in
+    spelled-both short (both (setFormat l) (setFormat l)) (spelled-number 4) (spelled-both (setFormat l) (setFormat l) set set) (zoneFrom z)
+
+pub encoded-bytes : (l : Limits) (p : Plan) → Bytes (encode l p)
+unfolding encode
+encoded-bytes l p =
+    spelled-both marksSection (both (regionsSection l) (both (zonesSection l) (requestsSection l))) spelled-marks
+    (spelled-both (regionsSection l) (both (zonesSection l) (requestsSection l)) (spelled-list 1 (l .regions) regionField spelled-region)
+    (spelled-both (zonesSection l) (requestsSection l) (spelled-list 0 (l .zones) (zoneFormat l) (spelled-zone l)) (spelled-list 0 (l .requests) askedField spelled-asked)))
+    (planFrom p)

@@ -1,5 +1,5 @@
 -- The planner's plans: one that may be asked for fits into its bytes, is for the terminal's base, and reads as what it says.
-use Prim.Native.Nat.{ℕ, suc, _+_, _≤_, _<_}
+use Prim.Native.Nat.{ℕ, suc, _+_, _^_, _≤_, _<_}
 use native.Mathlib.Omega.{arith}
 use mathlib.Core.Bool.{Bool, true}
 use mathlib.Core.List.{List, [], _∷_}
@@ -11,7 +11,7 @@ use Rattle.lists.proofs.Tests.{both-true, parts}
 use Rattle.formats.specs.Formats.{got, All, ListFits}
 use Rattle.rules.specs.Applying.{lastEdition, Terminal, ForBase}
 use Rattle.rules.specs.Configuration.{configOf, Configuration}
-use Rattle.rules.specs.Limits.{guestReach, physReach, mostRegions, mostZones, highestId, limits}
+use Rattle.rules.specs.Limits.{highestId, limits, Limits, Sayable}
 use Rattle.rules.specs.Plan.{readPlan, RegionFits, MarksFit, SetFits, ZoneFits, PlanFits, Asked}
 use Rattle.rules.specs.Planner.{planFor, planBytes, MayAsk}
 use Rattle.rules.specs.Regions.{inReach, noRegion}
@@ -20,7 +20,7 @@ use Rattle.rules.specs.Tables.{tableOf, configured, soundSet, soundZone,
 use Rattle.rules.specs.declared.Region.{Region}
 use Rattle.rules.proofs.Configuration.{passed, SoundConfiguration}
 use Rattle.rules.proofs.Keeps.{SoundTable}
-use Rattle.rules.proofs.Plan.{read-encoded, limits-sayable}
+use Rattle.rules.proofs.Plan.{read-encoded}
 use Rattle.rules.proofs.Stored.{stands-well}
 use Rattle.rules.proofs.Tables.{configured-at}
 
@@ -35,57 +35,69 @@ module _ {A : Type 0} (P : A → Type 0) where
   all-passing p f [] e = tt
   all-passing p f (x ∷ xs) e = let h = both-true (p x) (all p xs) e in (f x (h .0), all-passing p f xs (h .1))
 
--- ---- what is sound fits
-reach-fits : (r : Region) → inReach r ≡ true → RegionFits r
-unfolding inReach
-reach-fits r e =
-    let h = parts _ e in
-    let a : r .v .0 + r .size ≤ guestReach = leb-true _ _ (h .0) in
-    let b : r .p .0 + r .size ≤ physReach = leb-true _ _ (h .1 .0) in
-    (omega arith, (omega arith, omega arith))
-
-module _ (c : Configuration) (ok : SoundConfiguration c) where
-  configured-fits : (r : Region) → configured c r ≡ true → RegionFits r
-  configured-fits r e = let (i, h, q) = configured-at c ok r e in reach-fits r (ap inReach q ∙ ok .near i h)
-
-  regions-fit : ListFits 1 mostRegions RegionFits (c .regions)
-  regions-fit = record {
-    least = (let g : c .gic < length (c .regions) = ok .gic in omega arith);
-    most = ok .most;
-    fits = (refl, all-places RegionFits (c .regions) noRegion (λ i h. reach-fits (getD (c .regions) i noRegion) (ok .near i h)));
-  }
-
-  set-fits : (xs : List Region) → soundSet c xs ≡ true → SetFits limits xs
-  unfolding soundSet
-  set-fits xs e = let h = parts _ e in record { least = omega arith; most = leb-true _ _ (h .0); fits = (refl, all-passing RegionFits (configured c) configured-fits xs (h .1 .0)) }
-
-  zone-fits : (z : Zone) → soundZone c z ≡ true → ZoneFits limits z
-  unfolding soundZone
-  zone-fits z e =
+module _ (lim : Limits) (say : Sayable lim) where
+  -- ---- what is sound fits
+  reach-fits : (r : Region) → inReach lim r ≡ true → RegionFits r
+  unfolding inReach
+  reach-fits r e =
       let h = parts _ e in
-      let i : z .id ≤ highestId = leb-true _ _ (h .0) in
-      (omega arith, (set-fits (z .cpu) (h .1 .0), set-fits (z .iommu) (h .1 .1 .0)))
+      let a : r .v .0 + r .size ≤ lim .guestReach = leb-true _ _ (h .0) in
+      let b : r .p .0 + r .size ≤ lim .physReach = leb-true _ _ (h .1 .0) in
+      let g : lim .guestReach < 256 ^ 8 = say .guestReach in
+      let f : lim .physReach < 256 ^ 8 = say .physReach in
+      (omega arith, (omega arith, omega arith))
 
-  zones-fit : (t : List Zone) → SoundTable c t → ListFits 0 mostZones (ZoneFits limits) t
-  zones-fit t s = record { least = omega arith; most = s .few; fits = (refl, all-passing (ZoneFits limits) (soundZone c) zone-fits t (s .zones)) }
+  module _ (c : Configuration) (ok : SoundConfiguration lim c) where
+    configured-fits : (r : Region) → configured c r ≡ true → RegionFits r
+    configured-fits r e = let (i, h, q) = configured-at lim c ok r e in reach-fits r (ap (inReach lim) q ∙ ok .near i h)
 
--- ---- the planner's plan
-module _ (s : Terminal) (q : List Asked) (full : length (s .config .records) ≡ mostRegions) (e : standing (s .config) (s .table) ≡ 0) (may : MayAsk s q) where
-  config-ok : SoundConfiguration (configOf (s .config))
-  config-ok = passed (s .config) full (stands-well (s .config) (s .table) e .0)
+    regions-fit : ListFits 4 1 (lim .regions) RegionFits (c .regions)
+    regions-fit = let m : length (c .regions) ≤ lim .regions = ok .most in let s : lim .regions < 256 ^ 4 = say .regions in record {
+      said = omega arith;
+      least = (let g : c .gic < length (c .regions) = ok .gic in omega arith);
+      most = ok .most;
+      fits = (refl, all-places RegionFits (c .regions) noRegion (λ i h. reach-fits (getD (c .regions) i noRegion) (ok .near i h)));
+    }
 
-  marks-fit : MarksFit (planFor s q .marks)
-  marks-fit =
-      let g : configOf (s .config) .gic < length (configOf (s .config) .regions) = config-ok .gic in
-      let l : length (configOf (s .config) .regions) ≤ mostRegions = config-ok .most in
-      let n : s .edition < lastEdition = may .edition in
-      record { least = omega arith; most = omega arith; fits = (omega arith, omega arith) }
+    set-fits : (xs : List Region) → soundSet lim c xs ≡ true → SetFits lim xs
+    unfolding soundSet
+    set-fits xs e =
+        let h = parts _ e in
+        let m : length xs ≤ lim .inSet = leb-true _ _ (h .0) in
+        let s : lim .inSet < 256 ^ 4 = say .inSet in
+        record { said = omega arith; least = omega arith; most = m; fits = (refl, all-passing RegionFits (configured c) configured-fits xs (h .1 .0)) }
 
-  plan-fits : PlanFits limits (planFor s q)
-  plan-fits = (marks-fit, (regions-fit (configOf (s .config)) config-ok, (zones-fit (configOf (s .config)) config-ok (tableOf (s .table)) (stands-well (s .config) (s .table) e .1), may .fits)))
+    zone-fits : (z : Zone) → soundZone lim c z ≡ true → ZoneFits lim z
+    unfolding soundZone
+    zone-fits z e =
+        let h = parts _ e in
+        let i : z .id ≤ highestId = leb-true _ _ (h .0) in
+        (omega arith, (set-fits (z .cpu) (h .1 .0), set-fits (z .iommu) (h .1 .1 .0)))
 
-  pub plan-reads : readPlan limits (planBytes s q) ≡ got (planFor s q) []
-  plan-reads = read-encoded limits limits-sayable (planFor s q) plan-fits
+    zones-fit : (t : List Zone) → SoundTable lim c t → ListFits 4 0 (lim .zones) (ZoneFits lim) t
+    zones-fit t s = let m : length t ≤ lim .zones = s .few in let n : lim .zones < 256 ^ 4 = say .zones in record { said = omega arith; least = omega arith; most = s .few; fits = (refl, all-passing (ZoneFits lim) (soundZone lim c) zone-fits t (s .zones)) }
+
+  -- ---- the planner's plan
+  module _ (s : Terminal) (q : List Asked) (full : length (s .config .records) ≡ lim .regions) (e : standing lim (s .config) (s .table) ≡ 0) (may : MayAsk lim s q) where
+    config-ok : SoundConfiguration lim (configOf (s .config))
+    config-ok = passed lim (s .config) full (stands-well lim (s .config) (s .table) e .0)
+
+    marks-fit : MarksFit (planFor s q .marks)
+    marks-fit =
+        let g : configOf (s .config) .gic < length (configOf (s .config) .regions) = config-ok .gic in
+        let l : length (configOf (s .config) .regions) ≤ lim .regions = config-ok .most in
+        let m : lim .regions < 256 ^ 4 = say .regions in
+        let n : s .edition < lastEdition = may .edition in
+        record { said = omega arith; least = omega arith; most = omega arith; fits = (omega arith, omega arith) }
+
+    plan-fits : PlanFits lim (planFor s q)
+    plan-fits = (marks-fit, (regions-fit (configOf (s .config)) config-ok, (zones-fit (configOf (s .config)) config-ok (tableOf (s .table)) (stands-well lim (s .config) (s .table) e .1), may .fits)))
+
+    pub plan-reads : readPlan lim (planBytes lim s q) ≡ got (planFor s q) []
+    plan-reads = read-encoded lim (planFor s q) plan-fits
 
 pub plan-for-base : (s : Terminal) (q : List Asked) → ForBase s (planFor s q)
 plan-for-base s q = record { regions = refl; gic = refl; edition = refl; zones = refl }
+
+pub limits-sayable : Sayable limits
+limits-sayable = record { guestReach = omega arith; physReach = omega arith; regions = omega arith; zones = omega arith; inSet = omega arith; requests = omega arith }

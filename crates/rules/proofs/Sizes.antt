@@ -1,5 +1,5 @@
 -- The length of a plan's bytes: what its contents say, and between the least and the longest that the limits give.
-use Prim.Native.Nat.{ℕ, _+_, _*_, _≤_}
+use Prim.Native.Nat.{ℕ, _+_, _*_, _^_, _≤_, _<_}
 use native.Mathlib.Nat.{mul-le-mul-right}
 use native.Mathlib.Omega.{arith}
 use mathlib.Core.List.{List}
@@ -9,13 +9,13 @@ use Rattle.lists.specs.Bytes.{Bytes}
 use Rattle.formats.specs.Formats.{got, both, as-type, listed, Format, ListFits}
 use Rattle.formats.specs.Sizes.{total}
 use Rattle.formats.proofs.Sizes.{sized-number, sized-both, sized-headed, sized-listed, total-same, total-most, total-replicate, all-replicate, Sized}
-use Rattle.rules.specs.Limits.{Limits}
+use Rattle.rules.specs.Limits.{Limits, Sayable}
 use Rattle.rules.specs.Plan.{short, long, regionNumbers, regionField, askedField, marksTo, marksFrom, marksSection, regionsSection, setFormat, zoneFormat, zonesSection, requestsSection, readPlan, encode, RegionFits, AskedFits, ZoneFits, PlanFits, Asked, Plan}
 use Rattle.rules.specs.Regions.{noRegion}
-use Rattle.rules.specs.Sizes.{shortSize, longSize, regionSize, askedSize, marksSize, regionsSize, requestsSize, setsSize, zoneSize, planSize, longestSize, leastSize, SizesShown, fullZone, noAsked, fullPlan}
+use Rattle.rules.specs.Sizes.{shortSize, longSize, regionSize, askedSize, marksSize, regionsSize, requestsSize, setsSize, zoneSize, planSize, longestSize, leastSize, SizesShown, zoneWith, noAsked, planWith}
 use Rattle.rules.specs.Tables.{Zone}
 use Rattle.rules.specs.declared.Region.{Region}
-use Rattle.rules.proofs.Plan.{no-slack, Sayable}
+use Rattle.rules.proofs.Plan.{no-slack}
 
 -- ---- what is written
 sized-short : Sized short (λ n. shortSize)
@@ -24,7 +24,7 @@ sized-short = sized-number 4
 sized-long : Sized long (λ n. longSize)
 sized-long = sized-number 8
 
-sized-region : Sized regionField (λ r. regionSize)
+pub sized-region : Sized regionField (λ r. regionSize)
 sized-region r = sized-both long (both long long) (λ n. longSize) (λ p. longSize + longSize) sized-long (sized-both long long (λ n. longSize) (λ n. longSize) sized-long sized-long) (r .v .0, (r .p .0, r .size))
 
 sized-asked : Sized askedField (λ a. askedSize)
@@ -32,20 +32,20 @@ sized-asked a = sized-both short (both short regionNumbers) (λ n. shortSize) (�
 
 -- a list of elements of one size
 module _ {A : Type 0} (lo hi k : ℕ) (F : Format A) (s : Sized F (λ x. k)) where
-  sized-list : Sized (listed 4 lo hi F) (λ xs. shortSize + length xs * k)
+  pub sized-list : Sized (listed 4 lo hi F) (λ xs. shortSize + length xs * k)
   sized-list xs = sized-listed F (λ x. k) s 4 lo hi xs ∙ ap (λ (n : ℕ). shortSize + n) (total-same k xs)
 
-sized-marks : Sized marksSection (λ m. marksSize)
+pub sized-marks : Sized marksSection (λ m. marksSize)
 sized-marks = sized-headed 4 2 2 (λ c. as-type (both short short) marksTo marksFrom) (λ m. 2) (λ m. shortSize + shortSize) (λ c m. sized-both short short (λ n. shortSize) (λ n. shortSize) sized-short sized-short (m .gic, m .edition))
 
 module _ (l : Limits) where
   abbrev ofRegions : List Region → ℕ
   ofRegions xs = regionsSize (length xs)
 
-  sized-set : Sized (setFormat l) ofRegions
+  pub sized-set : Sized (setFormat l) ofRegions
   sized-set = sized-list 0 (l .inSet) regionSize regionField sized-region
 
-  sized-zone : Sized (zoneFormat l) zoneSize
+  pub sized-zone : Sized (zoneFormat l) zoneSize
   sized-zone z =
       sized-both short (both (setFormat l) (setFormat l)) (λ n. shortSize) (λ t. ofRegions (t .0) + ofRegions (t .1)) sized-short
       (sized-both (setFormat l) (setFormat l) ofRegions ofRegions sized-set sized-set) (z .id, (z .cpu, z .iommu))
@@ -80,47 +80,43 @@ module _ (l : Limits) where
       omega (arith, encoded-length p, total-most zoneSize (ZoneFits l) k most-zone (p .zones) (z .fits .1), mul-le-mul-right k (z .most))
 
 -- whatever reads whole lies between
-pub whole-length : (l : Limits) → Sayable l → (b : List ℕ) (p : Plan) (t : List ℕ) → Bytes b → readPlan l b ≡ got p t → (leastSize ≤ length b) × (length b ≤ longestSize l)
-whole-length l say b p t h e =
-    let (w, f) = no-slack l say b p t h e in
+pub whole-length : (l : Limits) (b : List ℕ) (p : Plan) (t : List ℕ) → Bytes b → readPlan l b ≡ got p t → (leastSize ≤ length b) × (length b ≤ longestSize l)
+whole-length l b p t h e =
+    let (w, f) = no-slack l b p t h e in
     rw w (least-length l p f, most-length l p f)
 
--- ---- both are met
-pub full-length : (l m : Limits) → length (encode l (fullPlan m)) ≡ longestSize m
+-- ---- a plan with so many of each
+pub counts-length : (l : Limits) (r z c i q : ℕ) → length (encode l (planWith r z c i q)) ≡ marksSize + (regionsSize r + ((shortSize + z * setsSize c i) + requestsSize q))
 unfolding planSize
-full-length l m =
-    let inSet = length-replicate (m .inSet) noRegion in
-    let zone : zoneSize (fullZone m) ≡ setsSize (m .inSet) (m .inSet) = omega arith in
-    let zones : total zoneSize (replicate (m .zones) (fullZone m)) ≡ m .zones * setsSize (m .inSet) (m .inSet) = total-replicate zoneSize (m .zones) (fullZone m) ∙ ap (λ (k : ℕ). m .zones * k) zone in
-    omega (arith, encoded-length l (fullPlan m), zones, length-replicate (m .regions) noRegion, length-replicate (m .requests) noAsked)
-
--- m lets a plan have a region, and nothing that l does not
-pub record Within (m l : Limits) : Type 0 where
-  pub one : 1 ≤ m .regions
-  pub regions : m .regions ≤ l .regions
-  pub zones : m .zones ≤ l .zones
-  pub inSet : m .inSet ≤ l .inSet
-  pub requests : m .requests ≤ l .requests
+counts-length l r z c i q =
+    let zone : zoneSize (zoneWith c i) ≡ setsSize c i = omega (arith, length-replicate c noRegion, length-replicate i noRegion) in
+    let zones : total zoneSize (replicate z (zoneWith c i)) ≡ z * setsSize c i = total-replicate zoneSize z (zoneWith c i) ∙ ap (λ (k : ℕ). z * k) zone in
+    omega (arith, encoded-length l (planWith r z c i q), zones, length-replicate r noRegion, length-replicate q noAsked)
 
 module _ {A : Type 0} (P : A → Type 0) (x : A) (h : P x) where
-  full-list : (lo hi n : ℕ) → lo ≤ n → n ≤ hi → ListFits lo hi P (replicate n x)
-  full-list lo hi n a z = record { least = omega (arith, length-replicate n x); most = omega (arith, length-replicate n x); fits = (refl, all-replicate P n x h) }
+  full-list : (lo hi n : ℕ) → lo ≤ n → n ≤ hi → n < 256 ^ 4 → ListFits 4 lo hi P (replicate n x)
+  full-list lo hi n a z s = record { said = omega (arith, length-replicate n x); least = omega (arith, length-replicate n x); most = omega (arith, length-replicate n x); fits = (refl, all-replicate P n x h) }
 
 zero-region : RegionFits noRegion
 zero-region = (omega arith, (omega arith, omega arith))
 
-pub full-fits : (l m : Limits) → Within m l → PlanFits l (fullPlan m)
-full-fits l m w =
-    let set = full-list RegionFits noRegion zero-region 0 (l .inSet) (m .inSet) (omega arith) (w .inSet) in (
-      record { least = omega arith; most = omega arith; fits = (omega arith, omega arith) },
-      (
-        full-list RegionFits noRegion zero-region 1 (l .regions) (m .regions) (w .one) (w .regions),
+module _ (l : Limits) (say : Sayable l) (r z c i q : ℕ) where
+  pub counts-fit : 1 ≤ r → r ≤ l .regions → z ≤ l .zones → c ≤ l .inSet → i ≤ l .inSet → q ≤ l .requests → PlanFits l (planWith r z c i q)
+  counts-fit one mr mz mc mi mq =
+      let sr : l .regions < 256 ^ 4 = say .regions in
+      let sz : l .zones < 256 ^ 4 = say .zones in
+      let ss : l .inSet < 256 ^ 4 = say .inSet in
+      let sq : l .requests < 256 ^ 4 = say .requests in
+      let set : (n : ℕ) → n ≤ l .inSet → ListFits 4 0 (l .inSet) RegionFits (replicate n noRegion) = λ n m. full-list RegionFits noRegion zero-region 0 (l .inSet) n (omega arith) m (omega arith) in (
+        record { said = omega arith; least = omega arith; most = omega arith; fits = (omega arith, omega arith) },
         (
-          full-list (ZoneFits l) (fullZone m) (omega arith, (set, set)) 0 (l .zones) (m .zones) (omega arith) (w .zones),
-          full-list AskedFits noAsked (omega arith, (omega arith, zero-region)) 0 (l .requests) (m .requests) (omega arith) (w .requests),
+          full-list RegionFits noRegion zero-region 1 (l .regions) r one mr (omega arith),
+          (
+            full-list (ZoneFits l) (zoneWith c i) (omega arith, (set c mc, set i mi)) 0 (l .zones) z (omega arith) mz (omega arith),
+            full-list AskedFits noAsked (omega arith, (omega arith, zero-region)) 0 (l .requests) q (omega arith) mq (omega arith),
+          ),
         ),
-      ),
-    )
+      )
 
 -- ---- by computation
 pub sizes-shown : SizesShown

@@ -1,5 +1,5 @@
 -- Configurations and tables as they are stored: what was stored is read back, and a sound list of zones is stored as a sound table.
-use Prim.Native.Nat.{ℕ, suc, _-_, _≤_}
+use Prim.Native.Nat.{ℕ, zero, suc, _-_, _≤_}
 use native.Mathlib.Omega.{arith}
 use mathlib.Core.Bool.{Bool, true, false, cond, not, Bool·not-not}
 use mathlib.Core.List.{List, [], _∷_, _++_, map}
@@ -16,11 +16,11 @@ use Rattle.lists.proofs.Rules.{quiet, quiet-answer, aboveZero, numbers-tell}
 use Rattle.lists.proofs.Tests.{both-true, not-fails, not-holds, parts, whole}
 use Rattle.rules.specs.Applying.{storeSet, storeZone, store, storeConfig}
 use Rattle.rules.specs.Configuration.{configOf, check, isSound, Configuration, StoredConfig}
-use Rattle.rules.specs.Limits.{mostRegions, mostZones, mostInSet}
+use Rattle.rules.specs.Limits.{Limits}
 use Rattle.rules.specs.Regions.{regionEq, noRegion, used}
 use Rattle.rules.specs.Requests.{refusal, next, standingRules, standing}
 use Rattle.rules.specs.Run.{runFrom}
-use Rattle.rules.specs.Tables.{unusedZone, setOf, zoneOf, tableOf, restZero, zeroSet, tidyZone, zeroZone, tidy, soundSet, soundZone, sound, checkTable, Zone, StoredZone, StoredTable}
+use Rattle.rules.specs.Tables.{noStored, unusedSet, unusedZone, setOf, zoneOf, tableOf, restZero, zeroSet, tidyZone, zeroZone, tidy, soundSet, soundZone, sound, checkTable, Zone, StoredZone, StoredTable}
 use Rattle.rules.specs.declared.Checked.the-variants.{Sound}
 use Rattle.rules.specs.declared.Region.{Region}
 use Rattle.rules.specs.declared.Request.{Request}
@@ -29,71 +29,13 @@ use Rattle.rules.proofs.Regions.{equal-same}
 use Rattle.rules.proofs.Keeps.{sound-parts, parts-sound, next-keeps, SoundTable}
 
 -- ---- what was stored is read back
-read-back : {A : Type 0} (n : ℕ) (z : A) (xs : List A) → length xs ≤ n → room (length xs) z (room n z xs) ≡ xs
-read-back n z xs h = room-take (length xs) z (room n z xs) (omega (arith, length-room n z xs)) ∙ room-back n z xs h
+read-back : {A : Type 0} (n : ℕ) (y z : A) (xs : List A) → length xs ≤ n → room (length xs) y (room n z xs) ≡ xs
+read-back n y z xs h = room-take (length xs) y (room n z xs) (omega (arith, length-room n z xs)) ∙ room-back n z xs h
 
-set-back : (xs : List Region) → length xs ≤ mostInSet → setOf (storeSet xs) ≡ xs
-unfolding setOf
-set-back xs h = read-back mostInSet noRegion xs h
-
-set-few : (c : Configuration) (xs : List Region) → soundSet c xs ≡ true → length xs ≤ mostInSet
-unfolding soundSet
-set-few c xs e = leb-true _ _ (parts _ e .0)
-
-zone-back : (c : Configuration) (z : Zone) → soundZone c z ≡ true → zoneOf (storeZone z) ≡ z
-unfolding soundZone zoneOf
-zone-back c z e =
-    let h = parts _ e in
-    let p : setOf (storeSet (z .cpu)) ≡ z .cpu = set-back (z .cpu) (set-few c (z .cpu) (h .1 .0)) in
-    let q : setOf (storeSet (z .iommu)) ≡ z .iommu = set-back (z .iommu) (set-few c (z .iommu) (h .1 .1 .0)) in
-    (λ i. record { id = z .id; cpu = p i; iommu = q i })
-
--- ---- what is unused is zero
-set-tidy : (c : Configuration) (xs : List Region) → soundSet c xs ≡ true → restZero (storeSet xs) ≡ true
-unfolding restZero regionEq allOf
-set-tidy c xs e =
-    none-all used (drop (length xs) (room mostInSet noRegion xs))
-    ∙ ap (all (λ (r : Region). not (used r))) (room-after mostInSet noRegion xs (set-few c xs e))
-    ∙ all-replicate (λ (r : Region). not (used r)) (mostInSet - length xs) noRegion refl
-
-zone-tidy : (c : Configuration) (z : Zone) → soundZone c z ≡ true → tidyZone (storeZone z) ≡ true
-unfolding tidyZone soundZone
-zone-tidy c z e = let h = parts _ e in whole _ (set-tidy c (z .cpu) (h .1 .0), (set-tidy c (z .iommu) (h .1 .1 .0), tt))
-
-unused-zero : zeroZone unusedZone ≡ true
-unfolding zeroZone zeroSet allOf any regionEq
-unused-zero = refl
-
--- ---- the table
-module _ (c : Configuration) (t : List Zone) (ok : SoundTable c t) where
-  abbrev zones : List StoredZone
-  zones = map storeZone t
-
-  many : length zones ≡ length t
-  many = length-map t storeZone
-
-  few : length zones ≤ mostZones
-  few = let f : length t ≤ mostZones = ok .few in omega (arith, many)
-
-  pub table-back : tableOf (store t) ≡ t
-  unfolding tableOf
-  table-back =
-      ap (λ (n : ℕ). map zoneOf (room n unusedZone (room mostZones unusedZone zones))) (sym many)
-      ∙ ap (map zoneOf) (read-back mostZones unusedZone zones few)
-      ∙ map-back (soundZone c) storeZone zoneOf (zone-back c) t (ok .zones)
-
-  store-tidy : tidy (store t) ≡ true
-  unfolding tidy
-  store-tidy =
-      whole _ (
-        ap (all tidyZone) (ap (λ (n : ℕ). take n (room mostZones unusedZone zones)) (sym many) ∙ room-back mostZones unusedZone zones few)
-            ∙ all-map storeZone tidyZone t ∙ all-from (soundZone c) (soundZone c) (λ (z : Zone). tidyZone (storeZone z)) (λ z e f. zone-tidy c z e) t (ok .zones) (ok .zones),
-        (
-          ap (all zeroZone) (ap (λ (n : ℕ). drop n (room mostZones unusedZone zones)) (sym many) ∙ room-after mostZones unusedZone zones few)
-              ∙ all-replicate zeroZone (mostZones - length zones) unusedZone unused-zero,
-          tt,
-        ),
-      )
+none-used : (n : ℕ) → any used (replicate n noRegion) ≡ false
+unfolding any regionEq allOf
+none-used zero = refl
+none-used (suc n) = none-used n
 
 -- ---- what is stored with zeros in what is free is what would be stored of it
 module _ {A : Type 0} (n k : ℕ) (z : A) (xs : List A) (len : length xs ≡ n) (few : k ≤ n) (free : drop k xs ≡ replicate (n - k) z) where
@@ -119,39 +61,103 @@ unused-zeros k n xs len e =
     not-not-true : (b : Bool) → not (not b) ≡ true → b ≡ true
     not-not-true b f = sym (Bool·not-not b) ∙ f
 
--- a configuration that passed
-pub config-stored : (s : StoredConfig) → length (s .records) ≡ mostRegions → check s ≡ Sound → s ≡ storeConfig (configOf s)
-unfolding configOf
-config-stored s len e =
-    let n : length (room (s .count) noRegion (s .records)) ≡ s .count = length-room (s .count) noRegion (s .records) in
-    let r : room mostRegions noRegion (room (s .count) noRegion (s .records)) ≡ s .records = refilled mostRegions (s .count) noRegion (s .records) len (few-counted s len e) (unused-zeros (s .count) mostRegions (s .records) len (rest-unused s len e)) in
-    (λ i. record { count = sym n i; gic = s .gic; records = sym r i })
+module _ (lim : Limits) where
+  set-back : (xs : List Region) → length xs ≤ lim .inSet → setOf (storeSet lim xs) ≡ xs
+  unfolding setOf
+  set-back xs h = read-back (lim .inSet) noRegion noRegion xs h
 
-pub config-back : (c : Configuration) → length (c .regions) ≤ mostRegions → configOf (storeConfig c) ≡ c
-unfolding configOf
-config-back c h = (λ i. record { regions = read-back mostRegions noRegion (c .regions) h i; gic = c .gic })
+  set-few : (c : Configuration) (xs : List Region) → soundSet lim c xs ≡ true → length xs ≤ lim .inSet
+  unfolding soundSet
+  set-few c xs e = leb-true _ _ (parts _ e .0)
 
--- ---- standing: neither 1 nor 2
-module _ (c : StoredConfig) (t : StoredTable) where
-  pub stands-well : standing c t ≡ 0 → (check c ≡ Sound) × SoundTable (configOf c) (tableOf t)
-  unfolding standingRules aboveZero all checkTable
-  stands-well e =
-      let h = quiet (standingRules c t) 0 (numbers-tell (standingRules c t) refl) e in
-      (sound-answer _ (not-false _ (h .0)), sound-parts (configOf c) (tableOf t) (parts _ (not-false _ (h .1 .0)) .1 .1 .0))
+  zone-back : (c : Configuration) (z : Zone) → soundZone lim c z ≡ true → zoneOf (storeZone lim z) ≡ z
+  unfolding soundZone zoneOf
+  zone-back c z e =
+      let h = parts _ e in
+      let p : setOf (storeSet lim (z .cpu)) ≡ z .cpu = set-back (z .cpu) (set-few c (z .cpu) (h .1 .0)) in
+      let q : setOf (storeSet lim (z .iommu)) ≡ z .iommu = set-back (z .iommu) (set-few c (z .iommu) (h .1 .1 .0)) in
+      (λ i. record { id = z .id; cpu = p i; iommu = q i })
 
-pub stored-stands : (c : StoredConfig) (t : List Zone) → check c ≡ Sound → SoundTable (configOf c) t → standing c (store t) ≡ 0
-unfolding standingRules checkTable
-stored-stands c t e ok =
-    let s : isSound (check c) ≡ true = ap isSound e ∙ sound-is in
-    let back : sound (configOf c) (tableOf (store t)) ≡ true = ap (sound (configOf c)) (table-back (configOf c) t ok) ∙ parts-sound (configOf c) t ok in
-    sym (quiet-answer (standingRules c (store t)) 0 (not-holds _ s, (not-holds _ (whole _ (s, (store-tidy (configOf c) t ok, (back, tt)))), tt)))
+  -- ---- what is unused is zero
+  set-tidy : (c : Configuration) (xs : List Region) → soundSet lim c xs ≡ true → restZero (storeSet lim xs) ≡ true
+  unfolding restZero regionEq allOf
+  set-tidy c xs e =
+      none-all used (drop (length xs) (room (lim .inSet) noRegion xs))
+      ∙ ap (all (λ (r : Region). not (used r))) (room-after (lim .inSet) noRegion xs (set-few c xs e))
+      ∙ all-replicate (λ (r : Region). not (used r)) (lim .inSet - length xs) noRegion refl
 
--- ---- a run keeps a sound table sound, wherever it ends
-pub run-from-keeps : (c : Configuration) (i : ℕ) (t : List Zone) (qs : List Request) → SoundTable c t → SoundTable c (runFrom c i t qs .table)
-unfolding runFrom
-run-from-keeps c i t [] ok = ok
-run-from-keeps c i t (q ∷ qs) ok = by (run-from-keeps c (suc i) (next c t q) qs (next-keeps c t q ok)) (eqb (refusal c t q) 0)
-  where
-    by : SoundTable c (runFrom c (suc i) (next c t q) qs .table) → (b : Bool) → SoundTable c (cond b (runFrom c (suc i) (next c t q) qs) (record { place = i; inner = refusal c t q; table = t }) .table)
-    by f true = f
-    by f false = ok
+  zone-tidy : (c : Configuration) (z : Zone) → soundZone lim c z ≡ true → tidyZone (storeZone lim z) ≡ true
+  unfolding tidyZone soundZone
+  zone-tidy c z e = let h = parts _ e in whole _ (set-tidy c (z .cpu) (h .1 .0), (set-tidy c (z .iommu) (h .1 .1 .0), tt))
+
+  unused-zero : zeroZone (unusedZone lim) ≡ true
+  unfolding zeroZone zeroSet
+  unused-zero = let e : zeroSet (unusedSet lim) ≡ true = whole _ (refl, (ap not (none-used (lim .inSet)), tt)) in whole _ (refl, (e, (e, tt)))
+
+  -- ---- the table
+  module _ (c : Configuration) (t : List Zone) (ok : SoundTable lim c t) where
+    abbrev zones : List StoredZone
+    zones = map (storeZone lim) t
+
+    many : length zones ≡ length t
+    many = length-map t (storeZone lim)
+
+    few : length zones ≤ lim .zones
+    few = let f : length t ≤ lim .zones = ok .few in omega (arith, many)
+
+    pub table-back : tableOf (store lim t) ≡ t
+    unfolding tableOf
+    table-back =
+        ap (λ (n : ℕ). map zoneOf (room n noStored (room (lim .zones) (unusedZone lim) zones))) (sym many)
+        ∙ ap (map zoneOf) (read-back (lim .zones) noStored (unusedZone lim) zones few)
+        ∙ map-back (soundZone lim c) (storeZone lim) zoneOf (zone-back c) t (ok .zones)
+
+    store-tidy : tidy (store lim t) ≡ true
+    unfolding tidy
+    store-tidy =
+        whole _ (
+          ap (all tidyZone) (ap (λ (n : ℕ). take n (room (lim .zones) (unusedZone lim) zones)) (sym many) ∙ room-back (lim .zones) (unusedZone lim) zones few)
+              ∙ all-map (storeZone lim) tidyZone t ∙ all-from (soundZone lim c) (soundZone lim c) (λ (z : Zone). tidyZone (storeZone lim z)) (λ z e f. zone-tidy c z e) t (ok .zones) (ok .zones),
+          (
+            ap (all zeroZone) (ap (λ (n : ℕ). drop n (room (lim .zones) (unusedZone lim) zones)) (sym many) ∙ room-after (lim .zones) (unusedZone lim) zones few)
+                ∙ all-replicate zeroZone (lim .zones - length zones) (unusedZone lim) unused-zero,
+            tt,
+          ),
+        )
+
+  -- a configuration that passed
+  pub config-stored : (s : StoredConfig) → length (s .records) ≡ lim .regions → check lim s ≡ Sound → s ≡ storeConfig lim (configOf s)
+  unfolding configOf
+  config-stored s len e =
+      let n : length (room (s .count) noRegion (s .records)) ≡ s .count = length-room (s .count) noRegion (s .records) in
+      let r : room (lim .regions) noRegion (room (s .count) noRegion (s .records)) ≡ s .records = refilled (lim .regions) (s .count) noRegion (s .records) len (few-counted lim s len e) (unused-zeros (s .count) (lim .regions) (s .records) len (rest-unused lim s len e)) in
+      (λ i. record { count = sym n i; gic = s .gic; records = sym r i })
+
+  pub config-back : (c : Configuration) → length (c .regions) ≤ lim .regions → configOf (storeConfig lim c) ≡ c
+  unfolding configOf
+  config-back c h = (λ i. record { regions = read-back (lim .regions) noRegion noRegion (c .regions) h i; gic = c .gic })
+
+  -- ---- standing: neither 1 nor 2
+  module _ (c : StoredConfig) (t : StoredTable) where
+    pub stands-well : standing lim c t ≡ 0 → (check lim c ≡ Sound) × SoundTable lim (configOf c) (tableOf t)
+    unfolding standingRules aboveZero all checkTable
+    stands-well e =
+        let h = quiet (standingRules lim c t) 0 (numbers-tell (standingRules lim c t) refl) e in
+        (sound-answer _ (not-false _ (h .0)), sound-parts lim (configOf c) (tableOf t) (parts _ (not-false _ (h .1 .0)) .1 .1 .0))
+
+  pub stored-stands : (c : StoredConfig) (t : List Zone) → check lim c ≡ Sound → SoundTable lim (configOf c) t → standing lim c (store lim t) ≡ 0
+  unfolding standingRules checkTable
+  stored-stands c t e ok =
+      let s : isSound (check lim c) ≡ true = ap isSound e ∙ sound-is in
+      let back : sound lim (configOf c) (tableOf (store lim t)) ≡ true = ap (sound lim (configOf c)) (table-back (configOf c) t ok) ∙ parts-sound lim (configOf c) t ok in
+      sym (quiet-answer (standingRules lim c (store lim t)) 0 (not-holds _ s, (not-holds _ (whole _ (s, (store-tidy (configOf c) t ok, (back, tt)))), tt)))
+
+  -- ---- a run keeps a sound table sound, wherever it ends
+  pub run-from-keeps : (c : Configuration) (i : ℕ) (t : List Zone) (qs : List Request) → SoundTable lim c t → SoundTable lim c (runFrom lim c i t qs .table)
+  unfolding runFrom
+  run-from-keeps c i t [] ok = ok
+  run-from-keeps c i t (q ∷ qs) ok = by (run-from-keeps c (suc i) (next lim c t q) qs (next-keeps lim c t q ok)) (eqb (refusal lim c t q) 0)
+    where
+      by : SoundTable lim c (runFrom lim c (suc i) (next lim c t q) qs .table) → (b : Bool) → SoundTable lim c (cond b (runFrom lim c (suc i) (next lim c t q) qs) (record { place = i; inner = refusal lim c t q; table = t }) .table)
+      by f true = f
+      by f false = ok

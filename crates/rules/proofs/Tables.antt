@@ -8,6 +8,7 @@ use borrow.Author.Tests.{ltb-true}
 use lib.ListN.{length, getD}
 use Rattle.lists.proofs.Every.{any-make, any-at}
 use Rattle.lists.proofs.Tests.{parts}
+use Rattle.rules.specs.Limits.{Limits}
 use Rattle.rules.specs.Addresses.{overlaps}
 use Rattle.rules.specs.Configuration.{gicOf, Configuration}
 use Rattle.rules.specs.Regions.{wellFormed, regionEq, physOverlap, guestOverlap, noRegion}
@@ -17,47 +18,48 @@ use Rattle.rules.proofs.Addresses.{overlap-shared}
 use Rattle.rules.proofs.Configuration.{SoundConfiguration}
 use Rattle.rules.proofs.Regions.{equal-same, equal-refl}
 
-module _ (c : Configuration) (ok : SoundConfiguration c) where
-  -- a configured region is that at some position
-  pub configured-at : (r : Region) → configured c r ≡ true → (i : ℕ) × (i < length (c .regions)) × (r ≡ getD (c .regions) i noRegion)
-  unfolding configured
-  configured-at r e = let (i, h, q) = any-at (regionEq r) (c .regions) noRegion e in (i, h, equal-same r (getD (c .regions) i noRegion) q)
+module _ (lim : Limits) where
+  module _ (c : Configuration) (ok : SoundConfiguration lim c) where
+    -- a configured region is that at some position
+    pub configured-at : (r : Region) → configured c r ≡ true → (i : ℕ) × (i < length (c .regions)) × (r ≡ getD (c .regions) i noRegion)
+    unfolding configured
+    configured-at r e = let (i, h, q) = any-at (regionEq r) (c .regions) noRegion e in (i, h, equal-same r (getD (c .regions) i noRegion) q)
 
-  position-configured : (i : ℕ) → i < length (c .regions) → configured c (getD (c .regions) i noRegion) ≡ true
-  unfolding configured
-  position-configured i h = any-make (regionEq (getD (c .regions) i noRegion)) (c .regions) noRegion i h (equal-refl (getD (c .regions) i noRegion))
+    position-configured : (i : ℕ) → i < length (c .regions) → configured c (getD (c .regions) i noRegion) ≡ true
+    unfolding configured
+    position-configured i h = any-make (regionEq (getD (c .regions) i noRegion)) (c .regions) noRegion i h (equal-refl (getD (c .regions) i noRegion))
 
-  -- it is not empty, so it overlaps itself, in either kind of address
-  not-empty : (r : Region) → configured c r ≡ true → 0 < r .size
-  unfolding wellFormed
-  not-empty r e = let (i, h, q) = configured-at r e in ltb-true _ _ (parts _ (ap wellFormed q ∙ ok .formed i h) .0)
+    -- it is not empty, so it overlaps itself, in either kind of address
+    not-empty : (r : Region) → configured c r ≡ true → 0 < r .size
+    unfolding wellFormed
+    not-empty r e = let (i, h, q) = configured-at r e in ltb-true _ _ (parts _ (ap (wellFormed (lim .page)) q ∙ ok .formed i h) .0)
 
-  self-overlap : (a : ℕ) (r : Region) → configured c r ≡ true → overlaps a (r .size) a (r .size) ≡ true
-  self-overlap a r e = let s : 0 < r .size = not-empty r e in overlap-shared a (r .size) a (r .size) .1 (a, ((omega arith, omega arith), (omega arith, omega arith)))
+    self-overlap : (a : ℕ) (r : Region) → configured c r ≡ true → overlaps a (r .size) a (r .size) ≡ true
+    self-overlap a r e = let s : 0 < r .size = not-empty r e in overlap-shared a (r .size) a (r .size) .1 (a, ((omega arith, omega arith), (omega arith, omega arith)))
 
-  pub overlaps-itself : (r : Region) → configured c r ≡ true → physOverlap r r ≡ true
-  overlaps-itself r e = self-overlap (r .p .0) r e
+    pub overlaps-itself : (r : Region) → configured c r ≡ true → physOverlap r r ≡ true
+    overlaps-itself r e = self-overlap (r .p .0) r e
 
-  pub guest-overlaps-itself : (r : Region) → configured c r ≡ true → guestOverlap r r ≡ true
-  guest-overlaps-itself r e = self-overlap (r .v .0) r e
+    pub guest-overlaps-itself : (r : Region) → configured c r ≡ true → guestOverlap r r ≡ true
+    guest-overlaps-itself r e = self-overlap (r .v .0) r e
 
-  -- two that overlap are one
-  pub overlap-same : (a b : Region) → configured c a ≡ true → configured c b ≡ true → physOverlap a b ≡ true → a ≡ b
-  overlap-same a b ea eb e =
-      let (i, h, q) = configured-at a ea in
-      let (j, l, r) = configured-at b eb in
-      elim (ℕ-discrete i j) [
-        | yes s ↦ q ∙ ap (λ (k : ℕ). getD (c .regions) k noRegion) s ∙ sym r
-        | no ne ↦
-            absurd (true≢false (sym e ∙ ap₂ physOverlap q r ∙ ok .apart i j h l ne))
-      ]
+    -- two that overlap are one
+    pub overlap-same : (a b : Region) → configured c a ≡ true → configured c b ≡ true → physOverlap a b ≡ true → a ≡ b
+    overlap-same a b ea eb e =
+        let (i, h, q) = configured-at a ea in
+        let (j, l, r) = configured-at b eb in
+        elim (ℕ-discrete i j) [
+          | yes s ↦ q ∙ ap (λ (k : ℕ). getD (c .regions) k noRegion) s ∙ sym r
+          | no ne ↦
+              absurd (true≢false (sym e ∙ ap₂ physOverlap q r ∙ ok .apart i j h l ne))
+        ]
 
-  -- only the GIC's position holds the GIC
-  pub gic-position : (i : ℕ) → i < length (c .regions) → getD (c .regions) i noRegion ≡ gicOf c → i ≡ c .gic
-  unfolding gicOf
-  gic-position i h e =
-      elim (ℕ-discrete i (c .gic)) [
-        | yes s ↦ s
-        | no ne ↦
-            absurd (true≢false (sym (overlaps-itself (getD (c .regions) i noRegion) (position-configured i h)) ∙ ap (physOverlap (getD (c .regions) i noRegion)) e ∙ ok .apart i (c .gic) h (ok .gic) ne))
-      ]
+    -- only the GIC's position holds the GIC
+    pub gic-position : (i : ℕ) → i < length (c .regions) → getD (c .regions) i noRegion ≡ gicOf c → i ≡ c .gic
+    unfolding gicOf
+    gic-position i h e =
+        elim (ℕ-discrete i (c .gic)) [
+          | yes s ↦ s
+          | no ne ↦
+              absurd (true≢false (sym (overlaps-itself (getD (c .regions) i noRegion) (position-configured i h)) ∙ ap (physOverlap (getD (c .regions) i noRegion)) e ∙ ok .apart i (c .gic) h (ok .gic) ne))
+        ]

@@ -10,7 +10,7 @@ use Rattle.lists.specs.Rules.{Rule, _when_, firstRule}
 use Rattle.lists.specs.Tests.{allOf}
 use Rattle.formats.specs.Formats.{Out, got, bad}
 use Rattle.rules.specs.Configuration.{configOf, Configuration, StoredConfig}
-use Rattle.rules.specs.Limits.{mostRegions, mostZones, mostInSet, limits}
+use Rattle.rules.specs.Limits.{Limits}
 use Rattle.rules.specs.Plan.{requestsOf, readPlan, Plan}
 use Rattle.rules.specs.Regions.{regionEq, noRegion}
 use Rattle.rules.specs.Requests.{standing}
@@ -30,14 +30,14 @@ abbrev pub lastEdition : ℕ
 lastEdition = 2 ^ 32 - 1
 
 -- ---- a list of zones as it is stored: what is unused is zero
-abbrev pub storeSet : List Region → StoredSet
-storeSet xs = record { count = length xs; records = room mostInSet noRegion xs }
+abbrev pub storeSet : Limits → List Region → StoredSet
+storeSet l xs = record { count = length xs; records = room (l .inSet) noRegion xs }
 
-abbrev pub storeZone : Zone → StoredZone
-storeZone z = record { id = z .id; cpu = storeSet (z .cpu); iommu = storeSet (z .iommu) }
+abbrev pub storeZone : Limits → Zone → StoredZone
+storeZone l z = record { id = z .id; cpu = storeSet l (z .cpu); iommu = storeSet l (z .iommu) }
 
-abbrev pub store : List Zone → StoredTable
-store t = record { count = length t; zones = room mostZones unusedZone (map storeZone t) }
+abbrev pub store : Limits → List Zone → StoredTable
+store l t = record { count = length t; zones = room (l .zones) (unusedZone l) (map (storeZone l) t) }
 
 -- ---- the plan's base and the terminal's
 -- as many, and equal one by one
@@ -76,34 +76,34 @@ pub record Applied : Type 0 where
   pub outcome : Outcome
   pub state : Terminal
 
-unfoldable pub moved : Terminal → Run → Terminal
-moved s r = record { config = s .config; table = store (r .table); edition = s .edition + 1 }
+unfoldable pub moved : Limits → Terminal → Run → Terminal
+moved l s r = record { config = s .config; table = store l (r .table); edition = s .edition + 1 }
 
-unfoldable pub applied : Terminal → Outcome → Run → Applied
-applied s o r = cond (eqb (o .number) 0) (record { outcome = o; state = moved s r }) (record { outcome = o; state = s })
+unfoldable pub applied : Limits → Terminal → Outcome → Run → Applied
+applied l s o r = cond (eqb (o .number) 0) (record { outcome = o; state = moved l s r }) (record { outcome = o; state = s })
 
-unfoldable pub applyRead : Terminal → List ℕ → Out Plan → Applied
-applyRead s b (bad k left) = record { outcome = plain k (length b - length left); state = s }
-applyRead s b (got p left) = let r : Run = run (configOf (s .config)) (tableOf (s .table)) (requestsOf p) in applied s (judged s p r) r
+unfoldable pub applyRead : Limits → Terminal → List ℕ → Out Plan → Applied
+applyRead l s b (bad k left) = record { outcome = plain k (length b - length left); state = s }
+applyRead l s b (got p left) = let r : Run = run l (configOf (s .config)) (tableOf (s .table)) (requestsOf p) in applied l s (judged s p r) r
 
 -- 1 and 2 speak of the terminal's own state, before any byte is read
-unfoldable pub apply : Terminal → List ℕ → Applied
-apply s b = cond (eqb (standing (s .config) (s .table)) 0) (applyRead s b (readPlan limits b)) (record { outcome = plain (standing (s .config) (s .table)) 0; state = s })
+unfoldable pub apply : Limits → Terminal → List ℕ → Applied
+apply l s b = cond (eqb (standing l (s .config) (s .table)) 0) (applyRead l s b (readPlan l b)) (record { outcome = plain (standing l (s .config) (s .table)) 0; state = s })
 
 -- ---- the plan's own base: a state with its configuration, edition and zones
-abbrev pub storeConfig : Configuration → StoredConfig
-storeConfig c = record { count = length (c .regions); gic = c .gic; records = room mostRegions noRegion (c .regions) }
+abbrev pub storeConfig : Limits → Configuration → StoredConfig
+storeConfig l c = record { count = length (c .regions); gic = c .gic; records = room (l .regions) noRegion (c .regions) }
 
-abbrev pub baseOf : Plan → Terminal
-baseOf p = record { config = storeConfig (record { regions = p .regions; gic = p .marks .gic }); table = store (p .zones); edition = p .marks .edition }
+abbrev pub baseOf : Limits → Plan → Terminal
+baseOf l p = record { config = storeConfig l (record { regions = p .regions; gic = p .marks .gic }); table = store l (p .zones); edition = p .marks .edition }
 
 -- what is answered where there is no terminal: 20, 21 or 22; then the plan applied to its own base
-unfoldable pub answerRead : List ℕ → Out Plan → Outcome
-answerRead b (bad k left) = plain k (length b - length left)
-answerRead b (got p left) = apply (baseOf p) b .outcome
+unfoldable pub answerRead : Limits → List ℕ → Out Plan → Outcome
+answerRead l b (bad k left) = plain k (length b - length left)
+answerRead l b (got p left) = apply l (baseOf l p) b .outcome
 
-unfoldable pub answerAlone : List ℕ → Outcome
-answerAlone b = answerRead b (readPlan limits b)
+unfoldable pub answerAlone : Limits → List ℕ → Outcome
+answerAlone l b = answerRead l b (readPlan l b)
 
 -- ---- a plan for the terminal's base: it gives that state's configuration, GIC position, edition and zones, order included, whatever its requests
 pub record ForBase (s : Terminal) (p : Plan) : Type 0 where

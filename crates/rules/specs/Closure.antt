@@ -6,6 +6,7 @@ use mathlib.Core.Logic.{_⊎_}
 use mathlib.Core.Option.{Option, none, some}
 use mathlib.Core.Path.{_≡_}
 use lib.Dec.{eqb}
+use Rattle.rules.specs.Limits.{Limits, pageOf}
 use Rattle.rules.specs.Configuration.{gicOf, Configuration}
 use Rattle.rules.specs.Regions.{wellFormed, inReach, regionEq, physOverlap, guestOverlap}
 use Rattle.rules.specs.Requests.{heldIn}
@@ -14,6 +15,7 @@ use Rattle.rules.specs.Translation.{coversGuest}
 use Rattle.rules.specs.declared.Kind.{Kind}
 use Rattle.rules.specs.declared.Kind.the-variants.{AddZone, RemoveZone, Insert, Remove, NoRequest}
 use Rattle.rules.specs.declared.Region.{Region}
+use Rattle.rules.specs.declared.Side.{Side}
 use Rattle.rules.specs.declared.Side.the-variants.{Cpu, Iommu}
 
 -- ---- its types, as far as their use shows
@@ -47,8 +49,8 @@ abbrev pub contains-region : GhostZone → RegionSet
 contains-region zone r = zone .cpu-mem-set r || zone .iommu-mem-set r
 
 -- MemoryRegion: spec-valid
-abbrev pub spec-valid : Region → Type 0
-spec-valid r = (wellFormed r ≡ true) × (inReach r ≡ true)
+abbrev pub spec-valid : Limits → Side → Region → Type 0
+spec-valid l s r = (wellFormed (pageOf l s) r ≡ true) × (inReach l r ≡ true)
 
 -- Map<nat, GhostZone>, which is the state: zone-ids are its keys, and zones-view is the map itself
 abbrev pub State : Type 0
@@ -92,10 +94,10 @@ pub record remove-zone (zid : ℕ) (pre post : State) : Type 0 where
   pub there : pre zid ≡ some zone
   pub update : post ≡ map-remove pre zid
 
-pub record cpu-insert-region (c : Configuration) (zid : ℕ) (region : Region) (pre post : State) : Type 0 where
+pub record cpu-insert-region (l : Limits) (c : Configuration) (zid : ℕ) (region : Region) (pre post : State) : Type 0 where
   pub zone : GhostZone
   pub there : pre zid ≡ some zone
-  pub valid : spec-valid region
+  pub valid : spec-valid l Cpu region
   pub allowed : cpu-insert-region-allowed c pre zid region
   pub absent : zone .cpu-mem-set region ≡ false
   pub apart : not-overlaps-vmem (zone .cpu-mem-set) region
@@ -107,10 +109,10 @@ pub record cpu-remove-region (zid : ℕ) (region : Region) (pre post : State) : 
   pub held : zone .cpu-mem-set region ≡ true
   pub update : post ≡ map-insert pre zid (record { cpu-mem-set = remove-region-exact (zone .cpu-mem-set) region; iommu-mem-set = zone .iommu-mem-set })
 
-pub record iommu-insert-region (c : Configuration) (zid : ℕ) (region : Region) (pre post : State) : Type 0 where
+pub record iommu-insert-region (l : Limits) (c : Configuration) (zid : ℕ) (region : Region) (pre post : State) : Type 0 where
   pub zone : GhostZone
   pub there : pre zid ≡ some zone
-  pub valid : spec-valid region
+  pub valid : spec-valid l Iommu region
   pub allowed : iommu-insert-region-allowed c pre zid region
   pub absent : zone .iommu-mem-set region ≡ false
   pub apart : not-overlaps-vmem (zone .iommu-mem-set) region
@@ -130,11 +132,11 @@ unfoldable pub stateOf : List Zone → State
 stateOf [] id = none
 stateOf (z ∷ t) id = cond (eqb (z .id) id) (some (ghostOf z)) (stateOf t id)
 
-abbrev pub Transition : Configuration → Kind → ℕ → State → State → Type 0
-Transition c AddZone zid pre post = add-zone zid pre post
-Transition c RemoveZone zid pre post = remove-zone zid pre post
-Transition c (Insert Cpu region) zid pre post = cpu-insert-region c zid region pre post
-Transition c (Insert Iommu region) zid pre post = iommu-insert-region c zid region pre post
-Transition c (Remove Cpu region) zid pre post = cpu-remove-region zid region pre post
-Transition c (Remove Iommu region) zid pre post = iommu-remove-region zid region pre post
-Transition c NoRequest zid pre post = ⊥
+abbrev pub Transition : Limits → Configuration → Kind → ℕ → State → State → Type 0
+Transition l c AddZone zid pre post = add-zone zid pre post
+Transition l c RemoveZone zid pre post = remove-zone zid pre post
+Transition l c (Insert Cpu region) zid pre post = cpu-insert-region l c zid region pre post
+Transition l c (Insert Iommu region) zid pre post = iommu-insert-region l c zid region pre post
+Transition l c (Remove Cpu region) zid pre post = cpu-remove-region zid region pre post
+Transition l c (Remove Iommu region) zid pre post = iommu-remove-region zid region pre post
+Transition l c NoRequest zid pre post = ⊥

@@ -11,7 +11,7 @@ use Rattle.lists.specs.Rules.{Rule, _when_, firstRule}
 use Rattle.rules.specs.declared.Region.{Region}
 use Rattle.rules.specs.declared.Checked.{Checked}
 use Rattle.rules.specs.declared.Checked.the-variants.{Sound, BadCount, BadGic, NotZero, Malformed, OutOfReach, Overlap}
-use Rattle.rules.specs.Limits.{mostRegions}
+use Rattle.rules.specs.Limits.{Limits}
 use Rattle.rules.specs.Regions.{wellFormed, inReach, physOverlap, noRegion, used}
 
 -- a configuration: its regions, and the GIC's position among them
@@ -35,26 +35,26 @@ configOf s = record { regions = room (s .count) noRegion (s .records); gic = s .
 
 -- ---- the check
 -- at position i: C4 not well formed, C5 out of reach, C6 physical overlap with an earlier position, and the lowest such
-unfoldable pub positionRules : List Region → ℕ → List (Rule Checked)
-positionRules records i =
+unfoldable pub positionRules : Limits → List Region → ℕ → List (Rule Checked)
+positionRules l records i =
     let r = getD records i noRegion in
     let earlier = take i records in
-    Malformed i when not (wellFormed r)
-    ∷ OutOfReach i when not (inReach r)
+    Malformed i when not (wellFormed (l .page) r)
+    ∷ OutOfReach i when not (inReach l r)
     ∷ Overlap i (firstIndex (physOverlap r) earlier) when any (physOverlap r) earlier
     ∷ []
 
 -- C1 count 0 or above the limit; C2 GIC position not below the count; C3 a record past the count not all zero; then the positions upward
-unfoldable pub checkRules : StoredConfig → List (Rule Checked)
-checkRules s =
-    BadCount when (eqb (s .count) 0 || ltb mostRegions (s .count))
+unfoldable pub checkRules : Limits → StoredConfig → List (Rule Checked)
+checkRules l s =
+    BadCount when (eqb (s .count) 0 || ltb (l .regions) (s .count))
     ∷ BadGic when leb (s .count) (s .gic)
     ∷ NotZero (firstFrom used (s .records) (s .count)) when any used (drop (s .count) (s .records))
-    ∷ flatMap (positionRules (s .records)) (places 0 (s .count))
+    ∷ flatMap (positionRules l (s .records)) (places 0 (s .count))
 
 -- the first that applies
-unfoldable pub check : StoredConfig → Checked
-check s = firstRule (checkRules s) Sound
+unfoldable pub check : Limits → StoredConfig → Checked
+check l s = firstRule (checkRules l s) Sound
 
 -- it finds nothing
 unfoldable pub isSound : Checked → Bool

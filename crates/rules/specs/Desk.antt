@@ -7,7 +7,7 @@ use lib.ListN.{replicate}
 use Rattle.lists.specs.Room.{room}
 use Rattle.rules.specs.Applying.{store, plain, apply, Terminal, Applied}
 use Rattle.rules.specs.Configuration.{configOf, check, StoredConfig}
-use Rattle.rules.specs.Limits.{mostRegions}
+use Rattle.rules.specs.Limits.{mostRegions, limits}
 use Rattle.rules.specs.Regions.{noRegion}
 use Rattle.rules.specs.Requests.{answers}
 use Rattle.rules.specs.Tables.{emptyZone, sound, Zone}
@@ -82,20 +82,20 @@ wholePlan =
 
 -- a terminal with its configuration, edition 0, no zones
 abbrev pub deskTerminal : Terminal
-deskTerminal = record { config = record { count = 1; gic = 0; records = room mostRegions noRegion (G ∷ []) }; table = store []; edition = 0 }
+deskTerminal = record { config = record { count = 1; gic = 0; records = room mostRegions noRegion (G ∷ []) }; table = store limits []; edition = 0 }
 
 -- the plan once, and again at the state that it leaves
 abbrev pub once : Applied
-once = apply deskTerminal wholePlan
+once = apply limits deskTerminal wholePlan
 
 abbrev pub twice : Applied
-twice = apply (once .state) wholePlan
+twice = apply limits (once .state) wholePlan
 
 -- the claim: the configuration passes its check, the zones are sound, and each example gives its numbers; the whole plan is accepted, and refused when it comes again
 abbrev pub DeskShown : Type 0
 DeskShown =
-    (check deskConfig ≡ Sound)
-    × (sound (configOf deskConfig) deskZones ≡ true)
-    × (map (λ (s : Shown). answers (configOf deskConfig) deskZones (s .requests)) starred ≡ map (λ (s : Shown). s .numbers) starred)
+    (check limits deskConfig ≡ Sound)
+    × (sound limits (configOf deskConfig) deskZones ≡ true)
+    × (map (λ (s : Shown). answers limits (configOf deskConfig) deskZones (s .requests)) starred ≡ map (λ (s : Shown). s .numbers) starred)
     × (once .outcome ≡ plain 0 1)
     × (twice .outcome ≡ plain 24 0)

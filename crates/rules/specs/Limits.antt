@@ -1,5 +1,7 @@
 -- Every limit, once.
-use Prim.Native.Nat.{ℕ, _^_}
+use Prim.Native.Nat.{ℕ, _^_, _<_}
+use Rattle.rules.specs.declared.Side.{Side}
+use Rattle.rules.specs.declared.Side.the-variants.{Cpu, Iommu}
 
 -- a region's three numbers are multiples of this
 abbrev pub page : ℕ
@@ -30,12 +32,31 @@ mostInSet = 16
 abbrev pub mostRequests : ℕ
 mostRequests = 1024
 
--- the counts that a reader of plans goes by; a terminal with other limits has other ones
+-- ---- the limits of a family of terminals: every rule goes by them
 pub record Limits : Type 0 where
+  pub page : ℕ
+  pub iommuPage : ℕ
+  pub guestReach : ℕ
+  pub physReach : ℕ
   pub regions : ℕ
   pub zones : ℕ
   pub inSet : ℕ
   pub requests : ℕ
 
+-- the page of a side: devices may ask for larger ones than the processor
+unfoldable pub pageOf : Limits → Side → ℕ
+pageOf l Cpu = l .page
+pageOf l Iommu = l .iommuPage
+
+-- those of the document's terminals
 abbrev pub limits : Limits
-limits = record { regions = mostRegions; zones = mostZones; inSet = mostInSet; requests = mostRequests }
+limits = record { page = page; iommuPage = page; guestReach = guestReach; physReach = physReach; regions = mostRegions; zones = mostZones; inSet = mostInSet; requests = mostRequests }
+
+-- a plan's fields can say them: counts in 4 bytes, ends of regions in 8
+pub record Sayable (l : Limits) : Type 0 where
+  pub guestReach : l .guestReach < 256 ^ 8
+  pub physReach : l .physReach < 256 ^ 8
+  pub regions : l .regions < 256 ^ 4
+  pub zones : l .zones < 256 ^ 4
+  pub inSet : l .inSet < 256 ^ 4
+  pub requests : l .requests < 256 ^ 4

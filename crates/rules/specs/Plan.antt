@@ -129,13 +129,13 @@ abbrev pub AskedFits : Asked → Type 0
 AskedFits a = Short (a .kind) × (Short (a .zone) × RegionFits (a .region))
 
 abbrev pub MarksFit : Marks → Type 0
-MarksFit = InRange 2 2 (λ m. 2) (λ c m. Short (m .gic) × Short (m .edition))
+MarksFit = InRange 4 2 2 (λ m. 2) (λ c m. Short (m .gic) × Short (m .edition))
 
 abbrev pub SetFits : Limits → List Region → Type 0
-SetFits l = ListFits 0 (l .inSet) RegionFits
+SetFits l = ListFits 4 0 (l .inSet) RegionFits
 
 abbrev pub ZoneFits : Limits → Zone → Type 0
 ZoneFits l z = Short (z .id) × (SetFits l (z .cpu) × SetFits l (z .iommu))
 
 abbrev pub PlanFits : Limits → Plan → Type 0
-PlanFits l p = MarksFit (p .marks) × (ListFits 1 (l .regions) RegionFits (p .regions) × (ListFits 0 (l .zones) (ZoneFits l) (p .zones) × ListFits 0 (l .requests) AskedFits (p .asked)))
+PlanFits l p = MarksFit (p .marks) × (ListFits 4 1 (l .regions) RegionFits (p .regions) × (ListFits 4 0 (l .zones) (ZoneFits l) (p .zones) × ListFits 4 0 (l .requests) AskedFits (p .asked)))

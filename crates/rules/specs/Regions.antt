@@ -1,20 +1,20 @@
 -- Regions: when one is well formed and in reach, when two are equal, and when two overlap.
-use Prim.Native.Nat.{_+_, _%_}
+use Prim.Native.Nat.{ℕ, _+_, _%_}
 use mathlib.Core.Bool.{Bool, not}
 use mathlib.Core.List.{[], _∷_}
 use lib.Dec.{ltb, leb, eqb}
 use Rattle.lists.specs.Tests.{allOf}
 use Rattle.rules.specs.declared.Region.{Region}
-use Rattle.rules.specs.Limits.{page, guestReach, physReach}
+use Rattle.rules.specs.Limits.{Limits}
 use Rattle.rules.specs.Addresses.{overlaps}
 
--- size above 0, and all three numbers multiples of the page
-unfoldable pub wellFormed : Region → Bool
-wellFormed r = allOf (ltb 0 (r .size) ∷ eqb (r .v .0 % page) 0 ∷ eqb (r .p .0 % page) 0 ∷ eqb (r .size % page) 0 ∷ [])
+-- size above 0, and all three numbers multiples of a page
+unfoldable pub wellFormed : ℕ → Region → Bool
+wellFormed page r = allOf (ltb 0 (r .size) ∷ eqb (r .v .0 % page) 0 ∷ eqb (r .p .0 % page) 0 ∷ eqb (r .size % page) 0 ∷ [])
 
 -- v + size and p + size, as whole numbers, are at most their reach
-unfoldable pub inReach : Region → Bool
-inReach r = allOf (leb (r .v .0 + r .size) guestReach ∷ leb (r .p .0 + r .size) physReach ∷ [])
+unfoldable pub inReach : Limits → Region → Bool
+inReach l r = allOf (leb (r .v .0 + r .size) (l .guestReach) ∷ leb (r .p .0 + r .size) (l .physReach) ∷ [])
 
 -- all three numbers are equal
 unfoldable pub regionEq : Region → Region → Bool

@@ -9,7 +9,7 @@ use Rattle.lists.specs.Room.{removeAt}
 use Rattle.lists.specs.Rules.{Rule, _when_, firstRule}
 use Rattle.rules.specs.Changes.{setAt, added, pushed, cut, dropped}
 use Rattle.rules.specs.Configuration.{gicOf, configOf, check, isSound, Configuration, StoredConfig}
-use Rattle.rules.specs.Limits.{mostZones, highestId, mostInSet}
+use Rattle.rules.specs.Limits.{highestId, Limits, pageOf}
 use Rattle.rules.specs.Regions.{wellFormed, inReach, regionEq, physOverlap, guestOverlap}
 use Rattle.rules.specs.Tables.{hasId, regionsOf, tableOf, configured, clash, checkTable, Zone, StoredTable}
 use Rattle.rules.specs.declared.Kind.{Kind}
@@ -52,35 +52,35 @@ forbidden c k Cpu r t = any (λ (z : Zone). any (physOverlap r) (z .cpu)) t || a
 forbidden c k Iommu r t = any (λ (z : Zone). any (clash c r) (regionsOf z)) (others k t)
 
 -- ---- the numbers, in the document's order for each kind
-unfoldable pub addRules : ℕ → List Zone → List (Rule ℕ)
-addRules id t = 5 when present id t ∷ 7 when leb mostZones (length t) ∷ []
+unfoldable pub addRules : Limits → ℕ → List Zone → List (Rule ℕ)
+addRules l id t = 5 when present id t ∷ 7 when leb (l .zones) (length t) ∷ []
 
 unfoldable pub removeZoneRules : ℕ → List Zone → List (Rule ℕ)
 removeZoneRules id t = 6 when not (present id t) ∷ 8 when holdsAny (find id t) t ∷ []
 
-unfoldable pub regionRules : Configuration → Side → Region → List (Rule ℕ)
-regionRules c s r = 9 when not (wellFormed r) ∷ 10 when not (inReach r) ∷ 11 when not (configured c r) ∷ 12 when onGic c s r ∷ []
+unfoldable pub regionRules : Limits → Configuration → Side → Region → List (Rule ℕ)
+regionRules l c s r = 9 when not (wellFormed (pageOf l s) r) ∷ 10 when not (inReach l r) ∷ 11 when not (configured c r) ∷ 12 when onGic c s r ∷ []
 
-unfoldable pub setRules : Configuration → ℕ → Side → Region → List Zone → List (Rule ℕ)
-setRules c k s r t =
+unfoldable pub setRules : Limits → Configuration → ℕ → Side → Region → List Zone → List (Rule ℕ)
+setRules l c k s r t =
     13 when heldIn r (setAt t k s)
     ∷ 14 when forbidden c k s r t
     ∷ 15 when any (guestOverlap r) (setAt t k s)
-    ∷ 16 when leb mostInSet (length (setAt t k s))
+    ∷ 16 when leb (l .inSet) (length (setAt t k s))
     ∷ []
 
-unfoldable pub insertRules : Configuration → ℕ → Side → Region → List Zone → List (Rule ℕ)
-insertRules c id s r t = 6 when not (present id t) ∷ (regionRules c s r ++ setRules c (find id t) s r t)
+unfoldable pub insertRules : Limits → Configuration → ℕ → Side → Region → List Zone → List (Rule ℕ)
+insertRules l c id s r t = 6 when not (present id t) ∷ (regionRules l c s r ++ setRules l c (find id t) s r t)
 
 unfoldable pub removeRules : ℕ → Side → Region → List Zone → List (Rule ℕ)
 removeRules id s r t = 6 when not (present id t) ∷ 17 when not (heldIn r (setAt t (find id t) s)) ∷ []
 
-unfoldable pub kindRules : Configuration → Kind → ℕ → List Zone → List (Rule ℕ)
-kindRules c AddZone id t = addRules id t
-kindRules c RemoveZone id t = removeZoneRules id t
-kindRules c (Insert s r) id t = insertRules c id s r t
-kindRules c (Remove s r) id t = removeRules id s r t
-kindRules c NoRequest id t = []
+unfoldable pub kindRules : Limits → Configuration → Kind → ℕ → List Zone → List (Rule ℕ)
+kindRules l c AddZone id t = addRules l id t
+kindRules l c RemoveZone id t = removeZoneRules id t
+kindRules l c (Insert s r) id t = insertRules l c id s r t
+kindRules l c (Remove s r) id t = removeRules id s r t
+kindRules l c NoRequest id t = []
 
 -- 3: numbers that make no request
 unfoldable pub noRequest : Kind → Bool
@@ -90,12 +90,12 @@ noRequest (Insert s r) = false
 noRequest (Remove s r) = false
 noRequest NoRequest = true
 
-unfoldable pub requestRules : Configuration → Kind → ℕ → List Zone → List (Rule ℕ)
-requestRules c k id t = 3 when noRequest k ∷ 4 when ltb highestId id ∷ kindRules c k id t
+unfoldable pub requestRules : Limits → Configuration → Kind → ℕ → List Zone → List (Rule ℕ)
+requestRules l c k id t = 3 when noRequest k ∷ 4 when ltb highestId id ∷ kindRules l c k id t
 
 -- the number of a request at a sound table under a sound configuration: 0 where it is accepted
-unfoldable pub refusal : Configuration → List Zone → Request → ℕ
-refusal c t q = firstRule (requestRules c (q .kind) (q .zone) t) 0
+unfoldable pub refusal : Limits → Configuration → List Zone → Request → ℕ
+refusal l c t q = firstRule (requestRules l c (q .kind) (q .zone) t) 0
 
 -- ---- what is done
 -- the table after an accepted request
@@ -107,21 +107,21 @@ after (Remove s r) id t = cut (find id t) s (firstIndex (regionEq r) (setAt t (f
 after NoRequest id t = t
 
 -- the next table: a refusal returns the table that it was given
-unfoldable pub next : Configuration → List Zone → Request → List Zone
-next c t q = cond (eqb (refusal c t q) 0) (after (q .kind) (q .zone) t) t
+unfoldable pub next : Limits → Configuration → List Zone → Request → List Zone
+next l c t q = cond (eqb (refusal l c t q) 0) (after (q .kind) (q .zone) t) t
 
 -- the numbers of requests one after another
-unfoldable pub answers : Configuration → List Zone → List Request → List ℕ
-answers c t [] = []
-answers c t (q ∷ qs) = refusal c t q ∷ answers c (next c t q) qs
+unfoldable pub answers : Limits → Configuration → List Zone → List Request → List ℕ
+answers l c t [] = []
+answers l c t (q ∷ qs) = refusal l c t q ∷ answers l c (next l c t q) qs
 
 -- ---- a request from outside: 1 and 2 come first
-unfoldable pub standingRules : StoredConfig → StoredTable → List (Rule ℕ)
-standingRules c t = 1 when not (isSound (check c)) ∷ 2 when not (checkTable c t) ∷ []
+unfoldable pub standingRules : Limits → StoredConfig → StoredTable → List (Rule ℕ)
+standingRules l c t = 1 when not (isSound (check l c)) ∷ 2 when not (checkTable l c t) ∷ []
 
 -- the number before any request is looked at, or 0
-abbrev pub standing : StoredConfig → StoredTable → ℕ
-standing c t = firstRule (standingRules c t) 0
+abbrev pub standing : Limits → StoredConfig → StoredTable → ℕ
+standing l c t = firstRule (standingRules l c t) 0
 
-unfoldable pub answer : StoredConfig → StoredTable → Request → ℕ
-answer c t q = firstRule (standingRules c t) (refusal (configOf c) (tableOf t) q)
+unfoldable pub answer : Limits → StoredConfig → StoredTable → Request → ℕ
+answer l c t q = firstRule (standingRules l c t) (refusal l (configOf c) (tableOf t) q)

@@ -8,6 +8,7 @@ use Rattle.lists.specs.Bytes.{little}
 use Rattle.lists.specs.Places.{tab}
 use Rattle.lists.specs.Rules.{_when_, firstRule}
 use Rattle.lists.specs.Words.{part}
+use Rattle.rules.specs.Limits.{Limits}
 use Rattle.rules.specs.Configuration.{configOf, Configuration, StoredConfig}
 use Rattle.rules.specs.Regions.{used}
 use Rattle.rules.specs.Requests.{standing, refusal, next}
@@ -62,16 +63,16 @@ pub record Run : Type 0 where
   pub inner : ℕ
   pub table : List Zone
 
-unfoldable pub runFrom : Configuration → ℕ → List Zone → List Request → Run
-runFrom c i t [] = record { place = i; inner = 0; table = t }
-runFrom c i t (q ∷ qs) = cond (eqb (refusal c t q) 0) (runFrom c (suc i) (next c t q) qs) (record { place = i; inner = refusal c t q; table = t })
+unfoldable pub runFrom : Limits → Configuration → ℕ → List Zone → List Request → Run
+runFrom l c i t [] = record { place = i; inner = 0; table = t }
+runFrom l c i t (q ∷ qs) = cond (eqb (refusal l c t q) 0) (runFrom l c (suc i) (next l c t q) qs) (record { place = i; inner = refusal l c t q; table = t })
 
-abbrev pub run : Configuration → List Zone → List Request → Run
-run c t qs = runFrom c 0 t qs
+abbrev pub run : Limits → Configuration → List Zone → List Request → Run
+run l c t qs = runFrom l c 0 t qs
 
 -- ---- a run from outside: 1 and 2 come first; 27 where a request was refused
 unfoldable pub ended : Run → Outcome
 ended r = record { number = cond (eqb (r .inner) 0) 0 27; place = r .place; inner = r .inner }
 
-unfoldable pub runAnswer : StoredConfig → StoredTable → List Request → Outcome
-runAnswer c t qs = cond (eqb (standing c t) 0) (ended (run (configOf c) (tableOf t) qs)) (record { number = standing c t; place = 0; inner = 0 })
+unfoldable pub runAnswer : Limits → StoredConfig → StoredTable → List Request → Outcome
+runAnswer l c t qs = cond (eqb (standing l c t) 0) (ended (run l (configOf c) (tableOf t) qs)) (record { number = standing l c t; place = 0; inner = 0 })

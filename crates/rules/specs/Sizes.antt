@@ -49,22 +49,19 @@ abbrev pub longestSize : Limits → ℕ
 longestSize l = marksSize + (regionsSize (l .regions) + ((shortSize + l .zones * setsSize (l .inSet) (l .inSet)) + requestsSize (l .requests)))
 
 -- with what every plan has: one region
-abbrev pub leastCounts : Limits
-leastCounts = record { regions = 1; zones = 0; inSet = 0; requests = 0 }
-
 abbrev pub leastSize : ℕ
-leastSize = longestSize leastCounts
+leastSize = marksSize + (regionsSize 1 + (shortSize + requestsSize 0))
 
 -- the document's two numbers
 abbrev pub SizesShown : Type 0
 SizesShown = (leastSize ≡ 48) × (longestSize limits ≡ 40568)
 
--- ---- a plan that has all that limits let it have, each number 0
-abbrev pub fullZone : Limits → Zone
-fullZone l = record { id = 0; cpu = replicate (l .inSet) noRegion; iommu = replicate (l .inSet) noRegion }
+-- ---- a plan that has so many of each, every number 0
+abbrev pub zoneWith : ℕ → ℕ → Zone
+zoneWith c i = record { id = 0; cpu = replicate c noRegion; iommu = replicate i noRegion }
 
 abbrev pub noAsked : Asked
 noAsked = record { kind = 0; zone = 0; region = noRegion }
 
-abbrev pub fullPlan : Limits → Plan
-fullPlan l = record { marks = record { gic = 0; edition = 0 }; regions = replicate (l .regions) noRegion; zones = replicate (l .zones) (fullZone l); asked = replicate (l .requests) noAsked }
+abbrev pub planWith : ℕ → ℕ → ℕ → ℕ → ℕ → Plan
+planWith r z c i q = record { marks = record { gic = 0; edition = 0 }; regions = replicate r noRegion; zones = replicate z (zoneWith c i); asked = replicate q noAsked }

@@ -3,6 +3,7 @@
 use Prim.Native.Nat.{ℕ}
 use mathlib.Core.List.{List, [], _∷_, _++_}
 use mathlib.Core.Path.{_≡_}
+use Rattle.rules.specs.Limits.{limits}
 use Rattle.rules.specs.Applying.{store, plain, apply, storeConfig, Terminal}
 use Rattle.rules.specs.Desk.{A, deskZones, wholePlan, deskTerminal}
 use Rattle.rules.specs.Plan.{Asked}
@@ -13,7 +14,7 @@ use Rattle.rules.specs.declared.Outcome.{Outcome}
 
 -- the whole plan's terminal with zones, at an edition; without zones, and with zone 5
 abbrev pub holding : List Zone → ℕ → Terminal
-holding t k = record { config = deskTerminal .config; table = store t; edition = k }
+holding t k = record { config = deskTerminal .config; table = store limits t; edition = k }
 
 abbrev pub without : ℕ → Terminal
 without k = holding [] k
@@ -30,10 +31,10 @@ removes = record { kind = 2; zone = 5; region = noRegion } ∷ []
 
 -- the two plans
 abbrev pub there : List ℕ
-there = planBytes (without 0) adds
+there = planBytes limits (without 0) adds
 
 abbrev pub back : List ℕ
-back = planBytes (with5 1) removes
+back = planBytes limits (with5 1) removes
 
 -- a count above its limit, and nothing after it
 abbrev pub tooMany : List ℕ
@@ -41,18 +42,18 @@ tooMany = 2 ∷ 0 ∷ 0 ∷ 0 ∷ 0 ∷ 0 ∷ 0 ∷ 0 ∷ 0 ∷ 0 ∷ 0 ∷ 0 �
 
 -- a plan for another configuration and another edition
 abbrev pub elsewhere : List ℕ
-elsewhere = planBytes (record { config = storeConfig (record { regions = A ∷ []; gic = 0 }); table = store []; edition = 1 }) adds
+elsewhere = planBytes limits (record { config = storeConfig limits (record { regions = A ∷ []; gic = 0 }); table = store limits []; edition = 1 }) adds
 
 -- zone 5 added twice; zones 5 and 6 added
 abbrev pub again : List ℕ
-again = planBytes (without 0) (adds ++ adds)
+again = planBytes limits (without 0) (adds ++ adds)
 
 abbrev pub both : List ℕ
-both = planBytes (without 0) (adds ++ record { kind = 1; zone = 6; region = noRegion } ∷ [])
+both = planBytes limits (without 0) (adds ++ record { kind = 1; zone = 6; region = noRegion } ∷ [])
 
 -- what a terminal answers to bytes, and the terminal afterwards
 abbrev pub Gives : Terminal → List ℕ → Outcome → Terminal → Type 0
-Gives s b o t = (apply s b .outcome ≡ o) × (apply s b .state ≡ t)
+Gives s b o t = (apply limits s b .outcome ≡ o) × (apply limits s b .state ≡ t)
 
 -- the claim: the first plan is the document's whole plan; there, and back; then the first plan fits by its table, and its edition stops it; so it does where the
 -- second comes first; and a plan with the right edition is stopped where there is a zone more. A count is judged before its elements; a byte after the end is

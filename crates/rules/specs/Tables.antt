@@ -11,8 +11,8 @@ use Rattle.lists.specs.Tests.{allOf}
 use Rattle.rules.specs.declared.Region.{Region}
 use Rattle.rules.specs.declared.Side.{Side}
 use Rattle.rules.specs.declared.Side.the-variants.{Cpu, Iommu}
-use Rattle.rules.specs.Limits.{mostZones, highestId, mostInSet}
-use Rattle.rules.specs.Regions.{regionEq, physOverlap, guestOverlap, noRegion, used}
+use Rattle.rules.specs.Limits.{highestId, Limits}
+use Rattle.rules.specs.Regions.{wellFormed, regionEq, physOverlap, guestOverlap, noRegion, used}
 use Rattle.rules.specs.Configuration.{Configuration, gicOf, StoredConfig, configOf, check, isSound}
 
 -- a zone: its id, its CPU set and its IOMMU set; a table is a list of zones
@@ -57,11 +57,15 @@ pub record StoredTable : Type 0 where
   pub zones : List StoredZone
 
 -- an unused zone: all zero
-abbrev pub unusedSet : StoredSet
-unusedSet = record { count = 0; records = replicate mostInSet noRegion }
+abbrev pub unusedSet : Limits → StoredSet
+unusedSet l = record { count = 0; records = replicate (l .inSet) noRegion }
 
-abbrev pub unusedZone : StoredZone
-unusedZone = record { id = 0; cpu = unusedSet; iommu = unusedSet }
+abbrev pub unusedZone : Limits → StoredZone
+unusedZone l = record { id = 0; cpu = unusedSet l; iommu = unusedSet l }
+
+-- what stands past the end of the stored zones
+abbrev pub noStored : StoredZone
+noStored = record { id = 0; cpu = record { count = 0; records = [] }; iommu = record { count = 0; records = [] } }
 
 -- the table that is stored
 unfoldable pub setOf : StoredSet → List Region
@@ -71,7 +75,7 @@ unfoldable pub zoneOf : StoredZone → Zone
 zoneOf z = record { id = z .id; cpu = setOf (z .cpu); iommu = setOf (z .iommu) }
 
 unfoldable pub tableOf : StoredTable → List Zone
-tableOf t = map zoneOf (room (t .count) unusedZone (t .zones))
+tableOf t = map zoneOf (room (t .count) noStored (t .zones))
 
 -- ---- every unused record or zone is zero
 unfoldable pub restZero : StoredSet → Bool
@@ -107,12 +111,12 @@ unfoldable pub clash : Configuration → Region → Region → Bool
 clash c a b = not (regionEq a (gicOf c)) && (not (regionEq b (gicOf c)) && physOverlap a b)
 
 -- counts within limits; every region is configured; no two overlap in guest addresses
-unfoldable pub soundSet : Configuration → List Region → Bool
-soundSet c xs = allOf (leb (length xs) mostInSet ∷ all (configured c) xs ∷ pairwise guestApart xs ∷ [])
+unfoldable pub soundSet : Limits → Configuration → List Region → Bool
+soundSet l c xs = allOf (leb (length xs) (l .inSet) ∷ all (configured c) xs ∷ pairwise guestApart xs ∷ [])
 
--- id at most the highest; both sets; no CPU region overlaps the GIC physically
-unfoldable pub soundZone : Configuration → Zone → Bool
-soundZone c z = allOf (leb (z .id) highestId ∷ soundSet c (z .cpu) ∷ soundSet c (z .iommu) ∷ all (offGic c) (z .cpu) ∷ [])
+-- id at most the highest; both sets; no CPU region overlaps the GIC physically; every IOMMU region is well formed for devices
+unfoldable pub soundZone : Limits → Configuration → Zone → Bool
+soundZone l c z = allOf (leb (z .id) highestId ∷ soundSet l c (z .cpu) ∷ soundSet l c (z .iommu) ∷ all (offGic c) (z .cpu) ∷ all (wellFormed (l .iommuPage)) (z .iommu) ∷ [])
 
 -- two zones: their ids differ; regions other than the GIC never overlap physically
 abbrev pub idsDiffer : Zone → Zone → Bool
@@ -122,9 +126,9 @@ unfoldable pub zonesApart : Configuration → Zone → Zone → Bool
 zonesApart c y z = all (λ (a : Region). not (any (clash c a) (regionsOf z))) (regionsOf y)
 
 -- the table
-unfoldable pub sound : Configuration → List Zone → Bool
-sound c t = allOf (leb (length t) mostZones ∷ all (soundZone c) t ∷ pairwise idsDiffer t ∷ pairwise (zonesApart c) t ∷ [])
+unfoldable pub sound : Limits → Configuration → List Zone → Bool
+sound l c t = allOf (leb (length t) (l .zones) ∷ all (soundZone l c) t ∷ pairwise idsDiffer t ∷ pairwise (zonesApart c) t ∷ [])
 
 -- the table check: yes exactly for a sound table, every unused record or zone zero, under a sound configuration
-unfoldable pub checkTable : StoredConfig → StoredTable → Bool
-checkTable c t = allOf (isSound (check c) ∷ tidy t ∷ sound (configOf c) (tableOf t) ∷ [])
+unfoldable pub checkTable : Limits → StoredConfig → StoredTable → Bool
+checkTable l c t = allOf (isSound (check l c) ∷ tidy t ∷ sound l (configOf c) (tableOf t) ∷ [])

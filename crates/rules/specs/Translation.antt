@@ -9,7 +9,7 @@ use Rattle.lists.specs.Rules.{Rule, _when_, firstRule}
 use Rattle.lists.specs.Tests.{allOf}
 use Rattle.rules.specs.Changes.{setAt}
 use Rattle.rules.specs.Configuration.{StoredConfig}
-use Rattle.rules.specs.Limits.{highestId}
+use Rattle.rules.specs.Limits.{highestId, Limits}
 use Rattle.rules.specs.Regions.{noRegion}
 use Rattle.rules.specs.Requests.{find, present, standingRules}
 use Rattle.rules.specs.Tables.{tableOf, Zone, StoredTable}
@@ -48,5 +48,5 @@ unfoldable pub translation : List Zone → ℕ → Side → ℕ → Translated
 translation t id s a = translatedAs (firstRule (translationRules t id s a) 0) a (coveringIn a (setAt t (find id t) s))
 
 -- from outside: 1 and 2 come first
-unfoldable pub translated : StoredConfig → StoredTable → ℕ → Side → Guest → Translated
-translated c t id s a = translatedAs (firstRule (standingRules c t ++ translationRules (tableOf t) id s (a .0)) 0) (a .0) (coveringIn (a .0) (setAt (tableOf t) (find id (tableOf t)) s))
+unfoldable pub translated : Limits → StoredConfig → StoredTable → ℕ → Side → Guest → Translated
+translated l c t id s a = translatedAs (firstRule (standingRules l c t ++ translationRules (tableOf t) id s (a .0)) 0) (a .0) (coveringIn (a .0) (setAt (tableOf t) (find id (tableOf t)) s))

@@ -2,24 +2,25 @@
 use Prim.Native.Nat.{ℕ, _+_, _-_, _≤_, _<_}
 use native.Mathlib.Nat.{sub-zero}
 use native.Mathlib.Omega.{arith}
-use mathlib.Core.Bool.{Bool, true, false, not, _||_}
-use mathlib.Core.List.{List}
-use mathlib.Core.Path.{_≡_, sym, ap, ap₂, _∙_}
+use mathlib.Core.Bool.{Bool, true, false, not, _&&_, _||_}
+use mathlib.Core.List.{List, [], _∷_}
+use mathlib.Core.Path.{_≡_, refl, sym, ap, ap₂, _∙_}
 use borrow.Author.Tests.{not-true, not-false, lt-ltb, le-ltb, le-leb, lt-leb, eq-eqb, ne-eqb}
 use lib.Dec.{ltb, leb}
 use lib.ListN.{length, getD}
 use Rattle.lists.specs.First.{firstIndex, firstFrom, any, all}
 use Rattle.lists.specs.Pairs.{pairwise}
 use Rattle.lists.specs.Places.{places, tab}
-use Rattle.lists.proofs.Every.{any-append}
+use Rattle.lists.specs.Tests.{allOf}
+use Rattle.lists.proofs.Every.{all-at, all-make, any-append}
 use Rattle.lists.proofs.First.{any-first, from-zero}
 use Rattle.lists.proofs.Pairs.{at-most-one}
 use Rattle.lists.proofs.Places.{every-stop, every-on, every-stop-here, every-on-here, length-tab, getD-tab, all-tab, pairs-tab, first-hit, first-on, first-end}
-use Rattle.lists.proofs.Tests.{or-left}
+use Rattle.lists.proofs.Tests.{or-left, parts}
 use Rattle.rules.specs.Configuration.{gicOf, Configuration}
-use Rattle.rules.specs.Limits.{mostZones, highestId, mostInSet}
-use Rattle.rules.specs.Regions.{regionEq, physOverlap, guestOverlap, noRegion}
-use Rattle.rules.specs.Tables.{noZone, hasId, guestApart, offGic, soundZone, idsDiffer, zonesApart, Zone}
+use Rattle.rules.specs.Limits.{mostZones, highestId, mostInSet, limits, pageOf}
+use Rattle.rules.specs.Regions.{wellFormed, regionEq, physOverlap, guestOverlap, noRegion}
+use Rattle.rules.specs.Tables.{noZone, hasId, configured, guestApart, offGic, soundSet, soundZone, idsDiffer, zonesApart, Zone}
 use Rattle.rules.specs.declared.Region.{Region}
 use Rattle.rules.specs.declared.Side.{Side}
 use Rattle.rules.specs.declared.Side.the-variants.{Cpu, Iommu}
@@ -28,6 +29,7 @@ use Rattle.zones.specs.Layout.{setBase}
 use Rattle.zones.specs.Records.{recordAt, recordsAt}
 use Rattle.zones.specs.View.{configIn, ConfigPassed, recordIn, setIn, zoneIn, zonesIn}
 use Rattle.zones.specs.Words.{Within}
+use Rattle.rules.proofs.Tables.{configured-at}
 use Rattle.zones.proofs.ConfigReaders.{config-sound}
 use Rattle.zones.proofs.Holding.{new-ids, apart-held}
 use Rattle.zones.proofs.Writers.{set-in}
@@ -194,5 +196,27 @@ id-low n m e h = le-leb m highestId (omega arith)
 pub few-zones : (t : List Zone) → Within t → leb (length t) mostZones ≡ true
 few-zones t b = le-leb (length t) mostZones (b .zones)
 
-pub apart-told : (w : List ℕ) (t : List Zone) (a b : Bool) → ConfigPassed w → a ≡ all (soundZone (configIn w)) t → not a ≡ false → b ≡ heldApart (configIn w) t → b ≡ pairwise (zonesApart (configIn w)) t
+pub apart-told : (w : List ℕ) (t : List Zone) (a b : Bool) → ConfigPassed w → a ≡ all (soundZone limits (configIn w)) t → not a ≡ false → b ≡ heldApart (configIn w) t → b ≡ pairwise (zonesApart (configIn w)) t
 apart-told w t a b ok e f h = h ∙ sym (apart-held (configIn w) (config-sound w ok) t (sym e ∙ not-false a f))
+
+-- ---- the document's terminals have one page for both sides
+pub formed-on : (t v : Bool) (s : Side) (r : Region) → t ≡ wellFormed (limits .page) r → not t ≡ v → not (wellFormed (pageOf limits s) r) ≡ v
+unfolding pageOf
+formed-on t v Cpu r e h = ap not (sym e) ∙ h
+formed-on t v Iommu r e h = ap not (sym e) ∙ h
+
+-- so a sound set of a zone is well formed for devices, since every configured region is
+all-formed : (w : List ℕ) (xs : List Region) → ConfigPassed w → soundSet limits (configIn w) xs ≡ true → all (wellFormed (limits .iommuPage)) xs ≡ true
+unfolding soundSet
+all-formed w xs ok e =
+    all-make (wellFormed (limits .page)) xs noRegion
+    (λ i h. let (j, l, q) = configured-at limits (configIn w) (config-sound w ok) (getD xs i noRegion) (all-at (configured (configIn w)) xs noRegion (parts _ e .1 .0) i h) in
+    ap (wellFormed (limits .page)) q ∙ config-sound w ok .formed j l)
+
+pub formed-last : (w : List ℕ) (xs : List Region) (s b t : Bool) → ConfigPassed w → s ≡ soundSet limits (configIn w) xs → not s ≡ false → b ≡ t → b ≡ allOf (t ∷ all (wellFormed (limits .iommuPage)) xs ∷ [])
+unfolding allOf
+formed-last w xs s b t ok e f h = rw (all-formed w xs ok (sym e ∙ not-false s f)) (h ∙ ends t)
+  where
+    ends : (x : Bool) → x ≡ (x && (true && true))
+    ends true = refl
+    ends false = refl

@@ -13,7 +13,7 @@ use Rattle.lists.specs.Rules.{_when_, firstRule}
 use Rattle.lists.proofs.First.{any-first, any-from}
 use Rattle.lists.proofs.Places.{length-tab, getD-tab, take-tab}
 use Rattle.rules.specs.Configuration.{positionRules, check}
-use Rattle.rules.specs.Limits.{mostRegions}
+use Rattle.rules.specs.Limits.{mostRegions, limits}
 use Rattle.rules.specs.Regions.{wellFormed, inReach, physOverlap, noRegion}
 use Rattle.rules.specs.declared.Checked.{Checked}
 use Rattle.rules.specs.declared.Checked.the-variants.{Sound, BadCount, BadGic, NotZero, Malformed, OutOfReach, Overlap}
@@ -48,8 +48,8 @@ module _ (w : List ℕ) (b n i k : ℕ) (p : Region → Bool) (found : k ≡ fir
 
 -- ---- the rules at a position, where r is the record that was read there
 pub rules-at : (w : List ℕ) (i : ℕ) (r : Region) (f : Checked) → r ≡ recordAt w configRecords i → i < mostRegions
-    → f ≡ firstRule (Malformed i when not (wellFormed r) ∷ OutOfReach i when not (inReach r) ∷ Overlap i (firstIndex (physOverlap r) (recordsAt w configRecords i)) when any (physOverlap r) (recordsAt w configRecords i) ∷ []) Sound
-    → f ≡ firstRule (positionRules (allRecords w) i) Sound
+    → f ≡ firstRule (Malformed i when not (wellFormed (limits .page) r) ∷ OutOfReach i when not (inReach limits r) ∷ Overlap i (firstIndex (physOverlap r) (recordsAt w configRecords i)) when any (physOverlap r) (recordsAt w configRecords i) ∷ []) Sound
+    → f ≡ firstRule (positionRules limits (allRecords w) i) Sound
 unfolding positionRules recordsAt
 rules-at w i r f er h e =
     let here : getD (allRecords w) i noRegion ≡ r = getD-tab mostRegions (recordAt w configRecords) i noRegion h ∙ sym er in
@@ -72,5 +72,5 @@ is-fault v t e = miss (1 ∷ 2 ∷ 3 ∷ 4 ∷ 5 ∷ 6 ∷ []) 0 tt (subst (λ (
 pub not-zero-at : (k m : ℕ) → k ≡ m → NotZero k ≡ NotZero m
 not-zero-at k m e = ap NotZero e
 
-pub config-told : (w : List ℕ) (f : Checked) → f ≡ check (storedConfig w) → f ≡ Sound → ConfigPassed w
+pub config-told : (w : List ℕ) (f : Checked) → f ≡ check limits (storedConfig w) → f ≡ Sound → ConfigPassed w
 config-told w f e g = sym e ∙ g

@@ -11,7 +11,7 @@ use Rattle.lists.proofs.First.{any-first}
 use Rattle.lists.proofs.Places.{length-tab, getD-tab, take-tab}
 use Rattle.lists.proofs.Room.{length-room, room-take}
 use Rattle.rules.specs.Configuration.{gicOf, configOf}
-use Rattle.rules.specs.Limits.{mostRegions}
+use Rattle.rules.specs.Limits.{mostRegions, limits}
 use Rattle.rules.specs.Regions.{regionEq, noRegion}
 use Rattle.rules.specs.Tables.{configured}
 use Rattle.rules.specs.declared.Region.{Region}
@@ -25,8 +25,8 @@ module _ (w : List ℕ) (ok : ConfigPassed w) where
   unfolding recordsAt
   recs-long = length-tab mostRegions (recordAt w configRecords)
 
-  pub config-sound : SoundConfiguration (configIn w)
-  config-sound = passed (storedConfig w) recs-long ok
+  pub config-sound : SoundConfiguration limits (configIn w)
+  config-sound = passed limits (storedConfig w) recs-long ok
 
   count-long : length (configIn w .regions) ≡ getD w configCount 0
   unfolding configOf

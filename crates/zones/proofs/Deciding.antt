@@ -15,7 +15,7 @@ use Rattle.lists.proofs.Rules.{Quiet, quiet, aboveZero, numbers-tell}
 use Rattle.lists.proofs.Tests.{both-true, or-left}
 use Rattle.rules.specs.Changes.{setAt}
 use Rattle.rules.specs.Configuration.{gicOf, Configuration}
-use Rattle.rules.specs.Limits.{mostZones, mostInSet}
+use Rattle.rules.specs.Limits.{mostZones, mostInSet, limits}
 use Rattle.rules.specs.Regions.{regionEq, physOverlap}
 use Rattle.rules.specs.Requests.{find, others, heldIn, holdsAny, onGic, forbidden, regionRules, setRules}
 use Rattle.rules.specs.Tables.{noZone, hasId, configured, Zone}
@@ -63,11 +63,11 @@ module _ (us : List (Rule ℕ)) (ch : Change) (n : ℕ) (said : n ≡ firstRule 
   unfolding firstRule
   last-passes d z f g = rw append-nil at (stage-passes us [] ch n said d z f g)
 
-pub region-above : (c : Configuration) (s : Side) (r : Region) → aboveZero (regionRules c s r) ≡ true
+pub region-above : (c : Configuration) (s : Side) (r : Region) → aboveZero (regionRules limits c s r) ≡ true
 unfolding regionRules aboveZero all
 region-above c s r = refl
 
-pub set-above : (c : Configuration) (k : ℕ) (s : Side) (r : Region) (t : List Zone) → aboveZero (setRules c k s r t) ≡ true
+pub set-above : (c : Configuration) (k : ℕ) (s : Side) (r : Region) (t : List Zone) → aboveZero (setRules limits c k s r t) ≡ true
 unfolding setRules aboveZero all
 set-above c k s r t = refl
 
@@ -152,13 +152,13 @@ module _ (w : List ℕ) (id z n : ℕ) (ez : z ≡ firstIndex (hasId id) (zonesI
         ap₂ (λ (k j : ℕ). Cut k s j) ez (ei ∙ ap (firstIndex (regionEq r)) (sym (set-in w z s here)) ∙ ap (λ (k : ℕ). firstIndex (regionEq r) (setAt (zonesIn w) k s)) ez)
 
   -- the last stage of an insert looks at the position
-  pub last-at : (c : Configuration) (s : Side) (r : Region) (d : Change) → d ≡ firstRule (refusing (setRules c z s r (zonesIn w))) (Push z s r) → d ≡ firstRule (refusing (setRules c (find id (zonesIn w)) s r (zonesIn w))) (Push (find id (zonesIn w)) s r)
-  last-at c s r d e = e ∙ ap (λ (k : ℕ). firstRule (refusing (setRules c k s r (zonesIn w))) (Push k s r)) ez
+  pub last-at : (c : Configuration) (s : Side) (r : Region) (d : Change) → d ≡ firstRule (refusing (setRules limits c z s r (zonesIn w))) (Push z s r) → d ≡ firstRule (refusing (setRules limits c (find id (zonesIn w)) s r (zonesIn w))) (Push (find id (zonesIn w)) s r)
+  last-at c s r d e = e ∙ ap (λ (k : ℕ). firstRule (refusing (setRules limits c k s r (zonesIn w))) (Push k s r)) ez
 
 -- ---- what 9 to 12 leave
-module _ (c : Configuration) (s : Side) (r : Region) (n : ℕ) (said : n ≡ firstRule (regionRules c s r) 0) (none : n ≡ 0) where
-  clear : Quiet (regionRules c s r)
-  clear = quiet (regionRules c s r) 0 (numbers-tell (regionRules c s r) (region-above c s r)) (sym said ∙ none)
+module _ (c : Configuration) (s : Side) (r : Region) (n : ℕ) (said : n ≡ firstRule (regionRules limits c s r) 0) (none : n ≡ 0) where
+  clear : Quiet (regionRules limits c s r)
+  clear = quiet (regionRules limits c s r) 0 (numbers-tell (regionRules limits c s r) (region-above c s r)) (sym said ∙ none)
 
   pub region-configured : configured c r ≡ true
   unfolding regionRules

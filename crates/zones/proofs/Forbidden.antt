@@ -7,6 +7,7 @@ use lib.ListN.{length, getD}
 use Rattle.lists.specs.First.{any, all}
 use Rattle.lists.proofs.Every.{all-at, all-make, all-append, all-left, all-right, all-removed, any-append, any-or, any-and, any-under, any-split}
 use Rattle.lists.proofs.Tests.{both-true, true-both, not-fails, false-of, same-test, parts}
+use Rattle.rules.specs.Limits.{limits}
 use Rattle.rules.specs.Changes.{setAt}
 use Rattle.rules.specs.Configuration.{gicOf, Configuration}
 use Rattle.rules.specs.Regions.{regionEq, physOverlap}
@@ -21,12 +22,12 @@ use Rattle.rules.proofs.Tables.{overlaps-itself, overlap-same}
 use Rattle.zones.specs.Decide.{sharedElsewhere}
 use Rattle.zones.specs.Holding.{holds}
 
-module _ (c : Configuration) (ok : SoundConfiguration c) (r : Region) (there : configured c r ≡ true) where
+module _ (c : Configuration) (ok : SoundConfiguration limits c) (r : Region) (there : configured c r ≡ true) where
   overlap-equal : (b : Region) → configured c b ≡ true → physOverlap r b ≡ regionEq r b
   overlap-equal b e =
       same-test (physOverlap r b) (regionEq r b)
-      (λ o. ap (regionEq r) (sym (overlap-same c ok r b there e o)) ∙ equal-refl r)
-      (λ q. ap (physOverlap r) (sym (equal-same r b q)) ∙ overlaps-itself c ok r there)
+      (λ o. ap (regionEq r) (sym (overlap-same limits c ok r b there e o)) ∙ equal-refl r)
+      (λ q. ap (physOverlap r) (sym (equal-same r b q)) ∙ overlaps-itself limits c ok r there)
 
   clash-equal : (b : Region) → configured c b ≡ true → clash c r b ≡ (not (regionEq r (gicOf c)) && regionEq r b)
   unfolding clash
@@ -59,7 +60,7 @@ module _ (c : Configuration) (ok : SoundConfiguration c) (r : Region) (there : c
         ∙ ap (λ (b : Bool). b && any (λ (z : Zone). any (regionEq r) (regionsOf z)) (others k t)) (sym (not-fails _ private))
       where
         private : regionEq r (gicOf c) ≡ false
-        private = false-of _ (λ q. true≢false (sym (overlaps-itself c ok r there) ∙ ap (physOverlap r) (equal-same r (gicOf c) q) ∙ off))
+        private = false-of _ (λ q. true≢false (sym (overlaps-itself limits c ok r there) ∙ ap (physOverlap r) (equal-same r (gicOf c) q) ∙ off))
 
         left-well : (z : Zone) → all (configured c) (regionsOf z) ≡ true → any (physOverlap r) (z .cpu) ≡ any (regionEq r) (z .cpu)
         left-well z e = any-under (configured c) (physOverlap r) (regionEq r) overlap-equal (z .cpu) (all-left (configured c) (z .cpu) (z .iommu) e)
@@ -77,15 +78,15 @@ module _ (c : Configuration) (ok : SoundConfiguration c) (r : Region) (there : c
         in-iommu = any-under (λ (z : Zone). all (configured c) (regionsOf z)) _ (λ (z : Zone). any (regionEq r) (z .iommu)) right-well (others k t) rest-fine
 
 -- every region of a sound table is configured
-zones-configured : (c : Configuration) (t : List Zone) → sound c t ≡ true → all (λ (z : Zone). all (configured c) (regionsOf z)) t ≡ true
+zones-configured : (c : Configuration) (t : List Zone) → sound limits c t ≡ true → all (λ (z : Zone). all (configured c) (regionsOf z)) t ≡ true
 unfolding sound soundZone soundSet
 zones-configured c t e =
     all-make (λ (z : Zone). all (configured c) (regionsOf z)) t noZone
     (λ i h.
-    let p = parts _ (all-at (soundZone c) t noZone (parts _ e .1 .0) i h) in
+    let p = parts _ (all-at (soundZone limits c) t noZone (parts _ e .1 .0) i h) in
     all-append (configured c) (getD t i noZone .cpu) (getD t i noZone .iommu) (parts _ (p .1 .0) .1 .0) (parts _ (p .1 .1 .0) .1 .0))
 
-pub forbidden-shared : (c : Configuration) (t : List Zone) (k : ℕ) (s : Side) (r : Region) → SoundConfiguration c → sound c t ≡ true → k < length t → configured c r ≡ true → onGic c s r ≡ false → heldIn r (setAt t k s) ≡ false → forbidden c k s r t ≡ sharedElsewhere c k r t
+pub forbidden-shared : (c : Configuration) (t : List Zone) (k : ℕ) (s : Side) (r : Region) → SoundConfiguration limits c → sound limits c t ≡ true → k < length t → configured c r ≡ true → onGic c s r ≡ false → heldIn r (setAt t k s) ≡ false → forbidden c k s r t ≡ sharedElsewhere c k r t
 unfolding forbidden onGic setAt sideOf
 forbidden-shared c t k Cpu r ok e h there off own = cpu-shared c ok r there t k h (zones-configured c t e) off own
 forbidden-shared c t k Iommu r ok e h there off own = iommu-shared c ok r there t k h (zones-configured c t e)

@@ -16,6 +16,7 @@ use Rattle.lists.proofs.First.{before-fails, first-is}
 use Rattle.lists.proofs.Pairs.{pairs-at, pairs-make}
 use Rattle.lists.proofs.Places.{every-at, every-make}
 use Rattle.lists.proofs.Tests.{both-true, true-both, or-left, or-right, not-fails, false-of, same-test, parts}
+use Rattle.rules.specs.Limits.{limits}
 use Rattle.rules.specs.Configuration.{gicOf, Configuration}
 use Rattle.rules.specs.Regions.{regionEq, noRegion}
 use Rattle.rules.specs.Tables.{noZone, hasId, regionsOf, configured, clash, soundSet, soundZone, idsDiffer, zonesApart, Zone}
@@ -45,12 +46,12 @@ new-ids t = same-test (pairwise idsDiffer t) (all (newId t) (places 0 (length t)
         ap not (before-fails (hasId (id z)) t noZone y (omega arith))
 
 -- ---- zones share nothing but the GIC exactly when each other configured region is held once
-module _ (c : Configuration) (ok : SoundConfiguration c) (t : List Zone) (each : all (soundZone c) t ≡ true) where
+module _ (c : Configuration) (ok : SoundConfiguration limits c) (t : List Zone) (each : all (soundZone limits c) t ≡ true) where
   -- every region of a zone is configured
   zone-configured : (z : ℕ) → z < length t → all (configured c) (regionsOf (getD t z noZone)) ≡ true
   unfolding soundZone soundSet
   zone-configured z h =
-      let s = parts _ (all-at (soundZone c) t noZone each z h) in
+      let s = parts _ (all-at (soundZone limits c) t noZone each z h) in
       all-append (configured c) (getD t z noZone .cpu) (getD t z noZone .iommu) (parts _ (s .1 .0) .1 .0) (parts _ (s .1 .1 .0) .1 .0)
 
   -- a zone that holds a region has it among its regions
@@ -64,7 +65,7 @@ module _ (c : Configuration) (ok : SoundConfiguration c) (t : List Zone) (each :
 
   -- two zones that hold one region other than the GIC clash
   not-gic : (k : ℕ) → k < length (c .regions) → (k ≡ c .gic → ⊥) → regionEq (getD (c .regions) k noRegion) (gicOf c) ≡ false
-  not-gic k h ne = false-of _ (λ e. ne (gic-position c ok k h (equal-same _ _ e)))
+  not-gic k h ne = false-of _ (λ e. ne (gic-position limits c ok k h (equal-same _ _ e)))
 
   region-there : (k : ℕ) → k < length (c .regions) → configured c (getD (c .regions) k noRegion) ≡ true
   unfolding configured
@@ -73,7 +74,7 @@ module _ (c : Configuration) (ok : SoundConfiguration c) (t : List Zone) (each :
   self-clash : (k : ℕ) → k < length (c .regions) → (k ≡ c .gic → ⊥) → clash c (getD (c .regions) k noRegion) (getD (c .regions) k noRegion) ≡ true
   unfolding clash
   self-clash k h ne =
-      true-both _ _ (not-fails _ (not-gic k h ne)) (true-both _ _ (not-fails _ (not-gic k h ne)) (overlaps-itself c ok (getD (c .regions) k noRegion) (region-there k h)))
+      true-both _ _ (not-fails _ (not-gic k h ne)) (true-both _ _ (not-fails _ (not-gic k h ne)) (overlaps-itself limits c ok (getD (c .regions) k noRegion) (region-there k h)))
 
   shared-clash : (k : ℕ) → k < length (c .regions) → (k ≡ c .gic → ⊥) → (y z : Zone) → holds (getD (c .regions) k noRegion) y ≡ true → holds (getD (c .regions) k noRegion) z ≡ true → zonesApart c y z ≡ true → ⊥
   unfolding zonesApart
@@ -91,8 +92,8 @@ module _ (c : Configuration) (ok : SoundConfiguration c) (t : List Zone) (each :
   clash-shared y z hy hz a b ea eb e =
       let p = both-true (not (regionEq a (gicOf c))) _ e in
       let q = both-true (not (regionEq b (gicOf c))) _ (p .1) in
-      let same : a ≡ b = overlap-same c ok a b ea eb (q .1) in
-      let (k, h, r) = configured-at c ok a ea in
+      let same : a ≡ b = overlap-same limits c ok a b ea eb (q .1) in
+      let (k, h, r) = configured-at limits c ok a ea in
       (k, h, (λ g. true≢false (sym (equal-refl (gicOf c)) ∙ ap (λ (x : Region). regionEq x (gicOf c)) (sym (r ∙ ap (λ (j : ℕ). getD (c .regions) j noRegion) g)) ∙ not-true _ (p .0))), r, sym same ∙ r)
 
   pub apart-held : pairwise (zonesApart c) t ≡ heldApart c t

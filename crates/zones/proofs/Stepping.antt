@@ -16,7 +16,7 @@ use Rattle.lists.proofs.Rules.{Quiet, quiet, hit-whatever, quiet-answer, aboveZ
 use Rattle.lists.proofs.Tests.{both-true, parts}
 use Rattle.rules.specs.Changes.{setAt}
 use Rattle.rules.specs.Configuration.{check, Configuration}
-use Rattle.rules.specs.Limits.{highestId}
+use Rattle.rules.specs.Limits.{highestId, limits}
 use Rattle.rules.specs.Regions.{regionEq}
 use Rattle.rules.specs.Requests.{find, present, addRules, removeZoneRules, regionRules, setRules, insertRules, removeRules, kindRules, noRequest, requestRules, refusal, after, next, standingRules, standing, answer}
 use Rattle.rules.specs.Tables.{hasId, tableOf, soundSet, sound, checkTable, Zone}
@@ -47,19 +47,19 @@ refused-or-made ((n, false) ∷ rs) ch z = refused-or-made rs ch (both-true (ltb
 
 -- what is to be shown of an outcome: its number, the table that it leaves, and that it can be done
 pub record Comes (c : Configuration) (t : List Zone) (k : Kind) (id : ℕ) (d : Change) : Type 0 where
-  pub number : numberOf d ≡ firstRule (requestRules c k id t) 0
-  pub leaves : applied d t ≡ cond (eqb (firstRule (requestRules c k id t) 0) 0) (after k id t) t
+  pub number : numberOf d ≡ firstRule (requestRules limits c k id t) 0
+  pub leaves : applied d t ≡ cond (eqb (firstRule (requestRules limits c k id t) 0) 0) (after k id t) t
   pub can : Allowed d t
 
 module _ (c : Configuration) (t : List Zone) (k : Kind) (id : ℕ) where
   n : ℕ
-  n = firstRule (requestRules c k id t) 0
+  n = firstRule (requestRules limits c k id t) 0
 
   refused : (d : Change) → (n ≡ 0 → ⊥) → d ≡ Refuse n → Comes c t k id d
   unfolding n applied Allowed
   refused d ne e = record {
     number = ap numberOf e;
-    leaves = ap (λ (x : Change). applied x t) e ∙ sym (ap (λ (b : Bool). cond b (after k id t) t) (ne-eqb (firstRule (requestRules c k id t) 0) 0 ne));
+    leaves = ap (λ (x : Change). applied x t) e ∙ sym (ap (λ (b : Bool). cond b (after k id t) t) (ne-eqb (firstRule (requestRules limits c k id t) 0) 0 ne));
     can = subst (λ (x : Change). Allowed x t) (sym e) tt;
   }
 
@@ -67,7 +67,7 @@ module _ (c : Configuration) (t : List Zone) (k : Kind) (id : ℕ) where
   unfolding n
   made d ch z e m a l = record {
     number = ap numberOf e ∙ m ∙ sym z;
-    leaves = ap (λ (x : Change). applied x t) e ∙ a ∙ sym (ap (λ (b : Bool). cond b (after k id t) t) (eq-eqb (firstRule (requestRules c k id t) 0) 0 z));
+    leaves = ap (λ (x : Change). applied x t) e ∙ a ∙ sym (ap (λ (b : Bool). cond b (after k id t) t) (eq-eqb (firstRule (requestRules limits c k id t) 0) 0 z));
     can = subst (λ (x : Change). Allowed x t) (sym e) l;
   }
 
@@ -77,19 +77,19 @@ found id t e = ltb-true _ _ (sym (any-first (hasId id) t) ∙ e)
 kind-comes : (c : Configuration) (t : List Zone) (k : Kind) (id : ℕ) → Comes c t k id (decidedKind c k id t)
 unfolding n decidedKind decidedAdd decidedDrop decidedInsert decidedCut requestRules kindRules addRules removeZoneRules insertRules regionRules setRules removeRules noRequest after applied Allowed aboveZero all firstRule
 kind-comes c t AddZone id =
-    ⊎-elim (λ (ne, e). refused c t AddZone id _ ne e) (λ (z, e). made c t AddZone id _ (Add id) z e refl refl (leb-false _ _ (none-applies c AddZone id t z .1 .1 .1 .0)))
-    (refused-or-made (4 when ltb highestId id ∷ addRules id t) (Add id) refl)
+    ⊎-elim (λ (ne, e). refused c t AddZone id _ ne e) (λ (z, e). made c t AddZone id _ (Add id) z e refl refl (leb-false _ _ (none-applies limits c AddZone id t z .1 .1 .1 .0)))
+    (refused-or-made (4 when ltb highestId id ∷ addRules limits id t) (Add id) refl)
 kind-comes c t RemoveZone id =
-    ⊎-elim (λ (ne, e). refused c t RemoveZone id _ ne e) (λ (z, e). made c t RemoveZone id _ (Drop (find id t)) z e refl refl (found id t (not-false _ (none-applies c RemoveZone id t z .1 .1 .0))))
+    ⊎-elim (λ (ne, e). refused c t RemoveZone id _ ne e) (λ (z, e). made c t RemoveZone id _ (Drop (find id t)) z e refl refl (found id t (not-false _ (none-applies limits c RemoveZone id t z .1 .1 .0))))
     (refused-or-made (4 when ltb highestId id ∷ removeZoneRules id t) (Drop (find id t)) refl)
 kind-comes c t (Insert s r) id =
     ⊎-elim (λ (ne, e). refused c t (Insert s r) id _ ne e)
-    (λ (z, e). let q = none-applies c (Insert s r) id t z .1 .1 in made c t (Insert s r) id _ (Push (find id t) s r) z e refl refl (found id t (not-false _ (q .0)), leb-false _ _ (q .1 .1 .1 .1 .1 .1 .1 .1 .0)))
-    (refused-or-made (4 when ltb highestId id ∷ insertRules c id s r t) (Push (find id t) s r) refl)
+    (λ (z, e). let q = none-applies limits c (Insert s r) id t z .1 .1 in made c t (Insert s r) id _ (Push (find id t) s r) z e refl refl (found id t (not-false _ (q .0)), leb-false _ _ (q .1 .1 .1 .1 .1 .1 .1 .1 .0)))
+    (refused-or-made (4 when ltb highestId id ∷ insertRules limits c id s r t) (Push (find id t) s r) refl)
 kind-comes c t (Remove s r) id =
     ⊎-elim (λ (ne, e). refused c t (Remove s r) id _ ne e)
     (λ (z, e).
-    let q = none-applies c (Remove s r) id t z .1 .1 in
+    let q = none-applies limits c (Remove s r) id t z .1 .1 in
     made c t (Remove s r) id _ (Cut (find id t) s (firstIndex (regionEq r) (setAt t (find id t) s))) z e refl refl (found id t (not-false _ (q .0)), ltb-true _ _ (sym (any-first (regionEq r) (setAt t (find id t) s)) ∙ not-false _ (q .1 .0))))
     (refused-or-made (4 when ltb highestId id ∷ removeRules id s r t) (Cut (find id t) s (firstIndex (regionEq r) (setAt t (find id t) s))) refl)
 kind-comes c t NoRequest id = record { number = refl; leaves = refl; can = tt }
@@ -103,34 +103,34 @@ module _ (c : Configuration) (t : List Zone) (q : Request) (d : Change) (e : d �
   pub decided-allowed : Allowed d t
   decided-allowed = comes .can
 
-  pub decided-number : (m : ℕ) → m ≡ numberOf d → m ≡ refusal c t q
+  pub decided-number : (m : ℕ) → m ≡ numberOf d → m ≡ refusal limits c t q
   unfolding refusal
   decided-number m h = h ∙ comes .number
 
-  pub decided-table : (u : List ℕ) → u ≡ wordsOf (applied d t) → u ≡ wordsOf (next c t q)
+  pub decided-table : (u : List ℕ) → u ≡ wordsOf (applied d t) → u ≡ wordsOf (next limits c t q)
   unfolding next refusal
   decided-table u h = h ∙ ap wordsOf (comes .leaves)
 
 -- ---- a sound table is within limits
-pub sound-within : (c : Configuration) (t : List Zone) → sound c t ≡ true → Within t
+pub sound-within : (c : Configuration) (t : List Zone) → sound limits c t ≡ true → Within t
 unfolding soundSet
-sound-within c t e = let ok = sound-parts c t e in record { zones = ok .few; sets = λ z s h. leb-true _ _ (parts _ (set-sound c t ok z s h) .0) }
+sound-within c t e = let ok = sound-parts limits c t e in record { zones = ok .few; sets = λ z s h. leb-true _ _ (parts _ (set-sound limits c t ok z s h) .0) }
 
 -- ---- one request from outside
 module _ (c t : List ℕ) where
   -- a number before any request: the words stay
-  pub before-any : (q : Request) (n : ℕ) → n ≡ standing (storedConfig c) (storedTable t) → (n ≡ 0 → ⊥) → Stepped c t q n t
+  pub before-any : (q : Request) (n : ℕ) → n ≡ standing limits (storedConfig c) (storedTable t) → (n ≡ 0 → ⊥) → Stepped c t q n t
   unfolding answer afterwards
   before-any q n e ne =
-      let k : n ≡ answer (storedConfig c) (storedTable t) q = hit-whatever (standingRules (storedConfig c) (storedTable t)) n 0 (refusal (configIn c) (tableOf (storedTable t)) q) e ne in
+      let k : n ≡ answer limits (storedConfig c) (storedTable t) q = hit-whatever (standingRules limits (storedConfig c) (storedTable t)) n 0 (refusal limits (configIn c) (tableOf (storedTable t)) q) e ne in
       record { number = k; table = sym (ap (λ (b : Bool). cond b (wordsOf (after (q .kind) (q .zone) (tableOf (storedTable t)))) t) (ne-eqb _ 0 (λ z. ne (k ∙ z)))) }
 
-  module _ (n : ℕ) (e : n ≡ standing (storedConfig c) (storedTable t)) (z : n ≡ 0) where
-    none : Quiet (standingRules (storedConfig c) (storedTable t))
+  module _ (n : ℕ) (e : n ≡ standing limits (storedConfig c) (storedTable t)) (z : n ≡ 0) where
+    none : Quiet (standingRules limits (storedConfig c) (storedTable t))
     unfolding standingRules aboveZero all
-    none = quiet (standingRules (storedConfig c) (storedTable t)) 0 (numbers-tell (standingRules (storedConfig c) (storedTable t)) refl) (sym e ∙ z)
+    none = quiet (standingRules limits (storedConfig c) (storedTable t)) 0 (numbers-tell (standingRules limits (storedConfig c) (storedTable t)) refl) (sym e ∙ z)
 
-    both : (check (storedConfig c) ≡ Sound) × (checkTable (storedConfig c) (storedTable t) ≡ true)
+    both : (check limits (storedConfig c) ≡ Sound) × (checkTable limits (storedConfig c) (storedTable t) ≡ true)
     unfolding standingRules
     both = (sound-answer _ (not-false _ (none .0)), not-false _ (none .1 .0))
 
@@ -141,16 +141,16 @@ module _ (c t : List ℕ) where
       pub stands-ready : Ready c t
       stands-ready = record { config = both .0; words = packed-words t l (passed-packed (storedConfig c) t (both .1)); table = passed-sound (storedConfig c) t (both .1) }
 
-      number-same : (q : Request) → refusal (configIn c) (zonesIn t) q ≡ answer (storedConfig c) (storedTable t) q
+      number-same : (q : Request) → refusal limits (configIn c) (zonesIn t) q ≡ answer limits (storedConfig c) (storedTable t) q
       unfolding answer
-      number-same q = ap (λ (x : List Zone). refusal (configIn c) x q) stands-same ∙ quiet-answer (standingRules (storedConfig c) (storedTable t)) (refusal (configIn c) (tableOf (storedTable t)) q) none
+      number-same q = ap (λ (x : List Zone). refusal limits (configIn c) x q) stands-same ∙ quiet-answer (standingRules limits (storedConfig c) (storedTable t)) (refusal limits (configIn c) (tableOf (storedTable t)) q) none
 
-      pub request-done : (q : Request) (m : ℕ) (u : List ℕ) → m ≡ refusal (configIn c) (zonesIn t) q → u ≡ wordsOf (next (configIn c) (zonesIn t) q) → Stepped c t q m u
+      pub request-done : (q : Request) (m : ℕ) (u : List ℕ) → m ≡ refusal limits (configIn c) (zonesIn t) q → u ≡ wordsOf (next limits (configIn c) (zonesIn t) q) → Stepped c t q m u
       unfolding afterwards next
       request-done q m u k y = record {
         number = k ∙ number-same q;
         table =
-            y ∙ by (eqb (refusal (configIn c) (zonesIn t) q) 0) (after (q .kind) (q .zone) (zonesIn t)) (zonesIn t)
+            y ∙ by (eqb (refusal limits (configIn c) (zonesIn t) q) 0) (after (q .kind) (q .zone) (zonesIn t)) (zonesIn t)
             ∙ (λ i. cond (eqb (number-same q i) 0) (wordsOf (after (q .kind) (q .zone) (stands-same i))) (sym (stands-ready .words .words) i));
       }
         where

@@ -21,10 +21,10 @@ use Rattle.lists.proofs.Rules.{rule-hit, rule-skip, rule-none}
 use Rattle.lists.proofs.Tests.{false-of, Holds, parts, all-miss, all-pass, all-last}
 use Rattle.lists.proofs.Words.{front}
 use Rattle.rules.specs.Configuration.{configOf, check, isSound, Configuration, StoredConfig}
-use Rattle.rules.specs.Limits.{mostZones, mostInSet}
+use Rattle.rules.specs.Limits.{mostZones, mostInSet, limits}
 use Rattle.rules.specs.Regions.{regionEq, noRegion, used}
 use Rattle.rules.specs.Requests.{standingRules, standing}
-use Rattle.rules.specs.Tables.{noZone, sideOf, unusedZone, setOf, zoneOf, tableOf, restZero, zeroSet, tidyZone, zeroZone, tidy, soundSet, soundZone, sound, checkTable, StoredZone, StoredTable}
+use Rattle.rules.specs.Tables.{noZone, sideOf, noStored, setOf, zoneOf, tableOf, restZero, zeroSet, tidyZone, zeroZone, tidy, soundSet, soundZone, sound, checkTable, StoredZone, StoredTable}
 use Rattle.rules.specs.declared.Checked.{Checked}
 use Rattle.rules.specs.declared.Checked.the-variants.{Sound}
 use Rattle.rules.specs.declared.Region.{Region}
@@ -154,12 +154,12 @@ module _ (w : List ℕ) where
   table-same l =
       let n : ℕ = getD w 0 0 in
       let few : n ≤ mostZones = l .zones in
-      ap (map zoneOf) (room-take n unusedZone (tab mostZones (storedZone w)) (omega (arith, length-tab mostZones (storedZone w))) ∙ used-zones l)
+      ap (map zoneOf) (room-take n noStored (tab mostZones (storedZone w)) (omega (arith, length-tab mostZones (storedZone w))) ∙ used-zones l)
       ∙ ext-getD noZone (map zoneOf (tab n (storedZone w))) (tab n (zoneIn w)) (length-map (tab n (storedZone w)) zoneOf ∙ length-tab n (storedZone w) ∙ sym (length-tab n (zoneIn w)))
       (λ z h.
       let lt : z < n = omega (arith, length-map (tab n (storedZone w)) zoneOf, length-tab n (storedZone w)) in
-      getD-any (map zoneOf (tab n (storedZone w))) z noZone (zoneOf unusedZone) h ∙ List·getD-map zoneOf (tab n (storedZone w)) z unusedZone
-      ∙ ap zoneOf (getD-tab n (storedZone w) z unusedZone lt) ∙ zone-same w z (l .sets z lt) ∙ sym (getD-tab n (zoneIn w) z noZone lt))
+      getD-any (map zoneOf (tab n (storedZone w))) z noZone (zoneOf noStored) h ∙ List·getD-map zoneOf (tab n (storedZone w)) z noStored
+      ∙ ap zoneOf (getD-tab n (storedZone w) z noStored lt) ∙ zone-same w z (l .sets z lt) ∙ sym (getD-tab n (zoneIn w) z noZone lt))
 
   -- within limits, tidy is packed
   tidy-is-packed : Limited → tidy (storedTable w) ≡ packed w
@@ -194,31 +194,31 @@ module _ (w : List ℕ) where
       by z Iommu h = leb-true _ _ (parts _ (h .1 .0) .0)
 
   -- and so are the words of a sound table
-  module _ (c : Configuration) (e : sound c (tableOf (storedTable w)) ≡ true) where
+  module _ (c : Configuration) (e : sound limits c (tableOf (storedTable w)) ≡ true) where
     few : getD w 0 0 ≤ mostZones
     unfolding sound tableOf storedTable
-    few = let l : length (map zoneOf (room (getD w 0 0) unusedZone (tab mostZones (storedZone w)))) ≤ mostZones = leb-true _ _ (parts _ e .0) in omega (arith, length-map (room (getD w 0 0) unusedZone (tab mostZones (storedZone w))) zoneOf, length-room (getD w 0 0) unusedZone (tab mostZones (storedZone w)))
+    few = let l : length (map zoneOf (room (getD w 0 0) noStored (tab mostZones (storedZone w)))) ≤ mostZones = leb-true _ _ (parts _ e .0) in omega (arith, length-map (room (getD w 0 0) noStored (tab mostZones (storedZone w))) zoneOf, length-room (getD w 0 0) noStored (tab mostZones (storedZone w)))
 
     zone-stored : (z : ℕ) → z < getD w 0 0 → getD (tableOf (storedTable w)) z noZone ≡ zoneOf (storedZone w z)
     unfolding tableOf storedTable
     zone-stored z h =
         let n : ℕ = getD w 0 0 in
         let f : n ≤ mostZones = few in
-        getD-any (map zoneOf (room n unusedZone (tab mostZones (storedZone w)))) z noZone (zoneOf unusedZone) (omega (arith, length-map (room n unusedZone (tab mostZones (storedZone w))) zoneOf, length-room n unusedZone (tab mostZones (storedZone w))))
-        ∙ List·getD-map zoneOf (room n unusedZone (tab mostZones (storedZone w))) z unusedZone
-        ∙ ap (λ (l : List StoredZone). zoneOf (getD l z unusedZone)) (room-tab n unusedZone (tab mostZones (storedZone w)))
-        ∙ ap zoneOf (getD-tab n (λ i. getD (tab mostZones (storedZone w)) i unusedZone) z unusedZone h ∙ getD-tab mostZones (storedZone w) z unusedZone (omega arith))
+        getD-any (map zoneOf (room n noStored (tab mostZones (storedZone w)))) z noZone (zoneOf noStored) (omega (arith, length-map (room n noStored (tab mostZones (storedZone w))) zoneOf, length-room n noStored (tab mostZones (storedZone w))))
+        ∙ List·getD-map zoneOf (room n noStored (tab mostZones (storedZone w))) z noStored
+        ∙ ap (λ (l : List StoredZone). zoneOf (getD l z noStored)) (room-tab n noStored (tab mostZones (storedZone w)))
+        ∙ ap zoneOf (getD-tab n (λ i. getD (tab mostZones (storedZone w)) i noStored) z noStored h ∙ getD-tab mostZones (storedZone w) z noStored (omega arith))
 
     set-stored : (z : ℕ) (s : Side) → z < getD w 0 0 → length (sideOf s (zoneOf (storedZone w z))) ≡ getD w (setBase z s) 0
     unfolding sideOf zoneOf storedZone setOf storedSet
     set-stored z Cpu h = length-room (getD w (setBase z Cpu) 0) noRegion (recordsAt w (setBase z Cpu + 1) mostInSet)
     set-stored z Iommu h = length-room (getD w (setBase z Iommu) 0) noRegion (recordsAt w (setBase z Iommu + 1) mostInSet)
 
-    one : (z : ℕ) → z < getD w 0 0 → soundZone c (zoneOf (storedZone w z)) ≡ true
+    one : (z : ℕ) → z < getD w 0 0 → soundZone limits c (zoneOf (storedZone w z)) ≡ true
     unfolding sound tableOf storedTable
     one z h =
-        ap (soundZone c) (sym (zone-stored z h))
-        ∙ all-at (soundZone c) (tableOf (storedTable w)) noZone (parts _ e .1 .0) z (omega (arith, length-map (room (getD w 0 0) unusedZone (tab mostZones (storedZone w))) zoneOf, length-room (getD w 0 0) unusedZone (tab mostZones (storedZone w))))
+        ap (soundZone limits c) (sym (zone-stored z h))
+        ∙ all-at (soundZone limits c) (tableOf (storedTable w)) noZone (parts _ e .1 .0) z (omega (arith, length-map (room (getD w 0 0) noStored (tab mostZones (storedZone w))) zoneOf, length-room (getD w 0 0) noStored (tab mostZones (storedZone w))))
 
     small : (z : ℕ) → z < getD w 0 0 → (s : Side) → length (sideOf s (zoneOf (storedZone w z))) ≤ mostInSet
     unfolding sound soundZone soundSet sideOf
@@ -239,30 +239,30 @@ within-limits w l = record {
 -- ---- what the check answers
 module _ (s : StoredConfig) (w : List ℕ) where
   -- the configuration is not sound
-  pub config-fault : (f : Checked) → f ≡ check s → (f ≡ Sound → ⊥) → false ≡ checkTable s (storedTable w)
+  pub config-fault : (f : Checked) → f ≡ check limits s → (f ≡ Sound → ⊥) → false ≡ checkTable limits s (storedTable w)
   unfolding checkTable
   config-fault f e bad = all-miss _ _ (ap isSound (sym e) ∙ fault-unsound f bad)
 
   -- the words are not packed
-  pub words-fault : (t : Bool) → t ≡ packed w → not t ≡ true → false ≡ checkTable s (storedTable w)
+  pub words-fault : (t : Bool) → t ≡ packed w → not t ≡ true → false ≡ checkTable limits s (storedTable w)
   unfolding checkTable
   words-fault t e f =
       sym
-      (false-of (checkTable s (storedTable w))
+      (false-of (checkTable limits s (storedTable w))
       (λ h.
       let p = parts _ h in
       true≢false (sym (p .1 .0) ∙ tidy-is-packed w (sound-limited w (configOf s) (p .1 .1 .0)) ∙ sym e ∙ not-true t f)))
 
   -- both are well: the answer is whether the table is sound
-  pub table-judged : (t b : Bool) → check s ≡ Sound → t ≡ packed w → not t ≡ false → b ≡ sound (configOf s) (zonesIn w) → b ≡ checkTable s (storedTable w)
+  pub table-judged : (t b : Bool) → check limits s ≡ Sound → t ≡ packed w → not t ≡ false → b ≡ sound limits (configOf s) (zonesIn w) → b ≡ checkTable limits s (storedTable w)
   unfolding checkTable
   table-judged t b g q h j =
       let p : packed w ≡ true = sym q ∙ not-false t h in
       let l : Limited w = packed-limited w p in
-      all-pass b _ _ (ap isSound g ∙ sound-is) (all-pass b _ _ (tidy-is-packed w l ∙ p) (all-last b _ (j ∙ ap (sound (configOf s)) (sym (table-same w l)))))
+      all-pass b _ _ (ap isSound g ∙ sound-is) (all-pass b _ _ (tidy-is-packed w l ∙ p) (all-last b _ (j ∙ ap (sound limits (configOf s)) (sym (table-same w l)))))
 
   -- a table that passed is packed and sound
-  module _ (e : checkTable s (storedTable w) ≡ true) where
+  module _ (e : checkTable limits s (storedTable w) ≡ true) where
     passed-limited : Limited w
     unfolding checkTable
     passed-limited = sound-limited w (configOf s) (parts _ e .1 .1 .0)
@@ -274,9 +274,9 @@ module _ (s : StoredConfig) (w : List ℕ) where
     pub passed-same : zonesIn w ≡ tableOf (storedTable w)
     passed-same = sym (table-same w passed-limited)
 
-    pub passed-sound : sound (configOf s) (zonesIn w) ≡ true
+    pub passed-sound : sound limits (configOf s) (zonesIn w) ≡ true
     unfolding checkTable
-    passed-sound = ap (sound (configOf s)) passed-same ∙ parts _ e .1 .1 .0
+    passed-sound = ap (sound limits (configOf s)) passed-same ∙ parts _ e .1 .1 .0
 
 -- what the private check asks
 pub packed-within : (w : List ℕ) (t : Bool) → t ≡ packed w → not t ≡ false → Within (zonesIn w)
@@ -284,17 +284,17 @@ packed-within w t e f = within-limits w (packed-limited w (sym e ∙ not-false t
 
 -- ---- the number before any request
 module _ (c : StoredConfig) (t : StoredTable) where
-  pub config-first : (f : Checked) → f ≡ check c → (f ≡ Sound → ⊥) → 1 ≡ standing c t
+  pub config-first : (f : Checked) → f ≡ check limits c → (f ≡ Sound → ⊥) → 1 ≡ standing limits c t
   unfolding standingRules
   config-first f e bad = rule-hit _ _ _ _ _ (ap not (ap isSound (sym e) ∙ fault-unsound f bad)) refl
 
-  module _ (g : check c ≡ Sound) where
-    skip-config : (n : ℕ) → n ≡ firstRule (2 when not (checkTable c t) ∷ []) 0 → n ≡ standing c t
+  module _ (g : check limits c ≡ Sound) where
+    skip-config : (n : ℕ) → n ≡ firstRule (2 when not (checkTable limits c t) ∷ []) 0 → n ≡ standing limits c t
     unfolding standingRules
     skip-config n = rule-skip _ _ _ _ _ (ap not (ap isSound g ∙ sound-is))
 
-    pub table-second : (b : Bool) → b ≡ checkTable c t → not b ≡ true → 2 ≡ standing c t
+    pub table-second : (b : Bool) → b ≡ checkTable limits c t → not b ≡ true → 2 ≡ standing limits c t
     table-second b e f = skip-config 2 (rule-hit _ _ _ _ _ (ap not (sym e) ∙ f) refl)
 
-    pub both-stand : (b : Bool) → b ≡ checkTable c t → not b ≡ false → 0 ≡ standing c t
+    pub both-stand : (b : Bool) → b ≡ checkTable limits c t → not b ≡ false → 0 ≡ standing limits c t
     both-stand b e f = skip-config 0 (rule-skip _ _ _ _ _ (ap not (sym e) ∙ f) (rule-none _ _ refl))

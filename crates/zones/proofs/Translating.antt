@@ -16,7 +16,7 @@ use Rattle.lists.proofs.Rules.{rule-hit, rule-skip, rule-none, Telling, stage-h
 use Rattle.lists.proofs.Tests.{same-test, parts, whole}
 use Rattle.rules.specs.Addresses.{overlaps}
 use Rattle.rules.specs.Changes.{setAt}
-use Rattle.rules.specs.Limits.{highestId, mostInSet}
+use Rattle.rules.specs.Limits.{highestId, mostInSet, limits}
 use Rattle.rules.specs.Regions.{inReach, noRegion}
 use Rattle.rules.specs.Requests.{find, standingRules, standing}
 use Rattle.rules.specs.Tables.{hasId, tableOf, configured, soundSet, Zone}
@@ -110,7 +110,7 @@ module _ (w : List ℕ) (id : ℕ) (s : Side) (a : ℕ) where
         pub no-wrap : Near (zonesIn w) → x .p .0 + (a - x .v .0) < 2 ^ 64
         unfolding inReach
         no-wrap near =
-            let q : inReach x ≡ true = ap inReach (region-here ∙ ap (λ (l : List Region). getD l i noRegion) (sym (set-in w z s there))) ∙ near .reach z s i there (omega (arith, ap length (set-in w z s there))) in
+            let q : inReach limits x ≡ true = ap (inReach limits) (region-here ∙ ap (λ (l : List Region). getD l i noRegion) (sym (set-in w z s there))) ∙ near .reach z s i there (omega (arith, ap length (set-in w z s there))) in
             let b : x .p .0 + x .size ≤ 2 ^ 48 = leb-true _ _ (parts _ q .1 .0) in
             let u : a < x .v .0 + x .size = before-end in
             let g : x .v .0 ≤ a = from-start in
@@ -128,34 +128,34 @@ module _ (w : List ℕ) (id : ℕ) (s : Side) (a : ℕ) where
 near-ready : (c t : List ℕ) → Ready c t → Near (zonesIn t)
 unfolding soundSet
 near-ready c t r =
-    let ok : SoundConfiguration (configIn c) = config-sound c (r .config) in
+    let ok : SoundConfiguration limits (configIn c) = config-sound c (r .config) in
     record {
       within = r .words .within;
       reach = λ z s i h l.
           let xs : List Region = setAt (zonesIn t) z s in
-          let (k, m, q) = configured-at (configIn c) ok (getD xs i noRegion) (all-at (configured (configIn c)) xs noRegion (parts _ (set-sound (configIn c) (zonesIn t) (sound-parts (configIn c) (zonesIn t) (r .table)) z s h) .1 .0) i l) in
-          ap inReach q ∙ ok .near k m;
+          let (k, m, q) = configured-at limits (configIn c) ok (getD xs i noRegion) (all-at (configured (configIn c)) xs noRegion (parts _ (set-sound limits (configIn c) (zonesIn t) (sound-parts limits (configIn c) (zonesIn t) (r .table)) z s h) .1 .0) i l) in
+          ap (inReach limits) q ∙ ok .near k m;
     }
 
-standing-telling : (c t : List ℕ) → Telling (standingRules (storedConfig c) (storedTable t)) 0
+standing-telling : (c t : List ℕ) → Telling (standingRules limits (storedConfig c) (storedTable t)) 0
 unfolding standingRules aboveZero all
-standing-telling c t = numbers-tell (standingRules (storedConfig c) (storedTable t)) refl
+standing-telling c t = numbers-tell (standingRules limits (storedConfig c) (storedTable t)) refl
 
 -- ---- from outside
-module _ (c t : List ℕ) (n : ℕ) (e : n ≡ standing (storedConfig c) (storedTable t)) (id : ℕ) (s : Side) (a : Guest) where
-  pub none-translated : (n ≡ 0 → ⊥) → (r : Translated) → r ≡ record { number = n; phys = record { 0 = 0 } } → r ≡ translated (storedConfig c) (storedTable t) id s a
+module _ (c t : List ℕ) (n : ℕ) (e : n ≡ standing limits (storedConfig c) (storedTable t)) (id : ℕ) (s : Side) (a : Guest) where
+  pub none-translated : (n ≡ 0 → ⊥) → (r : Translated) → r ≡ record { number = n; phys = record { 0 = 0 } } → r ≡ translated limits (storedConfig c) (storedTable t) id s a
   unfolding translated translatedAs
   none-translated ne r h =
       let rs : List (Rule ℕ) = translationRules (tableOf (storedTable t)) id s (a .0) in
       let k : ℕ = physIn (a .0) (coveringIn (a .0) (setAt (tableOf (storedTable t)) (find id (tableOf (storedTable t))) s)) in
-      h ∙ ap (λ (b : Bool). record { number = n; phys = record { 0 = cond b k 0 } }) (sym (ne-eqb n 0 ne)) ∙ ap (λ (m : ℕ). record { number = m; phys = record { 0 = cond (eqb m 0) k 0 } }) (stage-hit (standingRules (storedConfig c) (storedTable t)) rs n 0 e ne)
+      h ∙ ap (λ (b : Bool). record { number = n; phys = record { 0 = cond b k 0 } }) (sym (ne-eqb n 0 ne)) ∙ ap (λ (m : ℕ). record { number = m; phys = record { 0 = cond (eqb m 0) k 0 } }) (stage-hit (standingRules limits (storedConfig c) (storedTable t)) rs n 0 e ne)
 
-  pub now-translated : n ≡ 0 → (r : Translated) → r ≡ translation (zonesIn t) id s (a .0) → r ≡ translated (storedConfig c) (storedTable t) id s a
+  pub now-translated : n ≡ 0 → (r : Translated) → r ≡ translation (zonesIn t) id s (a .0) → r ≡ translated limits (storedConfig c) (storedTable t) id s a
   unfolding translated translation
   now-translated z r h =
       let rs : List (Rule ℕ) = translationRules (tableOf (storedTable t)) id s (a .0) in
       h ∙ ap (λ (x : List Zone). translation x id s (a .0)) (stands-same c t n e z)
-      ∙ ap (λ (m : ℕ). translatedAs m (a .0) (coveringIn (a .0) (setAt (tableOf (storedTable t)) (find id (tableOf (storedTable t))) s))) (stage-skip (standingRules (storedConfig c) (storedTable t)) rs (firstRule rs 0) n 0 (standing-telling c t) e z refl)
+      ∙ ap (λ (m : ℕ). translatedAs m (a .0) (coveringIn (a .0) (setAt (tableOf (storedTable t)) (find id (tableOf (storedTable t))) s))) (stage-skip (standingRules limits (storedConfig c) (storedTable t)) rs (firstRule rs 0) n 0 (standing-telling c t) e z refl)
 
   pub near-now : n ≡ 0 → length t ≡ tableWords → Near (zonesIn t)
   near-now z l = near-ready c t (stands-ready c t n e z l)

@@ -9,7 +9,7 @@ use Rattle.lists.specs.First.{firstIndex, any}
 use Rattle.lists.specs.Rules.{Rule, _when_, firstRule}
 use Rattle.rules.specs.Changes.{setAt, added, pushed, cut, dropped}
 use Rattle.rules.specs.Configuration.{gicOf, Configuration}
-use Rattle.rules.specs.Limits.{mostZones, highestId, mostInSet}
+use Rattle.rules.specs.Limits.{mostZones, highestId, mostInSet, limits}
 use Rattle.rules.specs.Regions.{regionEq}
 use Rattle.rules.specs.Requests.{find, others, addRules, removeZoneRules, insertRules, removeRules}
 use Rattle.rules.specs.Tables.{sound, Zone}
@@ -29,13 +29,13 @@ abbrev pub refusing : List (Rule ℕ) → List (Rule Change)
 refusing rs = map (λ (r : Rule ℕ). Refuse (r .0) when r .1) rs
 
 unfoldable pub decidedAdd : ℕ → List Zone → Change
-decidedAdd id t = firstRule (refusing (4 when ltb highestId id ∷ addRules id t)) (Add id)
+decidedAdd id t = firstRule (refusing (4 when ltb highestId id ∷ addRules limits id t)) (Add id)
 
 unfoldable pub decidedDrop : ℕ → List Zone → Change
 decidedDrop id t = firstRule (refusing (4 when ltb highestId id ∷ removeZoneRules id t)) (Drop (find id t))
 
 unfoldable pub decidedInsert : Configuration → ℕ → Side → Region → List Zone → Change
-decidedInsert c id s r t = firstRule (refusing (4 when ltb highestId id ∷ insertRules c id s r t)) (Push (find id t) s r)
+decidedInsert c id s r t = firstRule (refusing (4 when ltb highestId id ∷ insertRules limits c id s r t)) (Push (find id t) s r)
 
 unfoldable pub decidedCut : ℕ → Side → Region → List Zone → Change
 decidedCut id s r t = firstRule (refusing (4 when ltb highestId id ∷ removeRules id s r t)) (Cut (find id t) s (firstIndex (regionEq r) (setAt t (find id t) s)))
@@ -54,7 +54,7 @@ decided c t q = decidedKind c (q .kind) (q .zone) t
 pub record Ready (c t : List ℕ) : Type 0 where
   pub config : ConfigPassed c
   pub words : Packed t
-  pub table : sound (configIn c) (zonesIn t) ≡ true
+  pub table : sound limits (configIn c) (zonesIn t) ≡ true
 
 -- the region is not the GIC, and another zone than the one at k holds it
 unfoldable pub sharedElsewhere : Configuration → ℕ → Region → List Zone → Bool

@@ -4,6 +4,7 @@ use mathlib.Core.Bool.{cond}
 use mathlib.Core.List.{List}
 use mathlib.Core.Path.{_≡_}
 use lib.Dec.{eqb}
+use Rattle.rules.specs.Limits.{limits}
 use Rattle.rules.specs.Requests.{after, answer}
 use Rattle.rules.specs.Tables.{tableOf}
 use Rattle.rules.specs.declared.Request.{Request}
@@ -12,8 +13,8 @@ use Rattle.zones.specs.Words.{wordsOf}
 
 -- the words of the next table, or those that were given
 unfoldable pub afterwards : List ℕ → List ℕ → Request → List ℕ
-afterwards c t q = cond (eqb (answer (storedConfig c) (storedTable t) q) 0) (wordsOf (after (q .kind) (q .zone) (tableOf (storedTable t)))) t
+afterwards c t q = cond (eqb (answer limits (storedConfig c) (storedTable t) q) 0) (wordsOf (after (q .kind) (q .zone) (tableOf (storedTable t)))) t
 
 pub record Stepped (c t : List ℕ) (q : Request) (n : ℕ) (u : List ℕ) : Type 0 where
-  pub number : n ≡ answer (storedConfig c) (storedTable t) q
+  pub number : n ≡ answer limits (storedConfig c) (storedTable t) q
   pub table : u ≡ afterwards c t q

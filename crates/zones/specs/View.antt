@@ -5,7 +5,7 @@ use mathlib.Core.Path.{_≡_}
 use lib.ListN.{getD}
 use Rattle.lists.specs.Places.{tab}
 use Rattle.rules.specs.Configuration.{configOf, check, Configuration, StoredConfig}
-use Rattle.rules.specs.Limits.{mostRegions, mostZones, mostInSet}
+use Rattle.rules.specs.Limits.{mostRegions, mostZones, mostInSet, limits}
 use Rattle.rules.specs.Tables.{Zone, StoredSet, StoredZone, StoredTable}
 use Rattle.rules.specs.declared.Checked.the-variants.{Sound}
 use Rattle.rules.specs.declared.Region.{Region}
@@ -28,7 +28,7 @@ configIn w = configOf (storedConfig w)
 
 -- the check finds it sound
 abbrev pub ConfigPassed : List ℕ → Type 0
-ConfigPassed w = check (storedConfig w) ≡ Sound
+ConfigPassed w = check limits (storedConfig w) ≡ Sound
 
 -- ---- the table
 -- the set whose count stands at word b

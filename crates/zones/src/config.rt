@@ -21,7 +21,7 @@ ghost use Rattle.lists.specs.First.{firstFrom};
 ghost use Rattle.lists.specs.Places.{places};
 ghost use Rattle.lists.specs.Rules.{firstRule};
 ghost use Rattle.rules.specs.declared.Checked.{Checked};
-ghost use Rattle.rules.specs.Limits.{mostRegions};
+ghost use Rattle.rules.specs.Limits.{mostRegions, limits};
 ghost use Rattle.rules.specs.Regions.{noRegion, used};
 ghost use Rattle.rules.specs.Configuration.{gicOf, positionRules, check, checkNumber, checkPlace, checkEarlier};
 ghost use Rattle.rules.specs.Tables.{configured};
@@ -36,7 +36,7 @@ pub struct Config {
 
 // The document's check: what it finds first.
 pub fn check_config(c: Config) -> Checked
-    ensures { λ f. ⌜ f ≡ check (storedConfig (c .words)) ⌝ }
+    ensures { λ f. ⌜ f ≡ check limits (storedConfig (c .words)) ⌝ }
 {
     let words = c.words;
     check_words(&words)
@@ -89,7 +89,7 @@ pub fn check_earlier(f: Checked) -> usize
 
 // The same where the configuration lies.
 pub fn check_words(c: &[u64; CONFIG_WORDS]) -> Checked
-    ensures { λ f. ⌜ f ≡ check (storedConfig (now (c .entry))) ⌝ }
+    ensures { λ f. ⌜ f ≡ check limits (storedConfig (now (c .entry))) ⌝ }
 {
     let count = c[CONFIG_COUNT] as usize;
     if count == 0 {
@@ -133,7 +133,7 @@ fn first_used(c: &[u64; CONFIG_WORDS], n: usize) -> usize
 // The first fault at the positions below n.
 fn check_positions(c: &[u64; CONFIG_WORDS], n: usize) -> Checked
     requires { ⌜ n ≤ mostRegions ⌝ }
-    ensures { λ f. ⌜ f ≡ firstRule (flatMap (positionRules (allRecords (now (c .entry)))) (places 0 n)) Checked.Sound ⌝ }
+    ensures { λ f. ⌜ f ≡ firstRule (flatMap (positionRules limits (allRecords (now (c .entry)))) (places 0 n)) Checked.Sound ⌝ }
 {
     let mut i = 0;
     while i < n {
@@ -149,7 +149,7 @@ fn check_positions(c: &[u64; CONFIG_WORDS], n: usize) -> Checked
 // The fault at position i, if there is one.
 fn check_at(c: &[u64; CONFIG_WORDS], i: usize) -> Checked
     requires { ⌜ i < mostRegions ⌝ }
-    ensures { λ f. ⌜ f ≡ firstRule (positionRules (allRecords (now (c .entry))) i) Checked.Sound ⌝ }
+    ensures { λ f. ⌜ f ≡ firstRule (positionRules limits (allRecords (now (c .entry))) i) Checked.Sound ⌝ }
 {
     let r = region_at(c, i);
     if !well_formed(r) {

@@ -26,6 +26,7 @@ ghost use mathlib.Core.Path.{_≡_};
 ghost use lib.ListN.{length};
 ghost use Rattle.lists.specs.First.{any};
 ghost use Rattle.lists.specs.Rules.{firstRule};
+ghost use Rattle.rules.specs.Limits.{limits};
 ghost use Rattle.rules.specs.Tables.{configured};
 ghost use Rattle.rules.specs.Requests.{others, holdsAny, onGic, regionRules, setRules};
 ghost use Rattle.zones.specs.Decide.{decided, decidedAdd, decidedDrop, decidedInsert, decidedCut, Ready, sharedElsewhere};
@@ -151,7 +152,7 @@ fn holds_any(t: &[u64; TABLE_WORDS], z: usize) -> bool
 // The numbers that look at the region and the configuration: 9 to 12.
 fn refuse_region(c: &[u64; CONFIG_WORDS], side: Side, r: Region) -> u32
     requires { ⌜ ConfigPassed (now c) ⌝ }
-    ensures { λ n. ⌜ n ≡ firstRule (regionRules (configIn (now (c .entry))) side r) 0 ⌝ }
+    ensures { λ n. ⌜ n ≡ firstRule (regionRules limits (configIn (now (c .entry))) side r) 0 ⌝ }
 {
     if !well_formed(r) {
         return 9;
@@ -187,7 +188,7 @@ fn refuse_set(
     r: Region,
 ) -> u32
     requires { ⌜ (Ready (now c) (now t) × (z < length (zonesIn (now t)))) × ((configured (configIn (now c)) r ≡ true) × (onGic (configIn (now c)) side r ≡ false)) ⌝ }
-    ensures { λ n. ⌜ n ≡ firstRule (setRules (configIn (now (c .entry))) z side r (zonesIn (now (t .entry)))) 0 ⌝ }
+    ensures { λ n. ⌜ n ≡ firstRule (setRules limits (configIn (now (c .entry))) z side r (zonesIn (now (t .entry)))) 0 ⌝ }
 {
     let n = set_len(t, z, side);
     if set_find(t, z, side, By::Equal, r) < n {

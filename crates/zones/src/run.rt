@@ -17,6 +17,7 @@ use rules::Side;
 ghost use Prim.Native.Nat.{_*_, _/_, _<_};
 ghost use mathlib.Core.Path.{_≡_};
 ghost use lib.ListN.{length};
+ghost use Rattle.rules.specs.Limits.{limits};
 ghost use Rattle.rules.specs.Run.{bare, makeKind, makeRequest, requestBytes, requestFrom, requestsIn, run, ended};
 ghost use Rattle.zones.specs.Decide.{Ready};
 ghost use Rattle.zones.specs.Run.{RanIn};
@@ -49,7 +50,7 @@ pub fn run_in(c: &[u64; CONFIG_WORDS], t: &mut [u64; TABLE_WORDS], requests: &[u
 // The same at a sound table: its soundness is carried from request to request and not looked for again.
 fn run_ready(c: &[u64; CONFIG_WORDS], t: &mut [u64; TABLE_WORDS], requests: &[u8]) -> Outcome
     requires { ⌜ Ready (now c) (now t) ⌝ }
-    ensures { λ r. ⌜ (r ≡ ended (run (configIn (now (c .entry))) (zonesIn (now (t .entry))) (requestsIn (now (requests .entry))))) × (now (t .exit) ≡ wordsOf (run (configIn (now (c .entry))) (zonesIn (now (t .entry))) (requestsIn (now (requests .entry))) .table)) ⌝ }
+    ensures { λ r. ⌜ (r ≡ ended (run limits (configIn (now (c .entry))) (zonesIn (now (t .entry))) (requestsIn (now (requests .entry))))) × (now (t .exit) ≡ wordsOf (run limits (configIn (now (c .entry))) (zonesIn (now (t .entry))) (requestsIn (now (requests .entry))) .table)) ⌝ }
 {
     let n = requests.len() / REQUEST_BYTES;
     let mut i = 0;

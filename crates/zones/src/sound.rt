@@ -30,7 +30,7 @@ ghost use Rattle.lists.specs.First.{firstFrom, all};
 ghost use Rattle.lists.specs.Pairs.{pairwise};
 ghost use Rattle.rules.specs.Requests.{standing};
 ghost use Rattle.rules.specs.declared.Side.{Side};
-ghost use Rattle.rules.specs.Limits.{mostZones, mostInSet};
+ghost use Rattle.rules.specs.Limits.{mostZones, mostInSet, limits};
 ghost use Rattle.rules.specs.Tables.{configured, guestApart, offGic, soundSet, soundZone, idsDiffer, sound, checkTable};
 ghost use Rattle.zones.specs.Holding.{holds, heldOnce, heldAt, heldApart, apartAfter};
 ghost use Rattle.zones.specs.View.{storedConfig, storedTable, configIn, ConfigPassed, setIn, zoneIn, zonesIn};
@@ -38,7 +38,7 @@ ghost use Rattle.zones.specs.Words.{Within};
 
 // Yes exactly for a sound table under a sound configuration.
 pub fn check_table(c: Config, t: Table) -> bool
-    ensures { λ b. ⌜ b ≡ checkTable (storedConfig (c .words)) (storedTable (t .words)) ⌝ }
+    ensures { λ b. ⌜ b ≡ checkTable limits (storedConfig (c .words)) (storedTable (t .words)) ⌝ }
 {
     let config = c.words;
     let table = t.words;
@@ -47,7 +47,7 @@ pub fn check_table(c: Config, t: Table) -> bool
 
 // The same where the two lie.
 pub fn is_sound(c: &[u64; CONFIG_WORDS], t: &[u64; TABLE_WORDS]) -> bool
-    ensures { λ b. ⌜ b ≡ checkTable (storedConfig (now (c .entry))) (storedTable (now (t .entry))) ⌝ }
+    ensures { λ b. ⌜ b ≡ checkTable limits (storedConfig (now (c .entry))) (storedTable (now (t .entry))) ⌝ }
 {
     let found = check_words(c);
     let Checked::Sound = found else {
@@ -58,7 +58,7 @@ pub fn is_sound(c: &[u64; CONFIG_WORDS], t: &[u64; TABLE_WORDS]) -> bool
 
 // The number that comes before any request is looked at: 1 for the configuration, 2 for the table, or 0.
 pub fn standing(c: &[u64; CONFIG_WORDS], t: &[u64; TABLE_WORDS]) -> u32
-    ensures { λ n. ⌜ n ≡ standing (storedConfig (now (c .entry))) (storedTable (now (t .entry))) ⌝ }
+    ensures { λ n. ⌜ n ≡ standing limits (storedConfig (now (c .entry))) (storedTable (now (t .entry))) ⌝ }
 {
     let found = check_words(c);
     let Checked::Sound = found else {
@@ -73,7 +73,7 @@ pub fn standing(c: &[u64; CONFIG_WORDS], t: &[u64; TABLE_WORDS]) -> u32
 // Whether the words are packed and their table is sound, under a sound configuration.
 fn table_sound(c: &[u64; CONFIG_WORDS], t: &[u64; TABLE_WORDS]) -> bool
     requires { ⌜ ConfigPassed (now c) ⌝ }
-    ensures { λ b. ⌜ b ≡ checkTable (storedConfig (now (c .entry))) (storedTable (now (t .entry))) ⌝ }
+    ensures { λ b. ⌜ b ≡ checkTable limits (storedConfig (now (c .entry))) (storedTable (now (t .entry))) ⌝ }
 {
     if !is_packed(t) {
         return false;
@@ -83,7 +83,7 @@ fn table_sound(c: &[u64; CONFIG_WORDS], t: &[u64; TABLE_WORDS]) -> bool
 
 pub fn zones_sound(c: &[u64; CONFIG_WORDS], t: &[u64; TABLE_WORDS]) -> bool
     requires { ⌜ ConfigPassed (now c) × Within (zonesIn (now t)) ⌝ }
-    ensures { λ b. ⌜ b ≡ sound (configIn (now (c .entry))) (zonesIn (now (t .entry))) ⌝ }
+    ensures { λ b. ⌜ b ≡ sound limits (configIn (now (c .entry))) (zonesIn (now (t .entry))) ⌝ }
 {
     if !each_sound(c, t) {
         return false;
@@ -98,7 +98,7 @@ pub fn zones_sound(c: &[u64; CONFIG_WORDS], t: &[u64; TABLE_WORDS]) -> bool
 
 fn each_sound(c: &[u64; CONFIG_WORDS], t: &[u64; TABLE_WORDS]) -> bool
     requires { ⌜ ConfigPassed (now c) × Within (zonesIn (now t)) ⌝ }
-    ensures { λ b. ⌜ b ≡ all (soundZone (configIn (now (c .entry)))) (zonesIn (now (t .entry))) ⌝ }
+    ensures { λ b. ⌜ b ≡ all (soundZone limits (configIn (now (c .entry)))) (zonesIn (now (t .entry))) ⌝ }
 {
     let n = zone_count(t);
     let mut z = 0;
@@ -113,7 +113,7 @@ fn each_sound(c: &[u64; CONFIG_WORDS], t: &[u64; TABLE_WORDS]) -> bool
 
 fn zone_sound(c: &[u64; CONFIG_WORDS], t: &[u64; TABLE_WORDS], z: usize) -> bool
     requires { ⌜ (ConfigPassed (now c) × Within (zonesIn (now t))) × (z < length (zonesIn (now t))) ⌝ }
-    ensures { λ b. ⌜ b ≡ soundZone (configIn (now (c .entry))) (zoneIn (now (t .entry)) z) ⌝ }
+    ensures { λ b. ⌜ b ≡ soundZone limits (configIn (now (c .entry))) (zoneIn (now (t .entry)) z) ⌝ }
 {
     if HIGHEST_ID < id_at(t, z) {
         return false;
@@ -129,7 +129,7 @@ fn zone_sound(c: &[u64; CONFIG_WORDS], t: &[u64; TABLE_WORDS], z: usize) -> bool
 
 fn set_sound(c: &[u64; CONFIG_WORDS], t: &[u64; TABLE_WORDS], z: usize, side: Side) -> bool
     requires { ⌜ (ConfigPassed (now c) × (z < mostZones)) × (length (setIn (now t) z side) ≤ mostInSet) ⌝ }
-    ensures { λ b. ⌜ b ≡ soundSet (configIn (now (c .entry))) (setIn (now (t .entry)) z side) ⌝ }
+    ensures { λ b. ⌜ b ≡ soundSet limits (configIn (now (c .entry))) (setIn (now (t .entry)) z side) ⌝ }
 {
     if !set_configured(c, t, z, side) {
         return false;

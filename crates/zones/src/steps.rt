@@ -10,6 +10,7 @@ use crate::table::Table;
 use rules::Request;
 ghost use mathlib.Core.Path.{_≡_};
 ghost use lib.ListN.{length};
+ghost use Rattle.rules.specs.Limits.{limits};
 ghost use Rattle.rules.specs.Requests.{refusal, next};
 ghost use Rattle.zones.specs.Decide.{Ready};
 ghost use Rattle.zones.specs.Step.{Stepped};
@@ -56,7 +57,7 @@ pub fn count_words(s: &[u64]) -> usize
 // One request at a sound table, whose soundness is known and not looked for again.
 pub fn step_ready(c: &[u64; CONFIG_WORDS], t: &mut [u64; TABLE_WORDS], q: Request) -> u32
     requires { ⌜ Ready (now c) (now t) ⌝ }
-    ensures { λ n. ⌜ (n ≡ refusal (configIn (now (c .entry))) (zonesIn (now (t .entry))) q) × (now (t .exit) ≡ wordsOf (next (configIn (now (c .entry))) (zonesIn (now (t .entry))) q)) ⌝ }
+    ensures { λ n. ⌜ (n ≡ refusal limits (configIn (now (c .entry))) (zonesIn (now (t .entry))) q) × (now (t .exit) ≡ wordsOf (next limits (configIn (now (c .entry))) (zonesIn (now (t .entry))) q)) ⌝ }
 {
     let change = decide(c, t, q);
     commit(t, change);

@@ -21,14 +21,14 @@ ghost use Prim.Native.Nat.{_≤_, _<_};
 ghost use mathlib.Core.Path.{_≡_};
 ghost use lib.ListN.{length};
 ghost use Rattle.lists.specs.First.{firstIndex};
-ghost use Rattle.rules.specs.Limits.{mostZones, mostInSet};
+ghost use Rattle.rules.specs.Limits.{mostZones, mostInSet, limits};
 ghost use Rattle.rules.specs.Translation.{coversGuest, translation, translated};
 ghost use Rattle.zones.specs.Translate.{Near};
 ghost use Rattle.zones.specs.View.{storedConfig, storedTable, setIn, zonesIn};
 
 // Where the device or processor of a zone comes out, for any words and any address.
 pub fn translate(c: Config, t: Table, zone: u32, side: Side, a: Guest) -> Translated
-    ensures { λ r. ⌜ r ≡ translated (storedConfig (c .words)) (storedTable (t .words)) zone side a ⌝ }
+    ensures { λ r. ⌜ r ≡ translated limits (storedConfig (c .words)) (storedTable (t .words)) zone side a ⌝ }
 {
     let config = c.words;
     let table = t.words;
@@ -43,7 +43,7 @@ pub fn translate_in(
     side: Side,
     a: Guest,
 ) -> Translated
-    ensures { λ r. ⌜ r ≡ translated (storedConfig (now (c .entry))) (storedTable (now (t .entry))) zone side a ⌝ }
+    ensures { λ r. ⌜ r ≡ translated limits (storedConfig (now (c .entry))) (storedTable (now (t .entry))) zone side a ⌝ }
 {
     let n = standing(c, t);
     if n != 0 {

@@ -6,6 +6,7 @@ use borrow.Author.Needs.{needs}
 use Rattle.lists.specs.Places.{places}
 use Rattle.lists.specs.Rules.{firstRule}
 use Rattle.lists.proofs.Rules.{rules-stop, rules-on, rules-end}
+use Rattle.rules.specs.Limits.{limits}
 use Rattle.rules.specs.declared.Checked.the-variants.{Sound}
 use Rattle.rules.specs.Configuration.{positionRules}
 use Rattle.zones.specs.View.{allRecords}
@@ -15,7 +16,7 @@ use Rattle.zones.proofs.config.check_positions.Statement.{statement}
 use Rattle.zones.proofs.config.check_positions.Tie as tie
 
 abbrev Inv-loop : tie.InvT-loop
-Inv-loop c n i₀ i = (i ≤ n) × (firstRule (flatMap (positionRules (allRecords c)) (places i (n - i))) Sound ≡ firstRule (flatMap (positionRules (allRecords c)) (places 0 n)) Sound)
+Inv-loop c n i₀ i = (i ≤ n) × (firstRule (flatMap (positionRules limits (allRecords c)) (places i (n - i))) Sound ≡ firstRule (flatMap (positionRules limits (allRecords c)) (places 0 n)) Sound)
 
 abbrev μ-loop : tie.MeasureT-loop
 μ-loop c n i₀ i = n - i
@@ -39,7 +40,7 @@ loop-less : tie.Need-loop-less Inv-loop μ-loop
 loop-less c = search needs
 
 loop-again : tie.Need-loop-again Inv-loop μ-loop
-loop-again c = (search needs, search (rules-on, is-sound, telling-at, needs))
+loop-again c = (search needs, search (rules-on, is-sound, telling-at limits, needs))
 
 returns-2 : tie.Need-returns-2 Inv-loop μ-loop
 returns-2 c = search (rules-end, needs)

@@ -2,6 +2,7 @@ use borrow.Author.Needs.{needs}
 use Rattle.lists.proofs.Rules.{rules}
 use Rattle.lists.proofs.Tests.{told, told-not}
 use Rattle.rules.specs.Requests.{regionRules}
+use Rattle.zones.proofs.Checking.{formed-on}
 use Rattle.zones.proofs.decide.refuse_region.Statement.{statement}
 use Rattle.zones.proofs.decide.refuse_region.Tie as tie
 
@@ -10,32 +11,32 @@ well-formed-requires c κs = search needs
 
 returns : tie.Need-returns
 unfolding regionRules
-returns c = search (rules, told, told-not) depth 20
+returns c = search (rules, told, told-not, formed-on) depth 20
 
 in-reach-requires : tie.Need-in-reach-requires
 in-reach-requires c κs = search needs
 
 returns-2 : tie.Need-returns-2
 unfolding regionRules
-returns-2 c = search (rules, told, told-not) depth 20
+returns-2 c = search (rules, told, told-not, formed-on) depth 20
 
 is-configured-requires : tie.Need-is-configured-requires
 is-configured-requires c κs = search needs
 
 returns-3 : tie.Need-returns-3
 unfolding regionRules
-returns-3 c = search (rules, told, told-not) depth 20
+returns-3 c = search (rules, told, told-not, formed-on) depth 20
 
 on-gic-requires : tie.Need-on-gic-requires
 on-gic-requires c κs = search needs
 
 returns-4 : tie.Need-returns-4
 unfolding regionRules
-returns-4 c = search (rules, told, told-not) depth 20
+returns-4 c = search (rules, told, told-not, formed-on) depth 20
 
 returns-5 : tie.Need-returns-5
 unfolding regionRules
-returns-5 c = search (rules, told, told-not) depth 20
+returns-5 c = search (rules, told, told-not, formed-on) depth 20
 
 pub refuse-region-spec : {M : Type 1} → statement M
 refuse-region-spec =

@@ -1,5 +1,6 @@
 use Prim.Native.Nat.{_-_, _*_, _≤_}
 use borrow.Author.Needs.{needs}
+use Rattle.rules.specs.Limits.{limits}
 use Rattle.rules.specs.Run.{requestBytes, requestFrom, requestsIn, run}
 use Rattle.zones.specs.Decide.{Ready}
 use Rattle.zones.specs.View.{configIn, zonesIn}
@@ -8,7 +9,7 @@ use Rattle.zones.proofs.run.run_ready.Statement.{statement}
 use Rattle.zones.proofs.run.run_ready.Tie as tie
 
 abbrev Inv-loop : tie.InvT-loop
-Inv-loop c t₀ requests n i₀ t i = (Ready c t × (i ≤ n)) × Left c (λ j. requestFrom requests (j * requestBytes)) n (run (configIn c) (zonesIn t₀) (requestsIn requests)) t i
+Inv-loop c t₀ requests n i₀ t i = (Ready c t × (i ≤ n)) × Left c (λ j. requestFrom requests (j * requestBytes)) n (run limits (configIn c) (zonesIn t₀) (requestsIn requests)) t i
 
 abbrev μ-loop : tie.MeasureT-loop
 μ-loop c t₀ requests n i₀ t i = n - i

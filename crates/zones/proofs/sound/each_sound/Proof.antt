@@ -4,6 +4,7 @@ use borrow.Author.Needs.{needs}
 use Rattle.lists.specs.First.{all}
 use Rattle.lists.specs.Places.{places}
 use Rattle.lists.proofs.Places.{every-end}
+use Rattle.rules.specs.Limits.{limits}
 use Rattle.rules.specs.Tables.{soundZone}
 use Rattle.zones.specs.Holding.{atZone}
 use Rattle.zones.specs.View.{configIn, zonesIn}
@@ -12,7 +13,7 @@ use Rattle.zones.proofs.sound.each_sound.Statement.{statement}
 use Rattle.zones.proofs.sound.each_sound.Tie as tie
 
 abbrev Inv-loop : tie.InvT-loop
-Inv-loop c t n z₀ z = (z ≤ n) × (all (atZone (soundZone (configIn c)) t) (places z (n - z)) ≡ all (soundZone (configIn c)) (zonesIn t))
+Inv-loop c t n z₀ z = (z ≤ n) × (all (atZone (soundZone limits (configIn c)) t) (places z (n - z)) ≡ all (soundZone limits (configIn c)) (zonesIn t))
 
 abbrev μ-loop : tie.MeasureT-loop
 μ-loop c t n z₀ z = n - z

@@ -2,7 +2,7 @@ use borrow.Author.Needs.{needs}
 use Rattle.lists.proofs.Tests.{conjunction}
 use Rattle.rules.specs.Tables.{soundZone}
 use Rattle.zones.specs.View.{zoneIn}
-use Rattle.zones.proofs.Checking.{zone-within, side-within, id-high, id-low}
+use Rattle.zones.proofs.Checking.{zone-within, side-within, id-high, id-low, formed-last}
 use Rattle.zones.proofs.sound.zone_sound.Statement.{statement}
 use Rattle.zones.proofs.sound.zone_sound.Tie as tie
 
@@ -32,7 +32,7 @@ off-gic-requires c κs = search (zone-within, side-within, needs)
 
 returns-4 : tie.Need-returns-4
 unfolding soundZone zoneIn
-returns-4 c = search (conjunction, id-high, id-low) depth 12
+returns-4 c = search (formed-last, conjunction, id-high, id-low) depth 12
 
 pub zone-sound-spec : {M : Type 1} → statement M
 zone-sound-spec =

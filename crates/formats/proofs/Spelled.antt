@@ -1,0 +1,34 @@
+-- What is written is bytes. A format that is put together from formats has this from them.
+use Prim.Native.Nat.{ℕ, zero, suc, _%_, _/_, _<_}
+use native.Mathlib.Omega.{arith}
+use mathlib.Core.List.{List, [], _∷_, _++_}
+use lib.ListN.{getD}
+use Rattle.lists.specs.Bytes.{bytesOf, Bytes}
+use Rattle.formats.specs.Formats.{number, writeBoth, both, writeMany, many, writeHeaded, headed, Format}
+
+abbrev pub Spelled : {A : Type 0} → Format A → Type 0
+Spelled {A} F = (x : A) → Bytes (F .write x)
+
+joined : (x y : List ℕ) → Bytes x → Bytes y → Bytes (x ++ y)
+joined [] y h g i = g i
+joined (a ∷ x) y h g zero = h 0
+joined (a ∷ x) y h g (suc i) = joined x y (λ j. h (suc j)) g i
+
+pub spelled-number : (k : ℕ) → Spelled (number k)
+unfolding bytesOf
+spelled-number zero n i = omega arith
+spelled-number (suc k) n zero = omega arith
+spelled-number (suc k) n (suc i) = spelled-number k (n / 256) i
+
+pub spelled-both : {A B : Type 0} (F : Format A) (G : Format B) → Spelled F → Spelled G → Spelled (both F G)
+unfolding writeBoth
+spelled-both F G f g p = joined (F .write (p .0)) (G .write (p .1)) (f (p .0)) (g (p .1))
+
+pub spelled-many : {A : Type 0} (F : Format A) → Spelled F → (n : ℕ) → Spelled (many F n)
+unfolding writeMany
+spelled-many F f n [] i = omega arith
+spelled-many F f n (x ∷ xs) i = joined (F .write x) (writeMany F xs) (f x) (spelled-many F f n xs) i
+
+pub spelled-headed : {A : Type 0} (w lo hi : ℕ) (F : ℕ → Format A) (size : A → ℕ) → ((c : ℕ) → Spelled (F c)) → Spelled (headed w lo hi F size)
+unfolding writeHeaded
+spelled-headed w lo hi F size f x = joined (bytesOf w (size x)) (F (size x) .write x) (spelled-number w (size x)) (f (size x) x)

@@ -1,0 +1,109 @@
+-- Families of terminals: each has its own limits, and every promise above holds for each. Here is what a terminal does with a plan that was made for other limits.
+use Prim.Native.Nat.{ℕ, _+_, _<_}
+use mathlib.Core.Bool.{false}
+use mathlib.Core.List.{List, [], _∷_, _++_}
+use mathlib.Core.Path.{_≡_}
+use lib.Dec.{ltb}
+use lib.ListN.{length, getD}
+use Rattle.lists.specs.Bytes.{Bytes}
+use Rattle.lists.specs.Room.{room}
+use Rattle.lists.specs.Rules.{_when_, Silent, Rule, Applies}
+use Rattle.formats.specs.Formats.{got}
+use Rattle.formats.specs.Sizes.{total, along}
+use Rattle.rules.specs.Applying.{plain, apply, Terminal}
+use Rattle.rules.specs.Configuration.{configOf, check, StoredConfig}
+use Rattle.rules.specs.Desk.{regionOf, A, G, insert, deskTerminal}
+use Rattle.rules.specs.Limits.{limits, Limits}
+use Rattle.rules.specs.Plan.{readPlan, Plan}
+use Rattle.rules.specs.Regions.{noRegion}
+use Rattle.rules.specs.Requests.{answers, standing}
+use Rattle.rules.specs.Sizes.{shortSize, marksSize, regionsSize, zoneSize}
+use Rattle.rules.specs.Tables.{emptyZone, Zone}
+use Rattle.rules.specs.declared.Checked.the-variants.{Sound}
+use Rattle.rules.specs.declared.Region.{Region}
+use Rattle.rules.specs.declared.Request.{Request}
+use Rattle.rules.specs.declared.Side.the-variants.{Cpu, Iommu}
+
+-- the terminal refuses the bytes with 21 at a place, and stays as it is
+abbrev pub Refuses21 : Limits → Terminal → List ℕ → ℕ → Type 0
+Refuses21 l s b place = apply l s b ≡ record { outcome = plain 21 place; state = s }
+
+-- a terminal on limits `own`, itself sound under them, and bytes that are a whole plan on limits `wide`
+pub record Meets (own wide : Limits) (s : Terminal) (b : List ℕ) (p : Plan) : Type 0 where
+  pub stands : standing own (s .config) (s .table) ≡ 0
+  pub bytes : Bytes b
+  pub reads : readPlan wide b ≡ got p []
+
+-- where the counts of a plan stand, and which of them are above a family's limits, in file order: the regions, the zones, the two sets of each zone, the requests
+abbrev pub zonesAt : Plan → ℕ
+zonesAt p = marksSize + regionsSize (length (p .regions))
+
+abbrev pub requestsAt : Plan → ℕ
+requestsAt p = zonesAt p + (shortSize + total zoneSize (p .zones))
+
+abbrev pub setsAbove : Limits → ℕ → Zone → List (Rule ℕ)
+setsAbove l at z =
+    (at + shortSize) when ltb (l .inSet) (length (z .cpu))
+    ∷ (at + shortSize + regionsSize (length (z .cpu))) when ltb (l .inSet) (length (z .iommu))
+    ∷ []
+
+unfoldable pub countsAbove : Limits → Plan → List (Rule ℕ)
+countsAbove l p =
+    marksSize when ltb (l .regions) (length (p .regions))
+    ∷ zonesAt p when ltb (l .zones) (length (p .zones))
+    ∷ (along zoneSize (setsAbove l) (zonesAt p + shortSize) (p .zones) ++ requestsAt p when ltb (l .requests) (length (p .asked)) ∷ [])
+
+-- the first count above its own limits is refused, where it stands
+abbrev pub AboveIsRefused : Limits → Limits → Type 0
+AboveIsRefused own wide = (s : Terminal) (b : List ℕ) (p : Plan) → Meets own wide s b p
+    → (k : ℕ) → Applies (countsAbove own p) (0 when false) k → Refuses21 own s b (getD (countsAbove own p) k (0 when false) .0)
+
+-- with no count above its own limits it reads the plan alike
+abbrev pub WithinIsRead : Limits → Limits → Type 0
+WithinIsRead own wide = (s : Terminal) (b : List ℕ) (p : Plan) → Meets own wide s b p → Silent (countsAbove own p) (0 when false) → readPlan own b ≡ got p []
+
+-- ---- there are such: a sound terminal on the document's limits, and limits that allow one more of each
+abbrev pub oneMore : Limits → Limits
+oneMore l = record {
+  page = l .page;
+  iommuPage = l .iommuPage;
+  guestReach = l .guestReach;
+  physReach = l .physReach;
+  regions = l .regions + 1;
+  zones = l .zones + 1;
+  inSet = l .inSet + 1;
+  requests = l .requests + 1;
+}
+
+abbrev pub MetWith : (Plan → Type 0) → Type 0
+MetWith P = (b : List ℕ) × (p : Plan) × Meets limits (oneMore limits) deskTerminal b p × P p
+
+-- each kind of count is the first above the limits in some plan: the regions (0), the zones (1); with one zone, its CPU set (2), its IOMMU set (3), the requests (4)
+abbrev pub AboveIsMet : Type 0
+AboveIsMet = (k : ℕ) → k < 5 → MetWith (λ p. Applies (countsAbove limits p) (0 when false) k)
+
+-- and a plan within them
+abbrev pub WithinIsMet : Type 0
+WithinIsMet = MetWith (λ p. Silent (countsAbove limits p) (0 when false))
+
+-- ---- a family whose devices have pages of 64 KiB
+abbrev pub widePages : Limits
+widePages = record { page = limits .page; iommuPage = 0x10000; guestReach = limits .guestReach; physReach = limits .physReach; regions = limits .regions; zones = limits .zones; inSet = limits .inSet; requests = limits .requests }
+
+-- a region of one page of 4 KiB, configured beside the GIC, and asked for on both sides in zone 5; and the desk's region A, which is a multiple of either page
+abbrev pub narrow : Region
+narrow = regionOf 0x40000000 0x90001000 0x1000
+
+abbrev pub narrowConfig : StoredConfig
+narrowConfig = record { count = 3; gic = 2; records = room (limits .regions) noRegion (narrow ∷ A ∷ G ∷ []) }
+
+abbrev pub askedBoth : List Request
+askedBoth = insert Cpu narrow 5 ∷ insert Iommu narrow 5 ∷ insert Iommu A 5 ∷ []
+
+-- the configuration is sound for both families; the document's accepts the narrow region for devices and then has no room for A there; the other answers 9, and accepts A
+abbrev pub WidePagesShown : Type 0
+WidePagesShown =
+    (check limits narrowConfig ≡ Sound)
+    × (check widePages narrowConfig ≡ Sound)
+    × (answers limits (configOf narrowConfig) (emptyZone 5 ∷ []) askedBoth ≡ 0 ∷ 0 ∷ 15 ∷ [])
+    × (answers widePages (configOf narrowConfig) (emptyZone 5 ∷ []) askedBoth ≡ 0 ∷ 9 ∷ 0 ∷ [])

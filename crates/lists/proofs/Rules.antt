@@ -3,7 +3,7 @@ use Prim.Native.Nat.{ℕ, zero, suc, _+_, _-_, _≤_, _<_, suc-le-suc}
 use native.Mathlib.Decide.{decLt}
 use native.Mathlib.Nat.{sub-zero, le-of-suc-le-suc}
 use native.Mathlib.Omega.{arith}
-use mathlib.Core.Bool.{Bool, true, false, not, true≢false}
+use mathlib.Core.Bool.{Bool, true, false, cond, not, true≢false}
 use mathlib.Core.List.{List, [], _∷_, _++_, map, flatMap}
 use mathlib.Core.Logic.{inl, inr, _↔_}
 use mathlib.Core.Path.{_≡_, refl, sym, ap, subst, _∙_}
@@ -92,6 +92,21 @@ module _ {R : Type 0} where
   quiet ((a, true) ∷ rs) other z e = absurd (z .0 e)
   quiet ((a, false) ∷ rs) other z e = (refl, quiet rs other (z .1) e)
 
+  -- the test of the rule whose answer has the number n; false where there is none
+  unfoldable pub testOf : (R → ℕ) → ℕ → List (Rule R) → Bool
+  testOf number n [] = false
+  testOf number n (r ∷ rs) = cond (eqb (number (r .0)) n) (r .1) (testOf number n rs)
+
+  -- a rule that does not apply is named by its number, wherever it stands in its list
+  pub silent : (number : R → ℕ) (rs : List (Rule R)) → Quiet rs → (n : ℕ) → testOf number n rs ≡ false
+  unfolding testOf
+  silent number [] q n = refl
+  silent number (r ∷ rs) q n = by (eqb (number (r .0)) n) (silent number rs (q .1) n)
+    where
+      by : (b : Bool) → testOf number n rs ≡ false → cond b (r .1) (testOf number n rs) ≡ false
+      by true later = q .0
+      by false later = later
+
   -- the answer where no rule applies matters only there
   pub hit-whatever : (rs : List (Rule R)) (v a b : R) → v ≡ firstRule rs a → (v ≡ a → ⊥) → v ≡ firstRule rs b
   unfolding firstRule
@@ -178,6 +193,10 @@ numbers-tell [] e = tt
 numbers-tell (r ∷ rs) e =
     let b = both-true (ltb 0 (r .0)) (all (λ (q : Rule ℕ). ltb 0 (q .0)) rs) e in
     ((λ z. let h : 0 < r .0 = ltb-true _ _ (b .0) in omega arith), numbers-tell rs (b .1))
+
+-- where the answer is 0, the rule of every number is silent
+pub silent-number : (rs : List (Rule ℕ)) → aboveZero rs ≡ true → firstRule rs 0 ≡ 0 → (n : ℕ) → testOf (λ m. m) n rs ≡ false
+silent-number rs above e = silent (λ m. m) rs (quiet rs 0 (numbers-tell rs above) e)
 
 -- they differ from each other and from 0
 module _ (rs : List (Rule ℕ)) (d : Rule ℕ) (apart : numbered rs ≡ true) where

@@ -15,7 +15,7 @@ use Rattle.lists.specs.Rules.{firstRule}
 use Rattle.lists.proofs.Every.{all-at, any-make, any-at, none-at, none-make, none-others, none-others-make, any-append}
 use Rattle.lists.proofs.First.{any-first, first-passes, first-is}
 use Rattle.lists.proofs.Pairs.{pairs-at}
-use Rattle.lists.proofs.Rules.{Quiet, quiet-answer}
+use Rattle.lists.proofs.Rules.{Quiet, testOf, quiet-answer}
 use Rattle.lists.proofs.Tests.{both-false, false-both, one-true, or-left, or-right, not-holds, parts}
 use Rattle.rules.specs.Changes.{setAt, withSide, putSet, pushed, cut}
 use Rattle.rules.specs.Closure.{insert-region, remove-region-exact, contains-region, State, map-insert, ghostOf, stateOf, Transition, GhostZone, cpu-insert-region, cpu-remove-region, iommu-insert-region, iommu-remove-region}
@@ -224,23 +224,21 @@ module _ (lim : Limits) where
 
     -- ---- every kind: an accepted request is a transition
     accepted : (k : Kind) (id : ℕ) → firstRule (requestRules lim c k id t) 0 ≡ 0 → Transition lim c k id (stateOf t) (stateOf (after k id t)) × Corrections lim k id t
-    unfolding after requestRules kindRules addRules removeZoneRules insertRules regionRules setRules removeRules noRequest firstRule any
+    unfolding after requestRules kindRules addRules removeZoneRules insertRules regionRules setRules removeRules noRequest firstRule any testOf
     accepted AddZone id e =
         let h = none-applies lim c AddZone id t e in
-        (record { absent = state-not id t (h .1 .1 .0); update = fun-ext (λ x. state-added id x t (h .1 .1 .0)) }, (ltb-false _ _ (h .1 .0), leb-false _ _ (h .1 .1 .1 .0)))
+        (record { absent = state-not id t (h 5); update = fun-ext (λ x. state-added id x t (h 5)) }, (ltb-false _ _ (h 4), leb-false _ _ (h 7)))
     accepted RemoveZone id e =
         let h = none-applies lim c RemoveZone id t e in
-        (record { zone = ghostOf (getD t (find id t) noZone); there = state-there id t (not-false _ (h .1 .1 .0)); update = fun-ext (λ x. state-dropped id x t (table-ok .ids)) }, h .1 .1 .1 .0)
+        (record { zone = ghostOf (getD t (find id t) noZone); there = state-there id t (not-false _ (h 6)); update = fun-ext (λ x. state-dropped id x t (table-ok .ids)) }, h 8)
     accepted (Insert Cpu r) id e =
-        let h = none-applies lim c (Insert Cpu r) id t e .1 .1 in
-        let w = h .1 .1 .1 in
-        (cpu-inserted id (not-false _ (h .0)) r (not-false _ (h .1 .0)) (not-false _ (h .1 .1 .0)) (not-false _ (w .0)) (w .1 .0) (w .1 .1 .0) (w .1 .1 .1 .0) (w .1 .1 .1 .1 .0), leb-false _ _ (w .1 .1 .1 .1 .1 .0))
+        let h = none-applies lim c (Insert Cpu r) id t e in
+        (cpu-inserted id (not-false _ (h 6)) r (not-false _ (h 9)) (not-false _ (h 10)) (not-false _ (h 11)) (h 12) (h 13) (h 14) (h 15), leb-false _ _ (h 16))
     accepted (Insert Iommu r) id e =
-        let h = none-applies lim c (Insert Iommu r) id t e .1 .1 in
-        let w = h .1 .1 .1 in
-        (iommu-inserted id (not-false _ (h .0)) r (not-false _ (h .1 .0)) (not-false _ (h .1 .1 .0)) (not-false _ (w .0)) (w .1 .1 .0) (w .1 .1 .1 .0) (w .1 .1 .1 .1 .0), leb-false _ _ (w .1 .1 .1 .1 .1 .0))
-    accepted (Remove Cpu r) id e = let h = none-applies lim c (Remove Cpu r) id t e .1 .1 in (cpu-removed id (not-false _ (h .0)) r (not-false _ (h .1 .0)), tt)
-    accepted (Remove Iommu r) id e = let h = none-applies lim c (Remove Iommu r) id t e .1 .1 in (iommu-removed id (not-false _ (h .0)) r (not-false _ (h .1 .0)), tt)
+        let h = none-applies lim c (Insert Iommu r) id t e in
+        (iommu-inserted id (not-false _ (h 6)) r (not-false _ (h 9)) (not-false _ (h 10)) (not-false _ (h 11)) (h 13) (h 14) (h 15), leb-false _ _ (h 16))
+    accepted (Remove Cpu r) id e = let h = none-applies lim c (Remove Cpu r) id t e in (cpu-removed id (not-false _ (h 6)) r (not-false _ (h 17)), tt)
+    accepted (Remove Iommu r) id e = let h = none-applies lim c (Remove Iommu r) id t e in (iommu-removed id (not-false _ (h 6)) r (not-false _ (h 17)), tt)
     accepted NoRequest id e = absurd (omega arith)
 
     -- ---- and a transition, with the corrections, is accepted

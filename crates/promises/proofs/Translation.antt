@@ -14,7 +14,7 @@ use Rattle.lists.specs.Rules.{firstRule}
 use Rattle.lists.proofs.Every.{all-at, any-make}
 use Rattle.lists.proofs.First.{any-first, first-passes}
 use Rattle.lists.proofs.Pairs.{pairs-at}
-use Rattle.lists.proofs.Rules.{Quiet, quiet, quiet-answer, aboveZero, numbers-tell}
+use Rattle.lists.proofs.Rules.{testOf, quiet-answer, aboveZero, silent-number}
 use Rattle.lists.proofs.Tests.{not-holds, parts}
 use Rattle.rules.specs.Changes.{setAt}
 use Rattle.rules.specs.Closure.{RegionSet, contains-vaddr, GhostZone}
@@ -48,17 +48,17 @@ module _ (t : List Zone) (id : ℕ) (side : Side) (a : ℕ) where
   xs = setAt t (find id t) side
 
   module _ (e : translation t id side a .number ≡ 0) where
-    none : Quiet (translationRules t id side a)
+    none : (n : ℕ) → testOf (λ m. m) n (translationRules t id side a) ≡ false
     unfolding translationRules aboveZero all
-    none = quiet (translationRules t id side a) 0 (numbers-tell (translationRules t id side a) refl) (sym number ∙ e)
+    none = silent-number (translationRules t id side a) refl (sym number ∙ e)
 
     zone-there : present id t ≡ true
-    unfolding translationRules
-    zone-there = not-false _ (none .1 .0)
+    unfolding translationRules testOf
+    zone-there = not-false _ (none 6)
 
     within : firstIndex (coversGuest a) xs < length xs
-    unfolding translationRules xs
-    within = ltb-true _ _ (sym (any-first (coversGuest a) (setAt t (find id t) side)) ∙ not-false _ (none .1 .1 .0))
+    unfolding translationRules xs testOf
+    within = ltb-true _ _ (sym (any-first (coversGuest a) (setAt t (find id t) side)) ∙ not-false _ (none 18))
 
     covers : coversGuest a (coveringIn a xs) ≡ true
     unfolding coveringIn

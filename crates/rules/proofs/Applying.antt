@@ -7,7 +7,7 @@ use mathlib.Core.Path.{_≡_, refl, sym, ap, ap₂, _∙_}
 use borrow.Author.Tests.{eqb-true, eqb-false, eq-eqb, ne-eqb, not-false}
 use lib.Dec.{eqb}
 use Rattle.lists.specs.Rules.{_when_, firstRule}
-use Rattle.lists.proofs.Rules.{Quiet, quiet-answer}
+use Rattle.lists.proofs.Rules.{Quiet, testOf, silent, quiet-answer}
 use Rattle.lists.proofs.Tests.{both-true, true-both, parts, whole, not-holds}
 use Rattle.rules.specs.Applying.{lastEdition, sameList, sameZone, sameConfig, plain, judgedRules, judged, Terminal, ForBase}
 use Rattle.rules.specs.Configuration.{configOf}
@@ -15,6 +15,7 @@ use Rattle.rules.specs.Plan.{Plan}
 use Rattle.rules.specs.Regions.{regionEq}
 use Rattle.rules.specs.Run.{ended, Run}
 use Rattle.rules.specs.Tables.{tableOf, Zone}
+use Rattle.rules.specs.declared.Outcome.{Outcome}
 use Rattle.rules.specs.declared.Region.{Region}
 use Rattle.rules.proofs.Regions.{equal-same, equal-refl}
 
@@ -72,17 +73,18 @@ module _ (s : Terminal) (p : Plan) (r : Run) where
   well-ended e = (λ i. record { number = cond (eqb (e i) 0) 0 27; place = r .place; inner = e i })
 
   pub accepted-for-base : judged s p r .number ≡ 0 → ForBase s p × (s .edition ≡ lastEdition → ⊥) × (r .inner ≡ 0)
-  unfolding judgedRules sameConfig
+  unfolding judgedRules sameConfig testOf
   accepted-for-base e =
       let (q, well) = judged-well e in
-      let c = parts _ (not-false _ (q .0)) in (
+      let none : (n : ℕ) → testOf (λ (o : Outcome). o .number) n (judgedRules s p) ≡ false = silent (λ o. o .number) (judgedRules s p) q in
+      let c = parts _ (not-false _ (none 23)) in (
         record {
           regions = same-list regionEq equal-same _ _ (c .0);
           gic = eqb-true _ _ (c .1 .0);
-          edition = eqb-true _ _ (not-false _ (q .1 .0));
-          zones = same-list sameZone same-zone _ _ (not-false _ (q .1 .1 .1 .0));
+          edition = eqb-true _ _ (not-false _ (none 24));
+          zones = same-list sameZone same-zone _ _ (not-false _ (none 26));
         },
-        eqb-false _ _ (q .1 .1 .0),
+        eqb-false _ _ (none 25),
         ended-well well,
       )
 

@@ -15,7 +15,7 @@ use Rattle.lists.specs.Rules.{firstRule}
 use Rattle.lists.proofs.Every.{none-at}
 use Rattle.lists.proofs.Places.{getD-tab}
 use Rattle.lists.proofs.Room.{length-room, room-tab}
-use Rattle.lists.proofs.Rules.{rules, Telling, rules-stop, rules-end, rules-past, Quiet, quiet, telling-places, quiet-places}
+use Rattle.lists.proofs.Rules.{rules, Telling, rules-stop, rules-end, rules-past, Quiet, quiet, testOf, silent, telling-places, quiet-places}
 use Rattle.lists.proofs.Tests.{both-false, not-fails, not-holds}
 use Rattle.rules.specs.Configuration.{configOf, positionRules, checkRules, check, isSound, checkNumber, Configuration, StoredConfig}
 use Rattle.rules.specs.Limits.{Limits}
@@ -147,17 +147,23 @@ module _ (lim : Limits) where
     unfolding check
     tests-fail = quiet (checkRules lim s) Sound first-telling e
 
+    no-fault-of : (n : ℕ) → testOf checkNumber n (checkRules lim s) ≡ false
+    no-fault-of = silent checkNumber (checkRules lim s) tests-fail
+
     pub few-counted : s .count ≤ lim .regions
-    unfolding checkRules
-    few-counted = ltb-false _ _ (both-false (eqb (s .count) 0) _ (tests-fail .0) .1)
+    unfolding checkRules testOf
+    few-counted = ltb-false _ _ (both-false (eqb (s .count) 0) _ (no-fault-of 1) .1)
 
     pub rest-unused : any used (drop (s .count) (s .records)) ≡ false
-    unfolding checkRules
-    rest-unused = tests-fail .1 .1 .0
+    unfolding checkRules testOf
+    rest-unused = no-fault-of 3
 
     at-position : (i : ℕ) → i < s .count → Quiet (positionRules lim (s .records) i)
     unfolding checkRules
     at-position i h = quiet-places (positionRules lim (s .records)) 0 (s .count) (tests-fail .1 .1 .1) i (omega arith) (omega arith)
+
+    no-fault-at : (i : ℕ) → i < s .count → (n : ℕ) → testOf checkNumber n (positionRules lim (s .records) i) ≡ false
+    no-fault-at i h = silent checkNumber (positionRules lim (s .records) i) (at-position i h)
 
     held-at : (i : ℕ) → i < s .count → getD (configOf s .regions) i noRegion ≡ getD (s .records) i noRegion
     unfolding configOf
@@ -168,21 +174,21 @@ module _ (lim : Limits) where
     many = length-room (s .count) noRegion (s .records)
 
     clear : (i j : ℕ) → j < i → i < s .count → physOverlap (getD (s .records) i noRegion) (getD (s .records) j noRegion) ≡ false
-    unfolding positionRules
+    unfolding positionRules testOf
     clear i j h l =
         let w : j < length (take i (s .records)) = omega (arith, length-take i (s .records), few-counted) in
-        ap (physOverlap (getD (s .records) i noRegion)) (sym (getD-take i (s .records) j noRegion h)) ∙ none-at (physOverlap (getD (s .records) i noRegion)) (take i (s .records)) noRegion (at-position i l .1 .1 .0) j w
+        ap (physOverlap (getD (s .records) i noRegion)) (sym (getD-take i (s .records) j noRegion h)) ∙ none-at (physOverlap (getD (s .records) i noRegion)) (take i (s .records)) noRegion (no-fault-at i l 6) j w
 
     clear-both : (i j : ℕ) → i < s .count → j < s .count → (i ≡ j → ⊥) → physOverlap (getD (s .records) i noRegion) (getD (s .records) j noRegion) ≡ false
     clear-both i j h l ne =
         elim (decLt j i) [ yes a ↦ clear i j a h | no a ↦ overlap-symmetric _ _ _ _ ∙ clear j i (omega arith) l ]
 
     pub passed : SoundConfiguration (configOf s)
-    unfolding checkRules positionRules configOf
+    unfolding checkRules positionRules configOf testOf
     passed = record {
       most = (let f : s .count ≤ lim .regions = few-counted in omega (arith, many));
-      gic = (let g : s .gic < s .count = leb-false _ _ (tests-fail .1 .0) in omega (arith, many));
-      formed = λ i h. let l : i < s .count = omega (arith, many) in ap (wellFormed (lim .page)) (held-at i l) ∙ not-false _ (at-position i l .0);
-      near = λ i h. let l : i < s .count = omega (arith, many) in ap (inReach lim) (held-at i l) ∙ not-false _ (at-position i l .1 .0);
+      gic = (let g : s .gic < s .count = leb-false _ _ (no-fault-of 2) in omega (arith, many));
+      formed = λ i h. let l : i < s .count = omega (arith, many) in ap (wellFormed (lim .page)) (held-at i l) ∙ not-false _ (no-fault-at i l 4);
+      near = λ i h. let l : i < s .count = omega (arith, many) in ap (inReach lim) (held-at i l) ∙ not-false _ (no-fault-at i l 5);
       apart = λ i j h l ne. let a : i < s .count = omega (arith, many) in let b : j < s .count = omega (arith, many) in ap₂ physOverlap (held-at i a) (held-at j b) ∙ clear-both i j a b ne;
     }

@@ -16,6 +16,7 @@ use Rattle.lists.proofs.Every.{all-at, all-make, all-one, all-append, all-left,
 use Rattle.lists.proofs.First.{any-first}
 use Rattle.lists.proofs.Pairs.{pairs-at, pairs-append, pairs-removed, pairs-set}
 use Rattle.lists.proofs.Room.{length-removed}
+use Rattle.lists.proofs.Rules.{testOf}
 use Rattle.lists.proofs.Runs.{run-keeps}
 use Rattle.lists.proofs.Tests.{both-false, false-both, not-fails, parts, whole}
 use Rattle.rules.specs.Changes.{setAt, withSide, putSet, added, pushed, cut, dropped}
@@ -210,20 +211,19 @@ module _ (lim : Limits) where
   }
 
   accepted-keeps : (c : Configuration) (t : List Zone) (k : Kind) (id : ℕ) → SoundTable c t → firstRule (requestRules lim c k id t) 0 ≡ 0 → SoundTable c (after k id t)
-  unfolding after requestRules kindRules addRules removeZoneRules insertRules regionRules setRules removeRules noRequest
+  unfolding after requestRules kindRules addRules removeZoneRules insertRules regionRules setRules removeRules noRequest testOf
   accepted-keeps c t AddZone id s e =
       let h = none-applies lim c AddZone id t e in
-      add-keeps c t id (ltb-false _ _ (h .1 .0)) (leb-false _ _ (h .1 .1 .1 .0)) (h .1 .1 .0) s
+      add-keeps c t id (ltb-false _ _ (h 4)) (leb-false _ _ (h 7)) (h 5) s
   accepted-keeps c t RemoveZone id s e =
       let h = none-applies lim c RemoveZone id t e in
-      remove-zone-keeps c t (find id t) (found id t (not-false _ (h .1 .1 .0))) s
+      remove-zone-keeps c t (find id t) (found id t (not-false _ (h 6))) s
   accepted-keeps c t (Insert side r) id s e =
       let h = none-applies lim c (Insert side r) id t e in
-      let w = h .1 .1 .1 .1 .1 in
-      insert-keeps c t (find id t) side r (found id t (not-false _ (h .1 .1 .0))) s (not-false _ (h .1 .1 .1 .0)) (not-false _ (w .0)) (w .1 .0) (w .1 .1 .1 .0) (w .1 .1 .1 .1 .0) (w .1 .1 .1 .1 .1 .0)
+      insert-keeps c t (find id t) side r (found id t (not-false _ (h 6))) s (not-false _ (h 9)) (not-false _ (h 11)) (h 12) (h 14) (h 15) (h 16)
   accepted-keeps c t (Remove side r) id s e =
       let h = none-applies lim c (Remove side r) id t e in
-      remove-keeps c t (find id t) side r (found id t (not-false _ (h .1 .1 .0))) s (not-false _ (h .1 .1 .1 .0))
+      remove-keeps c t (find id t) side r (found id t (not-false _ (h 6))) s (not-false _ (h 17))
   accepted-keeps c t NoRequest id s e = s
 
   pub next-keeps : (c : Configuration) (t : List Zone) (q : Request) → SoundTable c t → SoundTable c (next lim c t q)

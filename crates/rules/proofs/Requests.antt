@@ -1,12 +1,12 @@
 -- The numbers of a request: each stands once in its kind's order, and an accepted request is one to which no rule applies.
 use Prim.Native.Nat.{ℕ}
-use mathlib.Core.Bool.{true}
+use mathlib.Core.Bool.{true, false}
 use mathlib.Core.List.{List}
 use mathlib.Core.Path.{_≡_, refl}
 use Rattle.lists.specs.First.{all}
 use Rattle.lists.specs.Pairs.{pairwise}
 use Rattle.lists.specs.Rules.{firstRule, numbered}
-use Rattle.lists.proofs.Rules.{Telling, Quiet, quiet, aboveZero, numbers-tell}
+use Rattle.lists.proofs.Rules.{testOf, aboveZero, silent-number}
 use Rattle.rules.specs.Limits.{Limits}
 use Rattle.rules.specs.Configuration.{Configuration}
 use Rattle.rules.specs.Requests.{addRules, removeZoneRules, regionRules, setRules, insertRules, removeRules, kindRules, requestRules}
@@ -23,13 +23,14 @@ module _ (lim : Limits) where
   request-numbered c (Remove s r) id t = refl
   request-numbered c NoRequest id t = refl
 
-  request-telling : (c : Configuration) (k : Kind) (id : ℕ) (t : List Zone) → Telling (requestRules lim c k id t) 0
+  request-above : (c : Configuration) (k : Kind) (id : ℕ) (t : List Zone) → aboveZero (requestRules lim c k id t) ≡ true
   unfolding aboveZero all requestRules kindRules addRules removeZoneRules insertRules regionRules setRules removeRules
-  request-telling c AddZone id t = numbers-tell (requestRules lim c AddZone id t) refl
-  request-telling c RemoveZone id t = numbers-tell (requestRules lim c RemoveZone id t) refl
-  request-telling c (Insert s r) id t = numbers-tell (requestRules lim c (Insert s r) id t) refl
-  request-telling c (Remove s r) id t = numbers-tell (requestRules lim c (Remove s r) id t) refl
-  request-telling c NoRequest id t = numbers-tell (requestRules lim c NoRequest id t) refl
+  request-above c AddZone id t = refl
+  request-above c RemoveZone id t = refl
+  request-above c (Insert s r) id t = refl
+  request-above c (Remove s r) id t = refl
+  request-above c NoRequest id t = refl
 
-  pub none-applies : (c : Configuration) (k : Kind) (id : ℕ) (t : List Zone) → firstRule (requestRules lim c k id t) 0 ≡ 0 → Quiet (requestRules lim c k id t)
-  none-applies c k id t e = quiet (requestRules lim c k id t) 0 (request-telling c k id t) e
+  -- of an accepted request the rule of every number is silent
+  pub none-applies : (c : Configuration) (k : Kind) (id : ℕ) (t : List Zone) → firstRule (requestRules lim c k id t) 0 ≡ 0 → (n : ℕ) → testOf (λ m. m) n (requestRules lim c k id t) ≡ false
+  none-applies c k id t e = silent-number (requestRules lim c k id t) (request-above c k id t) e

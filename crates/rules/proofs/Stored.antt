@@ -12,7 +12,7 @@ use Rattle.lists.specs.Room.{room}
 use Rattle.lists.specs.Tests.{allOf}
 use Rattle.lists.proofs.Every.{all-from, all-map, none-all, all-replicate, map-back}
 use Rattle.lists.proofs.Room.{length-room, room-rest, room-take, room-back, room-after}
-use Rattle.lists.proofs.Rules.{quiet, quiet-answer, aboveZero, numbers-tell}
+use Rattle.lists.proofs.Rules.{testOf, quiet-answer, aboveZero, silent-number}
 use Rattle.lists.proofs.Tests.{both-true, not-fails, not-holds, parts, whole}
 use Rattle.rules.specs.Applying.{storeSet, storeZone, store, storeConfig}
 use Rattle.rules.specs.Configuration.{configOf, check, isSound, Configuration, StoredConfig}
@@ -140,10 +140,10 @@ module _ (lim : Limits) where
   -- ---- standing: neither 1 nor 2
   module _ (c : StoredConfig) (t : StoredTable) where
     pub stands-well : standing lim c t ≡ 0 → (check lim c ≡ Sound) × SoundTable lim (configOf c) (tableOf t)
-    unfolding standingRules aboveZero all checkTable
+    unfolding standingRules aboveZero all checkTable testOf
     stands-well e =
-        let h = quiet (standingRules lim c t) 0 (numbers-tell (standingRules lim c t) refl) e in
-        (sound-answer _ (not-false _ (h .0)), sound-parts lim (configOf c) (tableOf t) (parts _ (not-false _ (h .1 .0)) .1 .1 .0))
+        let h = silent-number (standingRules lim c t) refl e in
+        (sound-answer _ (not-false _ (h 1)), sound-parts lim (configOf c) (tableOf t) (parts _ (not-false _ (h 2)) .1 .1 .0))
 
   pub stored-stands : (c : StoredConfig) (t : List Zone) → check lim c ≡ Sound → SoundTable lim (configOf c) t → standing lim c (store lim t) ≡ 0
   unfolding standingRules checkTable

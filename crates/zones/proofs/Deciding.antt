@@ -11,7 +11,7 @@ use Rattle.lists.specs.First.{firstIndex, firstFrom, any, all}
 use Rattle.lists.specs.Rules.{Rule, firstRule}
 use Rattle.lists.proofs.First.{any-first, from-zero}
 use Rattle.lists.proofs.Room.{others-first, others-later}
-use Rattle.lists.proofs.Rules.{Quiet, quiet, aboveZero, numbers-tell}
+use Rattle.lists.proofs.Rules.{testOf, aboveZero, silent-number}
 use Rattle.lists.proofs.Tests.{both-true, or-left}
 use Rattle.rules.specs.Changes.{setAt}
 use Rattle.rules.specs.Configuration.{gicOf, Configuration}
@@ -157,16 +157,16 @@ module _ (w : List ℕ) (id z n : ℕ) (ez : z ≡ firstIndex (hasId id) (zonesI
 
 -- ---- what 9 to 12 leave
 module _ (c : Configuration) (s : Side) (r : Region) (n : ℕ) (said : n ≡ firstRule (regionRules limits c s r) 0) (none : n ≡ 0) where
-  clear : Quiet (regionRules limits c s r)
-  clear = quiet (regionRules limits c s r) 0 (numbers-tell (regionRules limits c s r) (region-above c s r)) (sym said ∙ none)
+  clear : (m : ℕ) → testOf (λ k. k) m (regionRules limits c s r) ≡ false
+  clear = silent-number (regionRules limits c s r) (region-above c s r) (sym said ∙ none)
 
   pub region-configured : configured c r ≡ true
-  unfolding regionRules
-  region-configured = not-false _ (clear .1 .1 .0)
+  unfolding regionRules testOf
+  region-configured = not-false _ (clear 11)
 
   pub region-off-gic : onGic c s r ≡ false
-  unfolding regionRules
-  region-off-gic = clear .1 .1 .1 .0
+  unfolding regionRules testOf
+  region-off-gic = clear 12
 
 -- 12
 pub gic-cpu : (c : Configuration) (s : Side) (r g : Region) (t : Bool) → s ≡ Cpu → g ≡ gicOf c → t ≡ physOverlap r g → t ≡ onGic c s r

@@ -12,7 +12,7 @@ use lib.Seq.{sets}
 use Rattle.lists.specs.First.{firstIndex, all}
 use Rattle.lists.specs.Rules.{Rule, _when_, firstRule}
 use Rattle.lists.proofs.First.{any-first}
-use Rattle.lists.proofs.Rules.{Quiet, quiet, hit-whatever, quiet-answer, aboveZero, numbers-tell}
+use Rattle.lists.proofs.Rules.{Quiet, quiet, testOf, silent, hit-whatever, quiet-answer, aboveZero, numbers-tell}
 use Rattle.lists.proofs.Tests.{both-true, parts}
 use Rattle.rules.specs.Changes.{setAt}
 use Rattle.rules.specs.Configuration.{check, Configuration}
@@ -75,22 +75,22 @@ found : (id : ℕ) (t : List Zone) → present id t ≡ true → find id t < len
 found id t e = ltb-true _ _ (sym (any-first (hasId id) t) ∙ e)
 
 kind-comes : (c : Configuration) (t : List Zone) (k : Kind) (id : ℕ) → Comes c t k id (decidedKind c k id t)
-unfolding n decidedKind decidedAdd decidedDrop decidedInsert decidedCut requestRules kindRules addRules removeZoneRules insertRules regionRules setRules removeRules noRequest after applied Allowed aboveZero all firstRule
+unfolding n decidedKind decidedAdd decidedDrop decidedInsert decidedCut requestRules kindRules addRules removeZoneRules insertRules regionRules setRules removeRules noRequest after applied Allowed aboveZero all firstRule testOf
 kind-comes c t AddZone id =
-    ⊎-elim (λ (ne, e). refused c t AddZone id _ ne e) (λ (z, e). made c t AddZone id _ (Add id) z e refl refl (leb-false _ _ (none-applies limits c AddZone id t z .1 .1 .1 .0)))
+    ⊎-elim (λ (ne, e). refused c t AddZone id _ ne e) (λ (z, e). made c t AddZone id _ (Add id) z e refl refl (leb-false _ _ (none-applies limits c AddZone id t z 7)))
     (refused-or-made (4 when ltb highestId id ∷ addRules limits id t) (Add id) refl)
 kind-comes c t RemoveZone id =
-    ⊎-elim (λ (ne, e). refused c t RemoveZone id _ ne e) (λ (z, e). made c t RemoveZone id _ (Drop (find id t)) z e refl refl (found id t (not-false _ (none-applies limits c RemoveZone id t z .1 .1 .0))))
+    ⊎-elim (λ (ne, e). refused c t RemoveZone id _ ne e) (λ (z, e). made c t RemoveZone id _ (Drop (find id t)) z e refl refl (found id t (not-false _ (none-applies limits c RemoveZone id t z 6))))
     (refused-or-made (4 when ltb highestId id ∷ removeZoneRules id t) (Drop (find id t)) refl)
 kind-comes c t (Insert s r) id =
     ⊎-elim (λ (ne, e). refused c t (Insert s r) id _ ne e)
-    (λ (z, e). let q = none-applies limits c (Insert s r) id t z .1 .1 in made c t (Insert s r) id _ (Push (find id t) s r) z e refl refl (found id t (not-false _ (q .0)), leb-false _ _ (q .1 .1 .1 .1 .1 .1 .1 .1 .0)))
+    (λ (z, e). let q = none-applies limits c (Insert s r) id t z in made c t (Insert s r) id _ (Push (find id t) s r) z e refl refl (found id t (not-false _ (q 6)), leb-false _ _ (q 16)))
     (refused-or-made (4 when ltb highestId id ∷ insertRules limits c id s r t) (Push (find id t) s r) refl)
 kind-comes c t (Remove s r) id =
     ⊎-elim (λ (ne, e). refused c t (Remove s r) id _ ne e)
     (λ (z, e).
-    let q = none-applies limits c (Remove s r) id t z .1 .1 in
-    made c t (Remove s r) id _ (Cut (find id t) s (firstIndex (regionEq r) (setAt t (find id t) s))) z e refl refl (found id t (not-false _ (q .0)), ltb-true _ _ (sym (any-first (regionEq r) (setAt t (find id t) s)) ∙ not-false _ (q .1 .0))))
+    let q = none-applies limits c (Remove s r) id t z in
+    made c t (Remove s r) id _ (Cut (find id t) s (firstIndex (regionEq r) (setAt t (find id t) s))) z e refl refl (found id t (not-false _ (q 6)), ltb-true _ _ (sym (any-first (regionEq r) (setAt t (find id t) s)) ∙ not-false _ (q 17))))
     (refused-or-made (4 when ltb highestId id ∷ removeRules id s r t) (Cut (find id t) s (firstIndex (regionEq r) (setAt t (find id t) s))) refl)
 kind-comes c t NoRequest id = record { number = refl; leaves = refl; can = tt }
 
@@ -131,8 +131,10 @@ module _ (c t : List ℕ) where
     none = quiet (standingRules limits (storedConfig c) (storedTable t)) 0 (numbers-tell (standingRules limits (storedConfig c) (storedTable t)) refl) (sym e ∙ z)
 
     both : (check limits (storedConfig c) ≡ Sound) × (checkTable limits (storedConfig c) (storedTable t) ≡ true)
-    unfolding standingRules
-    both = (sound-answer _ (not-false _ (none .0)), not-false _ (none .1 .0))
+    unfolding standingRules testOf
+    both =
+        let h = silent (λ m. m) (standingRules limits (storedConfig c) (storedTable t)) none in
+        (sound-answer _ (not-false _ (h 1)), not-false _ (h 2))
 
     pub stands-same : zonesIn t ≡ tableOf (storedTable t)
     stands-same = passed-same (storedConfig c) t (both .1)

@@ -111,7 +111,7 @@ module _ (w : List ℕ) (id : ℕ) (s : Side) (a : ℕ) where
         unfolding inReach
         no-wrap near =
             let q : inReach limits x ≡ true = ap (inReach limits) (region-here ∙ ap (λ (l : List Region). getD l i noRegion) (sym (set-in w z s there))) ∙ near .reach z s i there (omega (arith, ap length (set-in w z s there))) in
-            let b : x .p .0 + x .size ≤ 2 ^ 48 = leb-true _ _ (parts _ q .1 .0) in
+            let b : x .p .0 + x .size ≤ limits .physReach = leb-true _ _ (parts _ q .1 .0) in
             let u : a < x .v .0 + x .size = before-end in
             let g : x .v .0 ≤ a = from-start in
             omega arith

@@ -4,6 +4,10 @@ use crate::read::read_plan;
 use crate::read::request_records;
 use crate::words::Section;
 use rules::Outcome;
+use rules::numbers::NO_NEXT_EDITION;
+use rules::numbers::OTHER_CONFIG;
+use rules::numbers::OTHER_EDITION;
+use rules::numbers::OTHER_ZONES;
 use zones::Config;
 use zones::Table;
 use zones::run_in;
@@ -15,15 +19,6 @@ ghost use Rattle.rules.specs.Limits.{limits};
 ghost use Rattle.rules.specs.Applying.{lastEdition, sameList, answerAlone};
 ghost use Rattle.zones.specs.Layout.{configWords, tableWords};
 ghost use Rattle.plan.specs.Applying.{turnedAway, ranPlan, baseNumber, applyRead, applied};
-
-// The numbers 23 to 26: what of the plan's base differs from the terminal's, and the edition that has no next.
-const OTHER_CONFIG: u32 = 23;
-
-const OTHER_EDITION: u32 = 24;
-
-const NO_NEXT_EDITION: u32 = 25;
-
-const OTHER_ZONES: u32 = 26;
 
 const LAST_EDITION: u32 = u32::MAX;
 

@@ -11,12 +11,6 @@ ghost use Rattle.formats.specs.Formats.{readNumber, within};
 ghost use Rattle.rules.specs.Plan.{regionField};
 ghost use Rattle.plan.specs.Fields.{NumberRead, RegionRead};
 
-// The number 20: a field is not wholly there.
-pub const NOT_THERE: u32 = 20;
-
-// The number 21: a count is out of range.
-pub const OUT_OF_RANGE: u32 = 21;
-
 // A count, a mark or an id has 4 bytes; v, p and size of a region have 8 each.
 pub const NUMBER_BYTES: usize = 4;
 

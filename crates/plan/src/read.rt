@@ -6,6 +6,7 @@ use crate::sections::read_marks;
 use crate::sections::read_regions;
 use crate::sections::read_zones;
 use crate::words::Section;
+use rules::numbers::TRAILING;
 use zones::CONFIG_WORDS;
 use zones::Config;
 use zones::TABLE_WORDS;
@@ -16,9 +17,6 @@ ghost use lib.ListN.{length};
 ghost use Rattle.rules.specs.Limits.{limits};
 ghost use Rattle.rules.specs.Plan.{readPlan};
 ghost use Rattle.plan.specs.Read.{stretchOf, refusedRead, requestsRead, zonesRead, regionsRead, readAnswer};
-
-// The number 22: bytes after the last section.
-const MORE_BYTES: u32 = 22;
 
 // The marks' count and the two marks.
 pub const MARKS_BYTES: usize = 12;
@@ -92,7 +90,7 @@ fn from_requests(s: &[u8], base: usize, edition: u32, config: Config, table: Tab
         Section::Bad { number, at } => refused(number, base + at),
         Section::End(end) => {
             if end < s.len() {
-                return refused(MORE_BYTES, base + end);
+                return refused(TRAILING, base + end);
             }
             Read {
                 section: Section::End(base + NUMBER_BYTES),

@@ -1,9 +1,7 @@
 // The four sections of a plan. Each reader is lent the part of the plan that begins at its section's count, and answers offsets in that
 // part.
-use crate::field::NOT_THERE;
 use crate::field::NUMBER_BYTES;
 use crate::field::Number;
-use crate::field::OUT_OF_RANGE;
 use crate::field::is_within;
 use crate::field::number_at;
 use crate::words::Section;
@@ -11,6 +9,8 @@ use crate::words::read_set;
 use crate::words::read_table;
 use rules::limits::MOST_REGIONS;
 use rules::limits::MOST_REQUESTS;
+use rules::numbers::COUNT;
+use rules::numbers::CUT;
 use zones::CONFIG_COUNT;
 use zones::CONFIG_GIC;
 use zones::CONFIG_RECORDS;
@@ -51,28 +51,19 @@ pub fn read_marks(s: &[u8]) -> Marks
     ensures { λ r. ⌜ r ≡ marksAnswer (length (now (s .entry))) (marksSection .read (now (s .entry))) ⌝ }
 {
     let Number::Is(count) = number_at(s, 0) else {
-        return Marks::Bad {
-            number: NOT_THERE,
-            at: 0,
-        };
+        return Marks::Bad { number: CUT, at: 0 };
     };
     if !is_within(MARKS, MARKS, count) {
         return Marks::Bad {
-            number: OUT_OF_RANGE,
+            number: COUNT,
             at: 0,
         };
     }
     let Number::Is(gic) = number_at(s, 4) else {
-        return Marks::Bad {
-            number: NOT_THERE,
-            at: 4,
-        };
+        return Marks::Bad { number: CUT, at: 4 };
     };
     let Number::Is(edition) = number_at(s, 8) else {
-        return Marks::Bad {
-            number: NOT_THERE,
-            at: 8,
-        };
+        return Marks::Bad { number: CUT, at: 8 };
     };
     Marks::Are { gic, edition }
 }
@@ -131,14 +122,11 @@ pub fn find_requests(s: &[u8]) -> Section
     ensures { λ r. ⌜ r ≡ sectionAnswer (length (now (s .entry))) (requestsSection limits .read (now (s .entry))) ⌝ }
 {
     let Number::Is(n) = number_at(s, 0) else {
-        return Section::Bad {
-            number: NOT_THERE,
-            at: 0,
-        };
+        return Section::Bad { number: CUT, at: 0 };
     };
     if !is_within(0, MOST_REQUESTS, n) {
         return Section::Bad {
-            number: OUT_OF_RANGE,
+            number: COUNT,
             at: 0,
         };
     }
@@ -146,7 +134,7 @@ pub fn find_requests(s: &[u8]) -> Section
     let whole = (s.len() - NUMBER_BYTES) / REQUEST_BYTES;
     if whole < count {
         return Section::Bad {
-            number: NOT_THERE,
+            number: CUT,
             at: NUMBER_BYTES + whole * REQUEST_BYTES,
         };
     }

@@ -1,8 +1,6 @@
 // Sections read into lent words: each reader answers where it ends, or refuses.
-use crate::field::NOT_THERE;
 use crate::field::NUMBER_BYTES;
 use crate::field::Number;
-use crate::field::OUT_OF_RANGE;
 use crate::field::REGION_BYTES;
 use crate::field::RegionField;
 use crate::field::is_within;
@@ -10,6 +8,8 @@ use crate::field::number_at;
 use crate::field::region_at;
 use rules::limits::MOST_IN_SET;
 use rules::limits::MOST_ZONES;
+use rules::numbers::COUNT;
+use rules::numbers::CUT;
 use zones::REGION_WORDS;
 use zones::SET_WORDS;
 use zones::ZONE_WORDS;
@@ -30,10 +30,7 @@ fn read_record(s: &[u8], at: usize, w: &mut [u64], a: usize, i: usize) -> Sectio
     ensures { λ r. ⌜ Reads (now (s .entry)) (now (w .exit)) r (recordInto a i (now (w .entry)) (drop at (now (s .entry)))) ⌝ }
 {
     let RegionField::Is(r) = region_at(s, at) else {
-        return Section::Bad {
-            number: NOT_THERE,
-            at,
-        };
+        return Section::Bad { number: CUT, at };
     };
     let k = a + i * REGION_WORDS;
     w[k] = r.v.0;
@@ -75,13 +72,13 @@ pub fn read_set(
 {
     let Number::Is(n) = number_at(s, start) else {
         return Section::Bad {
-            number: NOT_THERE,
+            number: CUT,
             at: start,
         };
     };
     if !is_within(lo, hi, n) {
         return Section::Bad {
-            number: OUT_OF_RANGE,
+            number: COUNT,
             at: start,
         };
     }
@@ -109,7 +106,7 @@ fn read_zone(s: &[u8], start: usize, w: &mut [u64], i: usize) -> Section
 {
     let Number::Is(id) = number_at(s, start) else {
         return Section::Bad {
-            number: NOT_THERE,
+            number: CUT,
             at: start,
         };
     };
@@ -142,14 +139,11 @@ pub fn read_table(s: &[u8], w: &mut [u64]) -> Section
     ensures { λ r. ⌜ Reads (now (s .entry)) (now (w .exit)) r (zonesInto (now (w .entry)) (now (s .entry))) ⌝ }
 {
     let Number::Is(n) = number_at(s, 0) else {
-        return Section::Bad {
-            number: NOT_THERE,
-            at: 0,
-        };
+        return Section::Bad { number: CUT, at: 0 };
     };
     if !is_within(0, MOST_ZONES as u32, n) {
         return Section::Bad {
-            number: OUT_OF_RANGE,
+            number: COUNT,
             at: 0,
         };
     }

@@ -13,6 +13,12 @@ use region::well_formed;
 use rules::Checked;
 use rules::Region;
 use rules::limits::MOST_REGIONS;
+use rules::numbers::C1_COUNT;
+use rules::numbers::C2_GIC;
+use rules::numbers::C3_NOT_ZERO;
+use rules::numbers::C4_FORM;
+use rules::numbers::C5_REACH;
+use rules::numbers::C6_OVERLAP;
 ghost use Prim.Native.Nat.{_<_, _≤_};
 ghost use mathlib.Core.List.{flatMap};
 ghost use mathlib.Core.Path.{_≡_};
@@ -48,12 +54,12 @@ pub fn check_number(f: Checked) -> u32
 {
     match f {
         Checked::Sound => 0,
-        Checked::BadCount => 1,
-        Checked::BadGic => 2,
-        Checked::NotZero(_) => 3,
-        Checked::Malformed(_) => 4,
-        Checked::OutOfReach(_) => 5,
-        Checked::Overlap(_, _) => 6,
+        Checked::BadCount => C1_COUNT,
+        Checked::BadGic => C2_GIC,
+        Checked::NotZero(_) => C3_NOT_ZERO,
+        Checked::Malformed(_) => C4_FORM,
+        Checked::OutOfReach(_) => C5_REACH,
+        Checked::Overlap(_, _) => C6_OVERLAP,
     }
 }
 

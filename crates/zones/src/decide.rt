@@ -20,6 +20,21 @@ use rules::Side;
 use rules::limits::HIGHEST_ID;
 use rules::limits::MOST_IN_SET;
 use rules::limits::MOST_ZONES;
+use rules::numbers::FORM;
+use rules::numbers::GUEST_OVERLAP;
+use rules::numbers::NO_REGION;
+use rules::numbers::NO_REQUEST;
+use rules::numbers::NO_ZONE;
+use rules::numbers::NOT_CONFIGURED;
+use rules::numbers::OVER_GIC;
+use rules::numbers::PHYSICAL_OVERLAP;
+use rules::numbers::REACH;
+use rules::numbers::REGION_THERE;
+use rules::numbers::SET_FULL;
+use rules::numbers::ZONE_ID_TOO_HIGH;
+use rules::numbers::ZONE_IN_USE;
+use rules::numbers::ZONE_THERE;
+use rules::numbers::ZONES_FULL;
 ghost use Prim.Native.Nat.{_<_};
 ghost use mathlib.Core.Bool.{true, false};
 ghost use mathlib.Core.Path.{_≡_};
@@ -54,7 +69,7 @@ pub fn decide(c: &[u64; CONFIG_WORDS], t: &[u64; TABLE_WORDS], q: Request) -> Ch
         Kind::RemoveZone => decide_drop(t, id),
         Kind::Insert(side, r) => decide_insert(c, t, id, side, r),
         Kind::Remove(side, r) => decide_cut(t, id, side, r),
-        Kind::NoRequest => Change::Refuse(3),
+        Kind::NoRequest => Change::Refuse(NO_REQUEST),
     }
 }
 
@@ -63,14 +78,14 @@ fn decide_add(t: &[u64; TABLE_WORDS], id: u64) -> Change
     ensures { λ d. ⌜ d ≡ decidedAdd id (zonesIn (now (t .entry))) ⌝ }
 {
     if HIGHEST_ID < id {
-        return Change::Refuse(4);
+        return Change::Refuse(ZONE_ID_TOO_HIGH);
     }
     let n = zone_count(t);
     if find_zone(t, id) < n {
-        return Change::Refuse(5);
+        return Change::Refuse(ZONE_THERE);
     }
     if MOST_ZONES <= n {
-        return Change::Refuse(7);
+        return Change::Refuse(ZONES_FULL);
     }
     Change::Add(id)
 }
@@ -80,14 +95,14 @@ fn decide_drop(t: &[u64; TABLE_WORDS], id: u64) -> Change
     ensures { λ d. ⌜ d ≡ decidedDrop id (zonesIn (now (t .entry))) ⌝ }
 {
     if HIGHEST_ID < id {
-        return Change::Refuse(4);
+        return Change::Refuse(ZONE_ID_TOO_HIGH);
     }
     let z = find_zone(t, id);
     if zone_count(t) <= z {
-        return Change::Refuse(6);
+        return Change::Refuse(NO_ZONE);
     }
     if holds_any(t, z) {
-        return Change::Refuse(8);
+        return Change::Refuse(ZONE_IN_USE);
     }
     Change::Drop(z)
 }
@@ -97,15 +112,15 @@ fn decide_cut(t: &[u64; TABLE_WORDS], id: u64, side: Side, r: Region) -> Change
     ensures { λ d. ⌜ d ≡ decidedCut id side r (zonesIn (now (t .entry))) ⌝ }
 {
     if HIGHEST_ID < id {
-        return Change::Refuse(4);
+        return Change::Refuse(ZONE_ID_TOO_HIGH);
     }
     let z = find_zone(t, id);
     if zone_count(t) <= z {
-        return Change::Refuse(6);
+        return Change::Refuse(NO_ZONE);
     }
     let i = set_find(t, z, side, By::Equal, r);
     if set_len(t, z, side) <= i {
-        return Change::Refuse(17);
+        return Change::Refuse(NO_REGION);
     }
     Change::Cut(z, side, i)
 }
@@ -121,11 +136,11 @@ fn decide_insert(
     ensures { λ d. ⌜ d ≡ decidedInsert (configIn (now (c .entry))) id side r (zonesIn (now (t .entry))) ⌝ }
 {
     if HIGHEST_ID < id {
-        return Change::Refuse(4);
+        return Change::Refuse(ZONE_ID_TOO_HIGH);
     }
     let z = find_zone(t, id);
     if zone_count(t) <= z {
-        return Change::Refuse(6);
+        return Change::Refuse(NO_ZONE);
     }
     let a = refuse_region(c, side, r);
     if a != 0 {
@@ -155,16 +170,16 @@ fn refuse_region(c: &[u64; CONFIG_WORDS], side: Side, r: Region) -> u32
     ensures { λ n. ⌜ n ≡ firstRule (regionRules limits (configIn (now (c .entry))) side r) 0 ⌝ }
 {
     if !well_formed(r) {
-        return 9;
+        return FORM;
     }
     if !in_reach(r) {
-        return 10;
+        return REACH;
     }
     if !is_configured(c, r) {
-        return 11;
+        return NOT_CONFIGURED;
     }
     if on_gic(c, side, r) {
-        return 12;
+        return OVER_GIC;
     }
     0
 }
@@ -192,16 +207,16 @@ fn refuse_set(
 {
     let n = set_len(t, z, side);
     if set_find(t, z, side, By::Equal, r) < n {
-        return 13;
+        return REGION_THERE;
     }
     if is_forbidden(c, t, z, r) {
-        return 14;
+        return PHYSICAL_OVERLAP;
     }
     if set_find(t, z, side, By::Guest, r) < n {
-        return 15;
+        return GUEST_OVERLAP;
     }
     if MOST_IN_SET <= n {
-        return 16;
+        return SET_FULL;
     }
     0
 }

@@ -14,6 +14,7 @@ use rules::Phys;
 use rules::Region;
 use rules::Request;
 use rules::Side;
+use rules::numbers::REQUEST_REFUSED;
 ghost use Prim.Native.Nat.{_*_, _/_, _<_};
 ghost use mathlib.Core.Path.{_≡_};
 ghost use lib.ListN.{length};
@@ -26,9 +27,6 @@ ghost use Rattle.zones.specs.Words.{wordsOf};
 
 // A request as bytes: kind and zone id in 4 each; v, p and size in 8 each.
 pub const REQUEST_BYTES: usize = 32;
-
-// The number 27: a request was refused.
-const REQUEST_REFUSED: u32 = 27;
 
 // The requests that the bytes hold, one after another at the lent table. The first refused one ends the run and leaves the table
 // as the earlier ones made it. Bytes after the last whole request are not looked at.

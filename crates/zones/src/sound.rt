@@ -23,6 +23,8 @@ use rules::Checked;
 use rules::Region;
 use rules::Side;
 use rules::limits::HIGHEST_ID;
+use rules::numbers::UNSOUND_CONFIG;
+use rules::numbers::UNSOUND_TABLE;
 ghost use Prim.Native.Nat.{_+_, _≤_, _<_, max};
 ghost use mathlib.Core.Path.{_≡_};
 ghost use lib.ListN.{length};
@@ -62,10 +64,10 @@ pub fn standing(c: &[u64; CONFIG_WORDS], t: &[u64; TABLE_WORDS]) -> u32
 {
     let found = check_words(c);
     let Checked::Sound = found else {
-        return 1;
+        return UNSOUND_CONFIG;
     };
     if !table_sound(c, t) {
-        return 2;
+        return UNSOUND_TABLE;
     }
     0
 }

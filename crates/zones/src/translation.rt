@@ -17,6 +17,9 @@ use rules::Region;
 use rules::Side;
 use rules::Translated;
 use rules::limits::HIGHEST_ID;
+use rules::numbers::NO_ZONE;
+use rules::numbers::NOT_COVERED;
+use rules::numbers::ZONE_ID_TOO_HIGH;
 ghost use Prim.Native.Nat.{_≤_, _<_};
 ghost use mathlib.Core.Path.{_≡_};
 ghost use lib.ListN.{length};
@@ -60,15 +63,15 @@ fn translate_near(t: &[u64; TABLE_WORDS], zone: u32, side: Side, a: Guest) -> Tr
 {
     let id = zone as u64;
     if HIGHEST_ID < id {
-        return refused(4);
+        return refused(ZONE_ID_TOO_HIGH);
     }
     let z = find_zone(t, id);
     if zone_count(t) <= z {
-        return refused(6);
+        return refused(NO_ZONE);
     }
     let i = find_covering(t, z, side, a);
     if set_len(t, z, side) <= i {
-        return refused(18);
+        return refused(NOT_COVERED);
     }
     let r = region_at(t, z, side, i);
     Translated {

@@ -1,11 +1,13 @@
 -- Every element passes, or some one does; also after an element is appended, put in another's place, or taken out.
-use Prim.Native.Nat.{ℕ, zero, suc, _<_, suc-le-suc}
+use Prim.Native.Nat.{ℕ, zero, suc, _+_, _-_, _≤_, _<_, suc-le-suc}
+use native.Mathlib.Decide.{decLt}
 use native.Mathlib.Omega.{arith}
 use mathlib.Core.Bool.{Bool, true, false, not, _&&_, _||_, true≢false}
 use mathlib.Core.List.{List, [], _∷_, _++_, map}
 use mathlib.Core.Logic.{⊎-elim}
 use mathlib.Core.Path.{_≡_, refl, sym, ap, ap₂, _∙_}
-use lib.ListN.{length, getD, set, replicate, length-replicate, getD-replicate}
+use lib.ListN.{length, getD, take, drop, set, replicate, length-take, length-drop, length-replicate, getD-replicate, List·getD-eq-default}
+use lib.Seq.{getD-take, getD-drop}
 use Rattle.lists.specs.First.{any, all}
 use Rattle.lists.specs.Room.{removeAt}
 use Rattle.lists.proofs.Tests.{both-true, true-both, both-false, false-both, one-true, or-left, or-right}
@@ -22,6 +24,28 @@ module _ {A : Type 0} (p : A → Bool) where
   unfolding all
   all-make [] d f = refl
   all-make (x ∷ xs) d f = true-both (p x) (all p xs) (f 0 (omega arith)) (all-make xs d (λ i h. f (suc i) (suc-le-suc h)))
+
+  -- the elements below n, and those from n on, where what stands past the end passes too
+  pub all-below : (xs : List A) (d : A) (n : ℕ) → p d ≡ true → all p (take n xs) ≡ true → (i : ℕ) → i < n → p (getD xs i d) ≡ true
+  all-below xs d n past e i h =
+      elim (decLt i (length xs)) [
+        | yes l ↦ ap p (sym (getD-take n xs i d h)) ∙ all-at (take n xs) d e i (omega (arith, length-take n xs))
+        | no l ↦ ap p (List·getD-eq-default xs d (omega arith)) ∙ past
+      ]
+
+  pub all-below-make : (xs : List A) (d : A) (n : ℕ) → ((i : ℕ) → i < n → p (getD xs i d) ≡ true) → all p (take n xs) ≡ true
+  all-below-make xs d n f = all-make (take n xs) d (λ i h. let l : i < n = omega (arith, length-take n xs) in ap p (getD-take n xs i d l) ∙ f i l)
+
+  pub all-beyond : (xs : List A) (d : A) (n : ℕ) → p d ≡ true → all p (drop n xs) ≡ true → (i : ℕ) → n ≤ i → p (getD xs i d) ≡ true
+  all-beyond xs d n past e i h =
+      let k : n + (i - n) ≡ i = omega arith in
+      elim (decLt i (length xs)) [
+        | yes l ↦ ap (λ (j : ℕ). p (getD xs j d)) (sym k) ∙ ap p (sym (getD-drop n xs (i - n) d)) ∙ all-at (drop n xs) d e (i - n) (omega (arith, length-drop n xs))
+        | no l ↦ ap p (List·getD-eq-default xs d (omega arith)) ∙ past
+      ]
+
+  pub all-beyond-make : (xs : List A) (d : A) (n : ℕ) → ((i : ℕ) → n ≤ i → p (getD xs i d) ≡ true) → all p (drop n xs) ≡ true
+  all-beyond-make xs d n f = all-make (drop n xs) d (λ i h. ap p (getD-drop n xs i d) ∙ f (n + i) (omega arith))
 
   pub all-one : (x : A) → p x ≡ true → all p (x ∷ []) ≡ true
   unfolding all

@@ -63,6 +63,9 @@ module _ {A : Type 0} where
         past-end (y ∷ ys) zero h = refl
         past-end (y ∷ ys) (suc i) h = past-end ys i (omega arith)
 
+    pub room-read : (xs : List A) (i : ℕ) → i < n → getD (room n z xs) i z ≡ getD xs i z
+    room-read xs i h = ap (λ (l : List A). getD l i z) (room-tab xs) ∙ getD-tab n (λ j. getD xs j z) i z h
+
     pub room-take : (xs : List A) → n ≤ length xs → room n z xs ≡ take n xs
     unfolding room
     room-take xs h = take-append-le n xs (replicate n z) h

@@ -361,7 +361,7 @@ module _ (lim : Limits) where
       let (p1, g1) = state-some zid1 t zone1 st1 in
       let (p2, g2) = state-some zid2 t zone2 st2 in
       clash-told (configOf s) r1 r2
-      (never-clash lim s t ok (find zid1 t) (find zid2 t) (there s t ok zid1 p1) (there s t ok zid2 p2) (other-place s t ok zid2 zid1 p2 p1 ne) r1 r2 (stands zid1 zone1 p1 g1 r1 h1) (stands zid2 zone2 p2 g2 r2 h2))
+      (never-clash lim (configOf s) t (ok .table) (find zid1 t) (find zid2 t) (there s t ok zid1 p1) (there s t ok zid2 p2) (other-place s t ok zid2 zid1 p2 p1 ne) r1 r2 (stands zid1 zone1 p1 g1 r1 h1) (stands zid2 zone2 p2 g2 r2 h2))
     where
       stands : (zid : ℕ) (zone : GhostZone) → present zid t ≡ true → ghostOf (getD t (find zid t) noZone) ≡ zone → (r : Region) → contains-region zone r ≡ true → In r (regionsOf (getD t (find zid t) noZone))
       stands zid zone p g r h =

@@ -27,10 +27,10 @@ use Rattle.rules.proofs.Regions.{equal-same, equal-refl}
 use Rattle.promises.specs.Configuration.{at, RightCount, ZeroUpTo, Means, CheckIsExact, AllRegionsValid, AllRegionsDisjoint, GicRegionInAllRegions, Opening, Fit, Reached}
 
 -- a record is zero exactly where it is not used
-zero-unused : (r : Region) → r ≡ noRegion → used r ≡ false
+pub zero-unused : (r : Region) → r ≡ noRegion → used r ≡ false
 zero-unused r e = ap used e ∙ ap not (equal-refl noRegion)
 
-unused-zero : (r : Region) → used r ≡ false → r ≡ noRegion
+pub unused-zero : (r : Region) → used r ≡ false → r ≡ noRegion
 unused-zero r e = equal-same r noRegion (not-false _ e)
 
 module _ (lim : Limits) where

@@ -1,17 +1,67 @@
--- Sound tables: isolation in bytes, and what upstream's invariants say.
-use Prim.Native.Nat.{ℕ, _<_}
+-- Sound tables: what the check of a table says yes to, isolation in bytes, and what upstream's invariants say.
+use Prim.Native.Nat.{ℕ, _≤_, _<_}
 use mathlib.Core.Bool.{true, false}
 use mathlib.Core.List.{List, []}
+use mathlib.Core.Logic.{_↔_}
 use mathlib.Core.Path.{_≡_}
 use lib.ListN.{length, getD}
-use Rattle.rules.specs.Limits.{Limits, pageOf}
+use Rattle.rules.specs.Limits.{highestId, Limits, pageOf}
 use Rattle.rules.specs.Addresses.{Covers}
-use Rattle.rules.specs.Configuration.{gicOf, configOf, Configuration, StoredConfig}
+use Rattle.rules.specs.Configuration.{gicOf, configOf, check, Configuration, StoredConfig}
 use Rattle.rules.specs.Regions.{wellFormed, inReach, physOverlap, guestOverlap, noRegion}
-use Rattle.rules.specs.Tables.{noZone, sideOf, regionsOf, sound, Zone}
+use Rattle.rules.specs.Tables.{noZone, noStored, sideOf, regionsOf, sound, checkTable, Zone, StoredSet, StoredZone, StoredTable}
+use Rattle.rules.specs.declared.Checked.the-variants.{Sound}
 use Rattle.rules.specs.declared.Region.{Region}
 use Rattle.rules.specs.declared.Side.{Side}
-use Rattle.promises.specs.Configuration.{Passed}
+use Rattle.rules.specs.declared.Side.the-variants.{Cpu, Iommu}
+use Rattle.promises.specs.Configuration.{at, Passed}
+
+-- ---- the check of a table, on the table as it is stored
+-- the zone at a position, and the set of one of its sides
+abbrev pub zoneAt : StoredTable → ℕ → StoredZone
+zoneAt t z = getD (t .zones) z noStored
+
+unfoldable pub setIn : Side → StoredZone → StoredSet
+setIn Cpu z = z .cpu
+setIn Iommu z = z .iommu
+
+-- the count of that set, and the record at a position of it
+abbrev pub countAt : StoredTable → ℕ → Side → ℕ
+countAt t z s = setIn s (zoneAt t z) .count
+
+abbrev pub recordAt : StoredTable → ℕ → Side → ℕ → Region
+recordAt t z s i = getD (setIn s (zoneAt t z) .records) i noRegion
+
+-- a zone is at z, and its set holds a region at i
+abbrev pub Held : StoredTable → ℕ → Side → ℕ → Type 0
+Held t z s i = (z < t .count) × (i < countAt t z s)
+
+-- document 01's conditions on a table, one by one
+pub record Conditions (l : Limits) (c : StoredConfig) (t : StoredTable) : Type 0 where
+  -- counts are within limits
+  pub fewZones : t .count ≤ l .zones
+  pub fewRegions : (z : ℕ) (s : Side) → z < t .count → countAt t z s ≤ l .inSet
+  -- ids are at most 255 and differ
+  pub lowIds : (z : ℕ) → z < t .count → zoneAt t z .id ≤ highestId
+  pub idsDiffer : (y z : ℕ) → y < t .count → z < t .count → (y ≡ z → ⊥) → zoneAt t y .id ≡ zoneAt t z .id → ⊥
+  -- every unused record or zone is zero
+  pub restZero : (z : ℕ) (s : Side) (i : ℕ) → z < t .count → countAt t z s ≤ i → recordAt t z s i ≡ noRegion
+  pub zonesZero : (z : ℕ) → t .count ≤ z → (zoneAt t z .id ≡ 0) × ((s : Side) → (countAt t z s ≡ 0) × ((i : ℕ) → recordAt t z s i ≡ noRegion))
+  -- every region is configured
+  pub configured : (z : ℕ) (s : Side) (i : ℕ) → Held t z s i → (k : ℕ) × (k < c .count) × (at c k ≡ recordAt t z s i)
+  -- no set has two regions that overlap in guest addresses
+  pub guestApart : (z : ℕ) (s : Side) (i j : ℕ) → Held t z s i → Held t z s j → (i ≡ j → ⊥) → guestOverlap (recordAt t z s i) (recordAt t z s j) ≡ false
+  -- no CPU region overlaps the GIC physically; every IOMMU region is well formed by the page of devices
+  pub offGic : (z i : ℕ) → Held t z Cpu i → physOverlap (recordAt t z Cpu i) (at c (c .gic)) ≡ false
+  pub formed : (z i : ℕ) → Held t z Iommu i → wellFormed (l .iommuPage) (recordAt t z Iommu i) ≡ true
+  -- regions other than the GIC in two different zones never overlap physically
+  pub zonesApart : (y z : ℕ) (s u : Side) (i j : ℕ) → (y ≡ z → ⊥) → Held t y s i → Held t z u j → (recordAt t y s i ≡ at c (c .gic) → ⊥) → (recordAt t z u j ≡ at c (c .gic) → ⊥) → physOverlap (recordAt t y s i) (recordAt t z u j) ≡ false
+
+-- the check says yes exactly then, under a configuration that its check finds sound
+abbrev pub TableCheckIsExact : Limits → Type 0
+TableCheckIsExact l = (c : StoredConfig) (t : StoredTable) → (checkTable l c t ≡ true) ↔ ((check l c ≡ Sound) × Conditions l c t)
+
+-- ---- sound tables
 
 -- the region stands in the set
 abbrev pub In : Region → List Region → Type 0

@@ -13,8 +13,7 @@ use Rattle.lists.specs.First.{firstIndex, firstFrom, any}
 use Rattle.lists.specs.Places.{places}
 use Rattle.lists.specs.Rules.{firstRule}
 use Rattle.lists.proofs.Every.{none-at}
-use Rattle.lists.proofs.Places.{getD-tab}
-use Rattle.lists.proofs.Room.{length-room, room-tab}
+use Rattle.lists.proofs.Room.{length-room, room-read}
 use Rattle.lists.proofs.Rules.{rules, Telling, rules-stop, rules-end, rules-past, Quiet, quiet, testOf, silent, telling-places, quiet-places}
 use Rattle.lists.proofs.Tests.{both-false, not-fails, not-holds}
 use Rattle.rules.specs.Configuration.{configOf, positionRules, checkRules, check, isSound, checkNumber, Configuration, StoredConfig}
@@ -26,10 +25,10 @@ use Rattle.rules.specs.declared.Region.{Region}
 use Rattle.rules.proofs.Addresses.{overlap-symmetric}
 
 -- ---- at a position: no rule answers that all is sound
-c1-faulty : BadCount ≡ Sound → ⊥
+pub c1-faulty : BadCount ≡ Sound → ⊥
 c1-faulty e = let z : _≡_ {A = ℕ} 1 0 = ap checkNumber e in omega arith
 
-c2-faulty : BadGic ≡ Sound → ⊥
+pub c2-faulty : BadGic ≡ Sound → ⊥
 c2-faulty e = let z : _≡_ {A = ℕ} 2 0 = ap checkNumber e in omega arith
 
 c3-faulty : (k : ℕ) → NotZero k ≡ Sound → ⊥
@@ -167,7 +166,7 @@ module _ (lim : Limits) where
 
     held-at : (i : ℕ) → i < s .count → getD (configOf s .regions) i noRegion ≡ getD (s .records) i noRegion
     unfolding configOf
-    held-at i h = ap (λ (rs : List Region). getD rs i noRegion) (room-tab (s .count) noRegion (s .records)) ∙ getD-tab (s .count) (λ j. getD (s .records) j noRegion) i noRegion h
+    held-at i h = room-read (s .count) noRegion (s .records) i h
 
     many : length (configOf s .regions) ≡ s .count
     unfolding configOf

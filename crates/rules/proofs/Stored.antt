@@ -1,18 +1,19 @@
 -- Configurations and tables as they are stored: what was stored is read back, and a sound list of zones is stored as a sound table.
-use Prim.Native.Nat.{ℕ, zero, suc, _-_, _≤_}
+use Prim.Native.Nat.{ℕ, zero, suc, _-_, _≤_, _<_}
 use native.Mathlib.Omega.{arith}
 use mathlib.Core.Bool.{Bool, true, false, cond, not, Bool·not-not}
 use mathlib.Core.List.{List, [], _∷_, _++_, map}
 use mathlib.Core.Path.{_≡_, refl, sym, ap, ap₂, _∙_}
 use borrow.Author.Tests.{leb-true, not-false}
 use lib.Dec.{eqb}
-use lib.ListN.{length, take, drop, replicate, length-map, length-take, length-drop, take-append-drop}
+use lib.ListN.{length, getD, take, drop, replicate, length-map, length-take, length-drop, take-append-drop, List·getD-map}
 use Rattle.lists.specs.First.{any, all}
 use Rattle.lists.specs.Room.{room}
 use Rattle.lists.specs.Tests.{allOf}
 use Rattle.lists.proofs.Every.{all-from, all-map, none-all, all-replicate, map-back}
-use Rattle.lists.proofs.Room.{length-room, room-rest, room-take, room-back, room-after}
+use Rattle.lists.proofs.Room.{length-room, room-rest, room-take, room-back, room-after, room-read}
 use Rattle.lists.proofs.Rules.{testOf, quiet-answer, aboveZero, silent-number}
+use Rattle.lists.proofs.Places.{getD-any}
 use Rattle.lists.proofs.Tests.{both-true, not-fails, not-holds, parts, whole}
 use Rattle.rules.specs.Applying.{storeSet, storeZone, store, storeConfig}
 use Rattle.rules.specs.Configuration.{configOf, check, isSound, Configuration, StoredConfig}
@@ -20,7 +21,7 @@ use Rattle.rules.specs.Limits.{Limits}
 use Rattle.rules.specs.Regions.{regionEq, noRegion, used}
 use Rattle.rules.specs.Requests.{refusal, next, standingRules, standing}
 use Rattle.rules.specs.Run.{runFrom}
-use Rattle.rules.specs.Tables.{noStored, unusedSet, unusedZone, setOf, zoneOf, tableOf, restZero, zeroSet, tidyZone, zeroZone, tidy, soundSet, soundZone, sound, checkTable, Zone, StoredZone, StoredTable}
+use Rattle.rules.specs.Tables.{noZone, noStored, unusedSet, unusedZone, setOf, zoneOf, tableOf, restZero, zeroSet, tidyZone, zeroZone, tidy, soundSet, soundZone, sound, checkTable, Zone, StoredZone, StoredTable}
 use Rattle.rules.specs.declared.Checked.the-variants.{Sound}
 use Rattle.rules.specs.declared.Region.{Region}
 use Rattle.rules.specs.declared.Request.{Request}
@@ -36,6 +37,18 @@ none-used : (n : ℕ) → any used (replicate n noRegion) ≡ false
 unfolding any regionEq allOf
 none-used zero = refl
 none-used (suc n) = none-used n
+
+-- ---- a stored table, zone by zone
+pub length-table : (t : StoredTable) → length (tableOf t) ≡ t .count
+unfolding tableOf
+length-table t = length-map (room (t .count) noStored (t .zones)) zoneOf ∙ length-room (t .count) noStored (t .zones)
+
+pub zone-read : (t : StoredTable) (z : ℕ) → z < t .count → getD (tableOf t) z noZone ≡ zoneOf (getD (t .zones) z noStored)
+unfolding tableOf
+zone-read t z h =
+    let zs : List StoredZone = room (t .count) noStored (t .zones) in
+    getD-any (map zoneOf zs) z noZone (zoneOf noStored) (omega (arith, length-map zs zoneOf, length-room (t .count) noStored (t .zones)))
+    ∙ List·getD-map zoneOf zs z noStored ∙ ap zoneOf (room-read (t .count) noStored (t .zones) z h)
 
 -- ---- what is stored with zeros in what is free is what would be stored of it
 module _ {A : Type 0} (n k : ℕ) (z : A) (xs : List A) (len : length xs ≡ n) (few : k ≤ n) (free : drop k xs ≡ replicate (n - k) z) where

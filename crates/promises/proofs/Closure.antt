@@ -5,7 +5,7 @@ use mathlib.Core.Bool.{Bool, true, false, cond, not, _&&_, and-false}
 use mathlib.Core.List.{List, [], _∷_, _++_}
 use mathlib.Core.Logic.{_⊎_, inl, inr, ⊎-elim}
 use mathlib.Core.Option.{some, Option·some-injective}
-use mathlib.Core.Path.{_≡_, refl, sym, ap, subst, _∙_, fun-ext}
+use mathlib.Core.Path.{_≡_, refl, sym, ap, ap₂, subst, _∙_, fun-ext}
 use borrow.Author.Tests.{ltb-true, ltb-false, leb-true, leb-false, eqb-true, not-true, not-false, le-ltb, lt-leb, eq-eqb}
 use lib.Dec.{ltb}
 use lib.ListN.{length, getD}
@@ -18,7 +18,7 @@ use Rattle.lists.proofs.Pairs.{pairs-at}
 use Rattle.lists.proofs.Rules.{Quiet, testOf, quiet-answer}
 use Rattle.lists.proofs.Tests.{both-false, false-both, one-true, or-left, or-right, not-holds, parts}
 use Rattle.rules.specs.Changes.{setAt, withSide, putSet, pushed, cut}
-use Rattle.rules.specs.Closure.{insert-region, remove-region-exact, contains-region, State, map-insert, ghostOf, stateOf, Transition, GhostZone, cpu-insert-region, cpu-remove-region, iommu-insert-region, iommu-remove-region}
+use Rattle.rules.specs.Closure.{insert-region, remove-region-exact, contains-region, State, map-insert, ghostOf, set-wf, wf, stateOf, Transition, GhostZone, cpu-insert-region, cpu-remove-region, iommu-insert-region, iommu-remove-region}
 use Rattle.rules.specs.Configuration.{gicOf, configOf, Configuration, StoredConfig}
 use Rattle.rules.specs.Limits.{highestId, Limits, pageOf}
 use Rattle.rules.specs.Regions.{wellFormed, inReach, regionEq, physOverlap, guestOverlap, noRegion}
@@ -34,10 +34,11 @@ use Rattle.rules.proofs.Closure.{state-there, state-not, state-some, state-none
 use Rattle.rules.proofs.Configuration.{passed, SoundConfiguration}
 use Rattle.rules.proofs.Keeps.{sound-parts, set-sound, clear-clash, id-kept, SoundTable}
 use Rattle.rules.proofs.Regions.{equal-same, equal-refl}
-use Rattle.rules.proofs.Requests.{none-applies}
-use Rattle.promises.specs.Closure.{Corrections, AcceptedIsUpstream, UpstreamIsAccepted, InitializeIsEmpty, ZoneCpuRegionInAllRegions, ZoneIommuRegionInAllRegions, CrossZoneDisjointExceptGic}
+use Rattle.rules.proofs.Inductive.{initialize-meets, add-zone-inductive, remove-zone-inductive, cpu-insert-region-inductive, cpu-remove-region-inductive, iommu-insert-region-inductive, iommu-remove-region-inductive}
+use Rattle.rules.proofs.Requests.{none-applies, holds-nothing, nothing-held}
+use Rattle.promises.specs.Closure.{InitializeInductive, TransitionInductive, SoundIsInvariant, Corrections, AcceptedIsUpstream, UpstreamIsAccepted, InitializeIsEmpty, ZoneCpuRegionInAllRegions, ZoneIommuRegionInAllRegions, CrossZoneDisjointExceptGic}
 use Rattle.promises.specs.Tables.{In, SoundUnder}
-use Rattle.promises.proofs.Tables.{never-clash}
+use Rattle.promises.proofs.Tables.{never-clash, inv-zones-wf, inv-cpu-disjoint-from-gic}
 
 -- ---- membership in a set
 pub held-at : (xs : List Region) (r : Region) → heldIn r xs ≡ true → (i : ℕ) × (i < length xs) × (r ≡ getD xs i noRegion)
@@ -75,6 +76,19 @@ unfolding stateOf
 initialize-is-empty = refl
 
 module _ (lim : Limits) where
+  -- ---- upstream's inductive steps
+  pub initialize-inductive : InitializeInductive lim
+  initialize-inductive c = initialize-meets lim c
+
+  pub transition-inductive : TransitionInductive lim
+  transition-inductive c AddZone zid pre post ok x = add-zone-inductive lim c zid pre post ok x
+  transition-inductive c RemoveZone zid pre post ok x = remove-zone-inductive lim c zid pre post ok x
+  transition-inductive c (Insert Cpu region) zid pre post ok x = cpu-insert-region-inductive lim c zid pre post ok region x
+  transition-inductive c (Insert Iommu region) zid pre post ok x = iommu-insert-region-inductive lim c zid pre post ok region x
+  transition-inductive c (Remove Cpu region) zid pre post ok x = cpu-remove-region-inductive lim c zid pre post ok region x
+  transition-inductive c (Remove Iommu region) zid pre post ok x = iommu-remove-region-inductive lim c zid pre post ok region x
+  transition-inductive c NoRequest zid pre post ok x = absurd x
+
   -- ---- a sound table under a configuration that passed
   module _ (s : StoredConfig) (t : List Zone) (ok : SoundUnder lim s t) where
     abbrev c : Configuration
@@ -230,7 +244,7 @@ module _ (lim : Limits) where
         (record { absent = state-not id t (h 5); update = fun-ext (λ x. state-added id x t (h 5)) }, (ltb-false _ _ (h 4), leb-false _ _ (h 7)))
     accepted RemoveZone id e =
         let h = none-applies lim c RemoveZone id t e in
-        (record { zone = ghostOf (getD t (find id t) noZone); there = state-there id t (not-false _ (h 6)); update = fun-ext (λ x. state-dropped id x t (table-ok .ids)) }, h 8)
+        (record { zone = ghostOf (getD t (find id t) noZone); there = state-there id t (not-false _ (h 6)); update = fun-ext (λ x. state-dropped id x t (table-ok .ids)) }, holds-nothing _ t (h 8))
     accepted (Insert Cpu r) id e =
         let h = none-applies lim c (Insert Cpu r) id t e in
         (cpu-inserted id (not-false _ (h 6)) r (not-false _ (h 9)) (not-false _ (h 10)) (not-false _ (h 11)) (h 12) (h 13) (h 14) (h 15), leb-false _ _ (h 16))
@@ -248,7 +262,7 @@ module _ (lim : Limits) where
     allowed-back : (k : Kind) (id : ℕ) (u : State) → Transition lim c k id (stateOf t) u → Corrections lim k id t → Quiet (requestRules lim c k id t)
     unfolding requestRules kindRules addRules removeZoneRules insertRules regionRules setRules removeRules noRequest onGic setAt sideOf
     allowed-back AddZone id u x k = (refl, (le-ltb _ _ (k .0), (state-none id t (x .absent), (lt-leb _ _ (k .1), tt))))
-    allowed-back RemoveZone id u x k = let p = state-some id t (x .zone) (x .there) .0 in (refl, (low-id id p, (not-holds _ p, (k, tt))))
+    allowed-back RemoveZone id u x k = let p = state-some id t (x .zone) (x .there) .0 in (refl, (low-id id p, (not-holds _ p, (nothing-held _ t (k .0) (k .1), tt))))
     allowed-back (Insert Cpu r) id u x k =
         let (p, g) = state-some id t (x .zone) (x .there) in (
           refl,
@@ -368,3 +382,32 @@ module _ (lim : Limits) where
           let z : Zone = getD t (find zid t) noZone in
           let (i, l, q) = held-at (regionsOf z) r (any-append (regionEq r) (z .cpu) (z .iommu) ∙ ap (λ (y : GhostZone). contains-region y r) g ∙ h) in
           (i, l, sym q)
+
+  -- ---- the state of a sound table has upstream's invariants
+  module _ (s : StoredConfig) (t : List Zone) (ok : SoundUnder lim s t) where
+    side-wf : (zid : ℕ) → present zid t ≡ true → (side : Side) → set-wf lim side (λ r. heldIn r (sideOf side (getD t (find zid t) noZone)))
+    side-wf zid p side =
+        let xs : List Region = sideOf side (getD t (find zid t) noZone) in
+        let known = inv-zones-wf lim s t ok (find zid t) side (there s t ok zid p) in (
+          (λ r h. let (i, l, q) = held-at xs r h in known .0 r (i, l, sym q)),
+          (λ a b ha hb ne.
+              let (i, l, q) = held-at xs a ha in
+              let (j, m, w) = held-at xs b hb in
+              ap₂ guestOverlap q w ∙ known .1 i j l m (λ e. ne (q ∙ ap (λ (n : ℕ). getD xs n noRegion) e ∙ sym w))),
+        )
+
+    zone-wf : (zid : ℕ) → present zid t ≡ true → wf lim (ghostOf (getD t (find zid t) noZone))
+    unfolding sideOf
+    zone-wf zid p = (side-wf zid p Cpu, side-wf zid p Iommu)
+
+  pub sound-is-invariant : SoundIsInvariant lim
+  sound-is-invariant s t ok = record {
+    inv-zones-wf = λ zid zone st. let (p, g) = state-some zid t zone st in subst (wf lim) g (zone-wf s t ok zid p);
+    inv-regions-in-all-regions = λ zid zone r st h. ⊎-elim (zone-cpu-region-in-all-regions s t ok zid zone st r) (zone-iommu-region-in-all-regions s t ok zid zone st r) (one-true _ _ h);
+    inv-cpu-disjoint-from-gic = λ zid zone r st h.
+        let (p, g) = state-some zid t zone st in
+        let (i, l, q) = held-at (getD t (find zid t) noZone .cpu) r (ap (λ (y : GhostZone). y .cpu-mem-set r) g ∙ h) in
+        inv-cpu-disjoint-from-gic lim s t ok (find zid t) r (there s t ok zid p) (i, l, sym q);
+    inv-cross-zone-non-gic-disjoint = λ zid1 zid2 zone1 zone2 r1 r2 st1 st2 ne h1 h2 n1 n2.
+        ⊎-elim (λ e. absurd (n1 e)) (⊎-elim (λ e. absurd (n2 e)) (λ e. e)) (cross-zone-disjoint-except-gic s t ok zid1 zone1 zid2 zone2 st1 st2 ne r1 r2 h1 h2);
+  }

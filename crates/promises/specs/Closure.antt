@@ -1,4 +1,5 @@
--- Requests and upstream's ClosureSpec: an accepted request is upstream's transition, with the document's corrections, and the other way round.
+-- Upstream's ClosureSpec: its inductive steps; and requests, of which an accepted one is upstream's transition, with the document's corrections, and the other way
+-- round.
 use Prim.Native.Nat.{ℕ, _≤_, _<_}
 use mathlib.Core.Bool.{true, false}
 use mathlib.Core.List.{List, []}
@@ -7,22 +8,37 @@ use mathlib.Core.Option.{some}
 use mathlib.Core.Path.{_≡_}
 use lib.ListN.{length}
 use Rattle.rules.specs.Changes.{setAt}
-use Rattle.rules.specs.Closure.{contains-region, State, all-regions, gic-region, initialize, stateOf, Transition, GhostZone}
-use Rattle.rules.specs.Configuration.{configOf, StoredConfig}
+use Rattle.rules.specs.Closure.{contains-region, State, all-regions, gic-region, initialize, stateOf, Transition, GhostZone, Invariants}
+use Rattle.rules.specs.Configuration.{configOf, Configuration, StoredConfig}
 use Rattle.rules.specs.Limits.{highestId, Limits}
 use Rattle.rules.specs.Regions.{physOverlap}
-use Rattle.rules.specs.Requests.{find, holdsAny, refusal, next}
+use Rattle.rules.specs.Requests.{find, refusal, next}
 use Rattle.rules.specs.Tables.{Zone}
 use Rattle.rules.specs.declared.Kind.{Kind}
 use Rattle.rules.specs.declared.Kind.the-variants.{AddZone, RemoveZone, Insert, Remove, NoRequest}
 use Rattle.rules.specs.declared.Region.{Region}
 use Rattle.rules.specs.declared.Request.{Request}
+use Rattle.rules.specs.declared.Side.the-variants.{Cpu, Iommu}
 use Rattle.promises.specs.Tables.{SoundUnder}
 
+-- ---- upstream's seven inductive steps, which it admits: of any state, under any configuration, and with no correction
+-- the first state has the invariants
+abbrev pub InitializeInductive : Limits → Type 0
+InitializeInductive l = (c : Configuration) → Invariants l c initialize
+
+-- each of the six transitions keeps them
+abbrev pub TransitionInductive : Limits → Type 0
+TransitionInductive l = (c : Configuration) (k : Kind) (zid : ℕ) (pre post : State) → Invariants l c pre → Transition l c k zid pre post → Invariants l c post
+
+-- the state of a table that is sound under a configuration that passed its check has them; only here the check is needed, for the form and reach of regions
+abbrev pub SoundIsInvariant : Limits → Type 0
+SoundIsInvariant l = (s : StoredConfig) (t : List Zone) → SoundUnder l s t → Invariants l (configOf s) (stateOf t)
+
+-- ---- requests and transitions
 -- what document 01 asks beyond upstream's guards: ids that a table can hold, room, and that only an empty zone is removed
 abbrev pub Corrections : Limits → Kind → ℕ → List Zone → Type 0
 Corrections l AddZone id t = (id ≤ highestId) × (length t < l .zones)
-Corrections l RemoveZone id t = holdsAny (find id t) t ≡ false
+Corrections l RemoveZone id t = (setAt t (find id t) Cpu ≡ []) × (setAt t (find id t) Iommu ≡ [])
 Corrections l (Insert s r) id t = length (setAt t (find id t) s) < l .inSet
 Corrections l (Remove s r) id t = Unit {0}
 Corrections l NoRequest id t = Unit {0}

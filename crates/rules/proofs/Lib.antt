@@ -14,3 +14,4 @@ pub mod Planner
 pub mod Desk
 pub mod Story
 pub mod Closure
+pub mod Inductive

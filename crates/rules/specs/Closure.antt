@@ -52,6 +52,15 @@ contains-region zone r = zone .cpu-mem-set r || zone .iommu-mem-set r
 abbrev pub spec-valid : Limits → Side → Region → Type 0
 spec-valid l s r = (wellFormed (pageOf l s) r ≡ true) × (inReach l r ≡ true)
 
+-- SpecMemorySet::wf, by the comment on inv_zones_wf: every region is valid, and no two overlap in guest addresses; and GhostZone::wf
+abbrev pub set-wf : Limits → Side → RegionSet → Type 0
+set-wf l s set =
+    ((r : Region) → set r ≡ true → spec-valid l s r)
+    × ((r1 r2 : Region) → set r1 ≡ true → set r2 ≡ true → (r1 ≡ r2 → ⊥) → guestOverlap r1 r2 ≡ false)
+
+abbrev pub wf : Limits → GhostZone → Type 0
+wf l zone = set-wf l Cpu (zone .cpu-mem-set) × set-wf l Iommu (zone .iommu-mem-set)
+
 -- Map<nat, GhostZone>, which is the state: zone-ids are its keys, and zones-view is the map itself
 abbrev pub State : Type 0
 State = ℕ → Option GhostZone
@@ -80,6 +89,13 @@ abbrev pub iommu-insert-region-allowed : Configuration → State → ℕ → Reg
 iommu-insert-region-allowed c zones zid region =
     (all-regions c region ≡ true)
     × ((other-zid : ℕ) (zone : GhostZone) (r : Region) → zones other-zid ≡ some zone → (other-zid ≡ zid → ⊥) → (zone .cpu-mem-set r ≡ true) ⊎ (zone .iommu-mem-set r ≡ true) → (region ≡ gic-region c) ⊎ ((r ≡ gic-region c) ⊎ (physOverlap region r ≡ false)))
+
+-- ---- the invariants; inv_zone_ids and inv_zones_view say that the other two fields are the map's keys and the map, which is how they are read here
+pub record Invariants (l : Limits) (c : Configuration) (zones : State) : Type 0 where
+  pub inv-zones-wf : (zid : ℕ) (zone : GhostZone) → zones zid ≡ some zone → wf l zone
+  pub inv-regions-in-all-regions : (zid : ℕ) (zone : GhostZone) (r : Region) → zones zid ≡ some zone → contains-region zone r ≡ true → all-regions c r ≡ true
+  pub inv-cpu-disjoint-from-gic : (zid : ℕ) (zone : GhostZone) (r : Region) → zones zid ≡ some zone → zone .cpu-mem-set r ≡ true → physOverlap r (gic-region c) ≡ false
+  pub inv-cross-zone-non-gic-disjoint : (zid1 zid2 : ℕ) (zone1 zone2 : GhostZone) (r1 r2 : Region) → zones zid1 ≡ some zone1 → zones zid2 ≡ some zone2 → (zid1 ≡ zid2 → ⊥) → contains-region zone1 r1 ≡ true → contains-region zone2 r2 ≡ true → (r1 ≡ gic-region c → ⊥) → (r2 ≡ gic-region c → ⊥) → physOverlap r1 r2 ≡ false
 
 -- ---- the first state, and the six transitions: what each requires, and the state after it
 abbrev pub initialize : State

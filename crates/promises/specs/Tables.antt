@@ -62,7 +62,6 @@ abbrev pub TableCheckIsExact : Limits → Type 0
 TableCheckIsExact l = (c : StoredConfig) (t : StoredTable) → (checkTable l c t ≡ true) ↔ ((check l c ≡ Sound) × Conditions l c t)
 
 -- ---- sound tables
-
 -- the region stands in the set
 abbrev pub In : Region → List Region → Type 0
 In r xs = (i : ℕ) × (i < length xs) × (getD xs i noRegion ≡ r)

@@ -1,0 +1,51 @@
+#!/usr/bin/env bash
+# Holds docs/RULES.md against the project: each definition that it names is there, the limits are those of the definitions, and the
+# annotated plan is examples/first.plan. Needs no library.
+set -euo pipefail
+test_name=documents
+. "$(dirname "$0")/host.sh"
+rules=$root/docs/RULES.md
+
+# `File.name`, or `crate/File.name`: the file's definition, or its record or kind of data.
+check_names() {
+    local cited crate file name found=0
+    while read -r cited; do
+        crate=rules
+        [[ $cited != */* ]] || crate=${cited%%/*}
+        cited=${cited##*/}
+        file=$root/crates/$crate/specs/${cited%%.*}.antt
+        name=${cited#*.}
+        [ -f "$file" ] || say_failed "docs/RULES.md names $cited, but there is no ${file#"$root"/}"
+        grep -Eq "pub (record |data )?$name( |$)" "$file" || say_failed "docs/RULES.md names $name, which is not in ${file#"$root"/}"
+        found=$((found + 1))
+    done < <(grep -oE '`([a-z]+/)?[A-Z][A-Za-z]*\.[A-Za-z]+`' "$rules" | tr -d '`' | sort -u)
+    [ "$found" -gt 0 ] || say_failed "docs/RULES.md names no definition"
+}
+
+# The rows `| `name` | value | ..` under the heading of the limits.
+check_limits() {
+    local name value defined found=0
+    while read -r name value; do
+        defined=$(sed -n "s/^$name = //p" "$root/crates/rules/specs/Limits.antt" | tr -d ' ')
+        [ "$defined" = "$value" ] || say_failed "docs/RULES.md says that $name is $value; crates/rules/specs/Limits.antt says '$defined'"
+        found=$((found + 1))
+    done < <(sed -n '/^## The limits/,/^## Regions/s/^| `\([A-Za-z]*\)` | \([0-9,^]*\) |.*/\1 \2/p' "$rules" | tr -d ,)
+    [ "$found" -gt 0 ] || say_failed "docs/RULES.md has no table of limits"
+}
+
+# The rows of the annotated plan: each begins where the one before it ends, and together they are the file.
+check_plan() {
+    local at bytes all='' stored
+    while IFS='|' read -r _ at bytes _; do
+        at=${at//[^0-9]/}
+        [ "$at" = $((${#all} / 2)) ] || say_failed "docs/RULES.md: the row of offset $at of the plan does not follow the row before it"
+        all+=${bytes//[^0-9a-f]/}
+    done < <(sed -n '/^## A plan, byte by byte/,$p' "$rules" | grep -E '^\| [0-9]+ \|')
+    stored=$(od -An -v -tx1 "$root/examples/first.plan" | tr -d ' \n')
+    [ "$all" = "$stored" ] || say_failed "the annotated plan of docs/RULES.md is not examples/first.plan"
+}
+
+check_names
+check_limits
+check_plan
+echo "documents: ok"

@@ -27,6 +27,14 @@ expect() {
     fi
 }
 
+# expect_error TEXT PROGRAM ARGUMENTS..: status 2, nothing on standard output, and that text on standard error
+expect_error() {
+    local text=$1
+    shift
+    expect 2 '' "$@"
+    [ "$(cat "$work/errors")" = "$text" ] || say_failed "${*:2} said '$(cat "$work/errors")', not '$text'"
+}
+
 run_cases() {
     local program=$1 plans=$root/examples state=$work/state
     rm -f "$state"
@@ -36,9 +44,14 @@ run_cases() {
     expect 1 '23 0 0, edition 0' "$program" "$plans/refused.plan"
     expect 0 '0 1 0, edition 1' "$program" -s "$state" "$plans/first.plan"
     expect 1 '24 0 0, edition 1' "$program" -s "$state" "$plans/first.plan"
-    expect 2 '' "$program" "$work/no-such.plan"
-    expect 2 '' "$program" -s "$plans/first.plan" "$plans/first.plan"
-    expect 2 '' "$program"
+    expect_error "apply_plan: cannot open $work/no-such.plan: No such file or directory" "$program" "$work/no-such.plan"
+    expect_error "apply_plan: cannot read $work: Is a directory" "$program" "$work"
+    expect_error "apply_plan: cannot read $work: Is a directory" "$program" -s "$work" "$plans/first.plan"
+    expect_error "apply_plan: cannot open $work/none/state.new: No such file or directory" \
+        "$program" -s "$work/none/state" "$plans/first.plan"
+    expect_error "apply_plan: $plans/first.plan is no state file: a state has 7904 bytes" \
+        "$program" -s "$plans/first.plan" "$plans/first.plan"
+    expect_error 'usage: apply_plan [-s STATE] PLAN...' "$program"
 }
 
 check_cpp() {
@@ -50,14 +63,11 @@ check_cpp() {
 build "$work/plain"
 run_cases "$work/plain"
 
-# The address sanitizer reserves more memory than an emulator can pretend to have; it runs on x86-64 only.
-if is_native; then
-    build "$work/sanitized" -fsanitize=address,undefined -fno-sanitize-recover=all
-else
-    echo "c: on $(uname -m) the address sanitizer is left out, which cannot be emulated; the undefined-behaviour sanitizer is run"
-    build "$work/sanitized" -fsanitize=undefined -fno-sanitize-recover=all -static-libubsan
+find_sanitizers
+if [ ${#SANITIZERS[@]} -gt 0 ]; then
+    build "$work/sanitized" "${SANITIZERS[@]}"
+    run_cases "$work/sanitized"
 fi
-run_cases "$work/sanitized"
 
 if command -v c++ >/dev/null; then
     check_cpp c++

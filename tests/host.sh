@@ -4,6 +4,7 @@
 #   LIBRARY_DIR  where libagent.a is
 #   CC           a C compiler for x86-64
 #   EMULATOR     empty on x86-64, else the command that runs an x86-64 program
+#   SANITIZERS   after find_sanitizers, the C compiler's options for the sanitizers that run here
 
 root=$(cd "$(dirname "${BASH_SOURCE[0]}")/.." && pwd)
 LIBRARY_DIR=${PEATMITTEN_LIB_DIR:-$root/target/staticlib}
@@ -33,6 +34,37 @@ need_c() {
     fi
     command -v "$CC" >/dev/null || say_failed "there is no C compiler $CC (tests/install_cross.sh installs one)"
     [ -z "$EMULATOR" ] || command -v "$EMULATOR" >/dev/null || say_failed "there is no $EMULATOR (tests/install_cross.sh installs it)"
+}
+
+# Whether a program that is built with these options of the compiler runs here.
+can_run_with() {
+    local folder answer=0
+    folder=$(mktemp -d)
+    printf 'int main(void) { return 0; }\n' >"$folder/empty.c"
+    { "$CC" "$@" "$folder/empty.c" -o "$folder/empty" && $EMULATOR "$folder/empty"; } >/dev/null 2>&1 || answer=1
+    rm -rf "$folder"
+    return "$answer"
+}
+
+# Sets SANITIZERS to the compiler's options for the sanitizers that it has and that run here; says which are left out. The address
+# sanitizer reserves more memory than an emulated program can have, so on another processor than x86-64 it is not tried.
+find_sanitizers() {
+    local options
+    while read -r options; do
+        read -ra SANITIZERS <<<"$options"
+        if ! can_run_with "${SANITIZERS[@]}"; then
+            echo "$test_name: no program with $options runs here"
+        else
+            [[ $options == *address* ]] || echo "$test_name: the address sanitizer is left out, the undefined-behaviour sanitizer is run"
+            return
+        fi
+    done < <(
+        ! is_native || echo "-fsanitize=address,undefined -fno-sanitize-recover=all"
+        echo "-fsanitize=undefined -fno-sanitize-recover=all -static-libubsan"
+        echo "-fsanitize=undefined -fsanitize-undefined-trap-on-error"
+    )
+    echo "$test_name: no sanitizer is run"
+    SANITIZERS=()
 }
 
 # Whether the Rust compiler $1 has a standard library for the target.

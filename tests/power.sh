@@ -1,7 +1,7 @@
 #!/usr/bin/env bash
 # A cut in power, or a call of the system that fails, at every call that the C example makes while it applies two plans: what is then in
 # the state file loads, is the old state or the new one, is never older than what was printed, and the plans that are left can be
-# applied to it. The calls are played by tests/power_shim.c.
+# applied to it. The calls are played by tests/power_shim.c; the program is built with the sanitizers that run here.
 set -euo pipefail
 test_name=power
 . "$(dirname "$0")/host.sh"
@@ -19,7 +19,7 @@ build() {
     for call in open read write fsync close rename; do
         wrapped+=("-Wl,--wrap=$call")
     done
-    "$CC" -std=c11 -Wall -Wextra -Wpedantic -Werror -O1 -g -U_FORTIFY_SOURCE -I"$root/include" "${wrapped[@]}" \
+    "$CC" -std=c11 -Wall -Wextra -Wpedantic -Werror -O1 -g -U_FORTIFY_SOURCE -I"$root/include" "${SANITIZERS[@]}" "${wrapped[@]}" \
         "$root/examples/c/apply_plan.c" "$root/tests/power_shim.c" "$LIBRARY_DIR/libagent.a" -o "$program" ||
         say_failed "the example does not build"
 }
@@ -178,6 +178,7 @@ check_full_output() {
     [ "$(stored_edition)" = 1 ] || say_failed "standard output is full, and the state is not kept"
 }
 
+find_sanitizers
 build
 write_second_plan
 make_states

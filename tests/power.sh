@@ -148,7 +148,7 @@ at_every_call() {
 # A call that failed: status 2, and one line with a file's name and the system's reason.
 check_told() {
     [ "$status" = 2 ] || say_failed "call $1 failed: status $status"
-    grep -Eqx "apply_plan: cannot (open|read|write|sync|close|replace) ($work[^ ]*|$first): Input/output error" "$work/errors" ||
+    grep -Eqx "apply_plan: cannot (open|read|write|sync|close|replace) (${work}[^ ]*|$first): Input/output error" "$work/errors" ||
         say_failed "call $1 failed, and this was said: $(cat "$work/errors")"
     [ "$(wc -l <"$work/errors")" = 1 ] || say_failed "call $1 failed, and more than one line was said"
 }

@@ -1,0 +1,95 @@
+#!/usr/bin/env bash
+# What ./peatmitten prints and says, and with which status: its commands for the shell, by a symbolic link too, with two commands that
+# build at once, and where the answer cannot be written. It proves and builds `apply` if that was not done.
+set -euo pipefail
+test_name=launcher
+. "$(dirname "$0")/host.sh"
+work=$(mktemp -d)
+trap 'rm -rf "$work"' EXIT
+launcher=$root/peatmitten
+plans=$root/examples
+
+# expect STATUS OUTPUT ERRORS ARGUMENT..: of one command. ERRORS is a pattern; standard input is the first plan.
+expect() {
+    local status=$1 output=$2 errors=$3 got=0 printed
+    shift 3
+    printed=$("$launcher" "$@" <"$plans/first.plan" 2>"$work/errors") || got=$?
+    # shellcheck disable=SC2053 # the pattern is one
+    if [ "$got" != "$status" ] || [[ $printed != $output ]] || [[ $(cat "$work/errors") != $errors ]]; then
+        say_failed "peatmitten $*: status $got, printed '$printed', said '$(cat "$work/errors")'"
+    fi
+}
+
+check_apply() {
+    expect 0 '0 1 0' '' apply "$plans/first.plan"
+    expect 0 '27 2 14' '' apply "$plans/refused.plan"
+    expect 0 '0 1 0' '' apply -
+    expect 2 '' "peatmitten: cannot read $plans: Is a directory" apply "$plans"
+    expect 2 '' "apply: cannot open $work/none: No such file or directory" apply "$work/none"
+    expect 2 '' 'peatmitten: apply takes one file: *' apply
+    [ "$("$launcher" apply - </dev/null)" = '20 0 0' ] || say_failed "no bytes on standard input"
+}
+
+check_explain() {
+    local answer
+    answer=$("$launcher" apply "$plans/refused.plan")
+    # shellcheck disable=SC2086 # three numbers
+    expect 0 $'27: a request is refused*\nplace 2: the index of that request, from 0\n14: a forbidden*' '' explain $answer
+    expect 0 $'27: a request is refused*; place: the index*\n14: a forbidden*' '' explain 27 14
+    expect 0 '24: the plan is for another edition' '' explain 24 0 0
+    expect 0 'C6: a region overlaps*' '' explain C6
+    expect 2 '' 'peatmitten: no number 19; *' explain 19
+    expect 2 '' 'peatmitten: the place at 24 is always 0' explain 24 3 0
+    expect 2 '' 'peatmitten: only 27 has an inner number*' explain 24 0 5
+    expect 2 '' 'peatmitten: no inner number 18; *' explain 27 0 18
+}
+
+check_rest() {
+    expect 0 "peatmitten $(cat "$root/VERSION")" '' --version
+    expect 0 'usage: *Exit status:*' '' help
+    expect 0 'usage: *' ''
+    expect 2 '' 'peatmitten: no command nothing*' nothing
+}
+
+# What cannot be written is told, for an answer and for a text.
+check_full_output() {
+    local arguments
+    for arguments in "apply $plans/first.plan" 'explain 0' help --version; do
+        # shellcheck disable=SC2086 # the arguments are words
+        if "$launcher" $arguments >/dev/full 2>"$work/errors"; then
+            say_failed "peatmitten $arguments: status 0 where standard output is full"
+        fi
+        [ "$(cat "$work/errors")" = 'peatmitten: cannot write standard output: No space left on device' ] ||
+            say_failed "peatmitten $arguments, where standard output is full, said '$(cat "$work/errors")'"
+    done
+}
+
+check_link() {
+    ln -s "$launcher" "$work/one"
+    ln -s one "$work/two"
+    [ "$(cd / && PATH=$work:$PATH two apply "$plans/first.plan")" = '0 1 0' ] || say_failed "by a symbolic link on the PATH"
+}
+
+# Two commands that must build: one does, the other waits for it.
+check_two_at_once() {
+    local one two
+    rm -f "$root/target/peatmitten/apply"
+    "$launcher" apply "$plans/first.plan" >"$work/one.out" 2>"$work/one.errors" &
+    one=$!
+    "$launcher" apply "$plans/first.plan" >"$work/two.out" 2>"$work/two.errors" &
+    two=$!
+    wait "$one" || say_failed "the first of two at once: $(cat "$work/one.errors")"
+    wait "$two" || say_failed "the second of two at once: $(cat "$work/two.errors")"
+    [ "$(cat "$work/one.out" "$work/two.out")" = $'0 1 0\n0 1 0' ] || say_failed "two at once do not both answer"
+    [ "$(cat "$work"/*.errors | grep -c 'peatmitten: proving and building apply')" = 1 ] || say_failed "two at once do not build once"
+    [ "$(cat "$work"/*.errors | grep -c 'peatmitten: waiting for another command')" = 1 ] || say_failed "two at once do not wait"
+}
+
+"$launcher" apply "$plans/first.plan" >/dev/null
+check_apply
+check_explain
+check_rest
+check_full_output
+check_link
+check_two_at_once
+echo "launcher: ok"

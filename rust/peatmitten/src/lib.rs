@@ -39,13 +39,17 @@ mod answers;
 mod config;
 mod plan;
 pub mod raw;
+mod reading;
 mod region;
 mod request;
+mod store;
 mod table;
 
 pub use answers::{ConfigFault, PlanRefusal, ReadFault, Refusal};
 pub use config::{Config, CONFIG_WORDS};
 pub use plan::{read_plan, State};
+pub use reading::{Counted, Field, Reading, LONGEST_PLAN};
 pub use region::{Guest, Physical, Region};
 pub use request::{Request, Side};
+pub use store::STATE_BYTES;
 pub use table::{Table, Zone, TABLE_WORDS};

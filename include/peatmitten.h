@@ -1,14 +1,27 @@
 /*
  * Peatmitten: a verified core for update agents of card terminals.
  *
- * The functions of libagent.a, a static library for x86-64 Linux. Usable from C11 and from C++11.
+ * The functions of libpeatmitten.a, a static library for x86-64 Linux. Usable from C11 and from C++11. (Where the toolchain has just
+ * built it, it is target/staticlib/libagent.a.)
  *
  * A terminal's hypervisor gives each zone regions of memory: one set for the processor (CPU), one for devices (IOMMU). A plan
  * is a file that changes them. An agent keeps one peatmitten_state and lends it, with each plan that arrives, to
  * peatmitten_apply; the other functions answer single questions.
  *
- * Every function is total: whatever numbers the memory holds, it ends and gives the answer that is written here. It asks only
- * that each pointer is valid, aligned and not null, and that memory which it writes overlaps no other argument.
+ * Every function is total: whatever numbers the memory holds, it ends and gives the answer that is written here.
+ *
+ * Pointers: each is valid for what its type says, or for the length that comes with it; it is aligned as its type, and not null. Memory
+ * that a function writes (a state, a table, a place for an answer) overlaps no other argument. None is kept after the call.
+ *
+ * Threads: there is no global state, so any number of threads may call at once. Memory that one call writes must not be read or
+ * written by another thread meanwhile.
+ *
+ * Stack: PEATMITTEN_STACK bytes are enough. tests/stack.sh measures it: it calls every function on a stack filled with a pattern, over the
+ * stored plans, and looks how deep the pattern is gone (54,120 bytes for peatmitten_apply, 30,232 for peatmitten_read, at most 8,112
+ * for the others). Nothing is allocated.
+ *
+ * Imports: memcpy and memset, and nothing else. The code is for x86-64 and calls as Linux does there (System V); no other system is
+ * supported.
  */
 #ifndef PEATMITTEN_H
 #define PEATMITTEN_H
@@ -23,6 +36,8 @@ extern "C" {
 #define PEATMITTEN_ASSERT(condition, text) _Static_assert(condition, text)
 #endif
 
+#define PEATMITTEN_VERSION "0.1.0"
+
 /* Limits. */
 enum {
     PEATMITTEN_MOST_REGIONS = 64,   /* regions of a configuration */
@@ -31,6 +46,9 @@ enum {
     PEATMITTEN_HIGHEST_ID = 255,    /* the highest zone id */
     PEATMITTEN_LONGEST_PLAN = 40568 /* bytes; a longer file is no plan */
 };
+
+/* Bytes of stack that are enough for every function. */
+enum { PEATMITTEN_STACK = 65536 };
 
 /*
  * Where things stand among words.

@@ -1,0 +1,75 @@
+#!/usr/bin/env bash
+# Installs the library into a folder, builds the C example against what is there, with no other flags than pkg-config's, and runs it. What
+# the header says of the archive holds: what it imports, no state of its own, x86-64. The version is the same wherever it stands.
+set -euo pipefail
+test_name=install
+. "$(dirname "$0")/host.sh"
+need_c
+work=$(mktemp -d)
+trap 'rm -rf "$work"' EXIT
+version=$(cat "$root/VERSION")
+
+# Of pkg-config where it is there; else of the file itself.
+flags() {
+    if command -v pkg-config >/dev/null; then
+        PKG_CONFIG_LIBDIR=$work/usr/lib/pkgconfig PKG_CONFIG_ALLOW_SYSTEM_CFLAGS=1 PKG_CONFIG_ALLOW_SYSTEM_LIBS=1 \
+            pkg-config --cflags --libs peatmitten
+    else
+        sed -n 's/^Cflags: //p; s/^Libs: //p' "$work/usr/lib/pkgconfig/peatmitten.pc" |
+            sed "s#\${includedir}#$work/usr/include#; s#\${libdir}#$work/usr/lib#"
+    fi
+}
+
+check_files() {
+    local files
+    "$root/peatmitten" install "$work/usr" >"$work/put" || say_failed "the library cannot be installed"
+    files=$(cd "$work" && find usr -type f | sort | tr '\n' ' ')
+    [ "$files" = 'usr/include/peatmitten.h usr/lib/libpeatmitten.a usr/lib/pkgconfig/peatmitten.pc ' ] ||
+        say_failed "these files are installed: $files"
+    DESTDIR=$work/image "$root/peatmitten" install /usr/local/ >/dev/null || say_failed "with DESTDIR"
+    grep -qx 'prefix=/usr/local' "$work/image/usr/local/lib/pkgconfig/peatmitten.pc" || say_failed "DESTDIR is in the pkg-config file"
+    if "$root/peatmitten" install usr >/dev/null 2>&1; then say_failed "a folder that is not from the root on is taken"; fi
+    touch "$work/file"
+    if "$root/peatmitten" install "$work/file" >/dev/null 2>"$work/errors"; then say_failed "a file is taken for a folder"; fi
+    grep -q "$work/file" "$work/errors" || say_failed "what cannot be installed is not named"
+}
+
+check_example() {
+    # shellcheck disable=SC2046 # the flags are words
+    (cd "$work" && "$CC" -std=c11 "$root/examples/c/apply_plan.c" $(flags) -o apply_plan) || say_failed "the example does not build"
+    [ "$($EMULATOR "$work/apply_plan" "$root/examples/first.plan")" = '0 1 0, edition 1' ] || say_failed "the example does not run"
+}
+
+# What the header says of the archive.
+check_archive() {
+    local archive=$work/usr/lib/libpeatmitten.a imports
+    imports=$(nm -u "$archive" | awk '$1 == "U" { print $2 }' | sort -u | tr '\n' ' ')
+    [ "$imports" = 'memcpy memset ' ] || say_failed "the archive imports: $imports"
+    size "$archive" | awk 'NR > 1 { state += $2 + $3 } END { exit state != 0 }' || say_failed "the archive has memory of its own"
+    readelf -h "$archive" | grep -q 'X86-64' || say_failed "the archive is not for x86-64"
+    [ "$(nm "$archive" | awk '$2 == "T" { print $3 }' | sort)" = "$(declared)" ] || say_failed "the archive and the header have other functions"
+}
+
+declared() {
+    grep -oE '^[a-z0-9_]+ \*?peatmitten_[a-z_]+\(' "$root/include/peatmitten.h" | sed 's/.*[ *]//; s/($//' | sort
+}
+
+# same_version PLACE VERSION
+same_version() {
+    [ "$2" = "$version" ] || say_failed "$1 has version '$2', and VERSION has '$version'"
+}
+
+check_versions() {
+    [[ $version =~ ^[0-9]+\.[0-9]+\.[0-9]+$ ]] || say_failed "VERSION is '$version'"
+    same_version include/peatmitten.h "$(sed -n 's/^#define PEATMITTEN_VERSION "\(.*\)"$/\1/p' "$root/include/peatmitten.h")"
+    same_version rust/Cargo.toml "$(sed -n 's/^version = "\(.*\)"$/\1/p' "$root/rust/Cargo.toml")"
+    same_version CHANGELOG.md "$(sed -n 's/^## //p' "$root/CHANGELOG.md" | head -n 1)"
+    same_version './peatmitten --version' "$("$root/peatmitten" --version | sed 's/^peatmitten //')"
+    same_version peatmitten.pc "$(sed -n 's/^Version: //p' "$work/usr/lib/pkgconfig/peatmitten.pc")"
+}
+
+check_files
+check_example
+check_archive
+check_versions
+echo "install: ok"

@@ -1,0 +1,150 @@
+/*
+ * Measures how much stack each function of the library takes: it is called on a stack that was filled with a pattern, and then the
+ * deepest byte that differs from the pattern is looked for.
+ *
+ * usage: stack STATE PLAN [STATE PLAN]...
+ *
+ * For each pair every function is called, apply at last. Prints the most that each took, then the most of all; fails if that is above
+ * PEATMITTEN_STACK.
+ */
+#define _GNU_SOURCE
+#include <inttypes.h>
+#include <stdio.h>
+#include <stdlib.h>
+#include <string.h>
+#include <ucontext.h>
+
+#include "peatmitten.h"
+
+#define STACK_ROOM (1 << 20)
+#define PATTERN 0xa5
+
+enum { CHECK_CONFIG, CHECK_TABLE, REQUEST, TRANSLATE, READ, APPLY, FUNCTIONS };
+
+static const char *const names[FUNCTIONS] = {"check_config", "check_table", "request", "translate", "read", "apply"};
+
+static unsigned char stack[STACK_ROOM] __attribute__((aligned(64)));
+static ucontext_t here, there;
+static peatmitten_state state;
+static uint8_t plan[PEATMITTEN_LONGEST_PLAN + 1];
+static size_t length;
+static uint32_t kind;
+static uint64_t answers[2];
+
+static void nothing(void)
+{
+}
+
+static void check_config(void)
+{
+    peatmitten_check_config(state.config, answers);
+}
+
+static void check_table(void)
+{
+    peatmitten_check_table(state.config, state.table);
+}
+
+/* Each kind with the first configured region at the first zone, so that some are accepted. */
+static void request(void)
+{
+    const uint64_t *region = &state.config[PEATMITTEN_CONFIG_REGIONS];
+    const uint64_t none[PEATMITTEN_REGION_WORDS] = {0};
+
+    if (kind == PEATMITTEN_ADD_ZONE || kind == PEATMITTEN_REMOVE_ZONE)
+        region = none;
+    peatmitten_request(state.config, state.table, kind, (uint32_t)state.table[PEATMITTEN_TABLE_ZONES], region[0], region[1], region[2]);
+}
+
+static void translate(void)
+{
+    peatmitten_translate(state.config, state.table, (uint32_t)state.table[PEATMITTEN_TABLE_ZONES], kind % 2,
+                         state.config[PEATMITTEN_CONFIG_REGIONS], answers);
+}
+
+static void read_only(void)
+{
+    peatmitten_read(plan, length, answers);
+}
+
+static void apply(void)
+{
+    peatmitten_apply(&state, plan, length);
+}
+
+/* How much of the stack is no longer the pattern after a call. */
+static size_t taken_by(void (*call)(void))
+{
+    size_t untouched = 0;
+
+    memset(stack, PATTERN, sizeof stack);
+    getcontext(&there);
+    there.uc_stack.ss_sp = stack;
+    there.uc_stack.ss_size = sizeof stack;
+    there.uc_link = &here;
+    makecontext(&there, call, 0);
+    swapcontext(&here, &there);
+    while (untouched < sizeof stack && stack[untouched] == PATTERN)
+        untouched++;
+    return sizeof stack - untouched;
+}
+
+static size_t read_file(const char *path, void *bytes, size_t most)
+{
+    FILE *file = fopen(path, "rb");
+    size_t got;
+
+    if (file == NULL) {
+        perror(path);
+        exit(2);
+    }
+    got = fread(bytes, 1, most, file);
+    fclose(file);
+    return got;
+}
+
+static void keep_most(size_t most[FUNCTIONS], int function, void (*call)(void))
+{
+    size_t taken = taken_by(call);
+
+    if (taken > most[function])
+        most[function] = taken;
+}
+
+static void measure(size_t most[FUNCTIONS], const char *state_path, const char *plan_path)
+{
+    peatmitten_state before;
+
+    if (read_file(state_path, &state, sizeof state) != sizeof state) {
+        fprintf(stderr, "stack: %s is no state file\n", state_path);
+        exit(2);
+    }
+    length = read_file(plan_path, plan, sizeof plan);
+    before = state;
+    keep_most(most, CHECK_CONFIG, check_config);
+    keep_most(most, CHECK_TABLE, check_table);
+    keep_most(most, READ, read_only);
+    for (kind = 0; kind <= PEATMITTEN_IOMMU_REMOVE; kind++) {
+        keep_most(most, REQUEST, request);
+        keep_most(most, TRANSLATE, translate);
+    }
+    state = before;
+    keep_most(most, APPLY, apply);
+}
+
+int main(int argc, char **argv)
+{
+    size_t most[FUNCTIONS] = {0};
+    size_t all = 0;
+    size_t around = taken_by(nothing);
+
+    for (int at = 1; at + 1 < argc; at += 2)
+        measure(most, argv[at], argv[at + 1]);
+    for (int function = 0; function < FUNCTIONS; function++) {
+        printf("peatmitten_%s: %zu bytes\n", names[function], most[function]);
+        if (most[function] > all)
+            all = most[function];
+    }
+    printf("the most is %zu bytes, of which a call of nothing takes %zu; the header says %d\n", all, around, PEATMITTEN_STACK);
+    return argc < 3 || all > PEATMITTEN_STACK;
+}

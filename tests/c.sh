@@ -1,6 +1,6 @@
 #!/usr/bin/env bash
-# Builds the C example against the library, plainly and under sanitizers, and compares what it prints. The header is compiled as
-# C++ too. On another processor than x86-64 the programs are emulated.
+# Builds the C example against the library, plainly and under sanitizers, and compares what it prints. The headers are compiled
+# as C++ too. On another processor than x86-64 the programs are emulated.
 set -euo pipefail
 test_name=c
 . "$(dirname "$0")/host.sh"
@@ -55,9 +55,9 @@ run_cases() {
 }
 
 check_cpp() {
-    printf '#include "peatmitten.h"\n' >"$work/header.cpp"
+    printf '#include "peatmitten.h"\n#include "peatmitten_words.h"\n' >"$work/header.cpp"
     "$1" -std=c++11 -Wall -Wextra -Wpedantic -Werror -fsyntax-only -I"$root/include" "$work/header.cpp" ||
-        say_failed "the header does not compile as C++"
+        say_failed "the headers do not compile as C++"
 }
 
 build "$work/plain"
@@ -72,6 +72,6 @@ fi
 if command -v c++ >/dev/null; then
     check_cpp c++
 else
-    echo "c: there is no C++ compiler, so the header is not compiled as C++"
+    echo "c: there is no C++ compiler, so the headers are not compiled as C++"
 fi
 echo "c: ok"

@@ -24,7 +24,7 @@ check_files() {
     local files
     "$root/peatmitten" install "$work/usr" >"$work/put" || say_failed "the library cannot be installed"
     files=$(cd "$work" && find usr -type f | sort | tr '\n' ' ')
-    [ "$files" = 'usr/include/peatmitten.h usr/lib/libpeatmitten.a usr/lib/pkgconfig/peatmitten.pc ' ] ||
+    [ "$files" = 'usr/include/peatmitten.h usr/include/peatmitten_words.h usr/lib/libpeatmitten.a usr/lib/pkgconfig/peatmitten.pc ' ] ||
         say_failed "these files are installed: $files"
     DESTDIR=$work/image "$root/peatmitten" install /usr/local/ >/dev/null || say_failed "with DESTDIR"
     grep -qx 'prefix=/usr/local' "$work/image/usr/local/lib/pkgconfig/peatmitten.pc" || say_failed "DESTDIR is in the pkg-config file"

@@ -1,5 +1,6 @@
 /*
- * Stands between the C example and the system's file calls (the linker's --wrap), and plays a cut in power or a call that fails.
+ * Stands between a program and the system's file calls (the linker's --wrap), and plays a cut in power or a call that fails. What is
+ * written to standard error is left alone.
  *
  *     POWER_LOG=FILE     each call is written there, one a line
  *     POWER_CUT=N        the power goes before the N-th call: the process ends with status 99
@@ -10,13 +11,12 @@
  *         names          a rename whose folder was not synced since; and data, as above
  *     POWER_FORGETS=..   which sync does nothing, so that a test can be seen to fail: `file` or `folder`
  *
- * It knows one file that is written at a time, which is all that the example does.
+ * It knows one file that is created and written at a time, which is all that these programs do.
  */
 #define _POSIX_C_SOURCE 200809L
 
 #include <errno.h>
 #include <fcntl.h>
-#include <stdarg.h>
 #include <stdio.h>
 #include <stdlib.h>
 #include <string.h>
@@ -90,14 +90,10 @@ static int is_failing(const char *name, const char *path)
     return 1;
 }
 
-int __wrap_open(const char *path, int flags, ...)
+static int open_counted(const char *path, int flags, int mode)
 {
-    int file, mode;
-    va_list arguments;
+    int file;
 
-    va_start(arguments, flags);
-    mode = flags & O_CREAT ? va_arg(arguments, int) : 0;
-    va_end(arguments);
     if (is_failing("open", path))
         return -1;
     file = __real_open(path, flags, mode);
@@ -108,6 +104,17 @@ int __wrap_open(const char *path, int flags, ...)
     return file;
 }
 
+/* Programs in C call the first, programs in Rust the second. */
+int __wrap_open(const char *path, int flags, int mode)
+{
+    return open_counted(path, flags, mode);
+}
+
+int __wrap_open64(const char *path, int flags, int mode)
+{
+    return open_counted(path, flags, mode);
+}
+
 ssize_t __wrap_read(int file, void *bytes, size_t length)
 {
     return is_failing("read", "") ? -1 : __real_read(file, bytes, length);
@@ -116,7 +123,9 @@ ssize_t __wrap_read(int file, void *bytes, size_t length)
 /* Writes at most 5,000 bytes at once, as a system may, so that a state takes two calls. */
 ssize_t __wrap_write(int file, const void *bytes, size_t length)
 {
-    return is_failing("write", "") ? -1 : __real_write(file, bytes, length < 5000 ? length : 5000);
+    if (file == STDERR_FILENO)
+        return __real_write(file, bytes, length);
+    return is_failing("write", file == STDOUT_FILENO ? "answer" : "") ? -1 : __real_write(file, bytes, length < 5000 ? length : 5000);
 }
 
 int __wrap_fsync(int file)

@@ -17,8 +17,7 @@
  * written by another thread meanwhile.
  *
  * Stack: PEATMITTEN_STACK bytes are enough. tests/stack.sh measures it: it calls every function on a stack filled with a pattern, over the
- * stored plans, and looks how deep the pattern is gone (54,120 bytes for peatmitten_apply, 30,232 for peatmitten_read, at most 8,112
- * for the others). Nothing is allocated.
+ * stored plans, looks how deep the pattern is gone, and prints it for each function. Nothing is allocated.
  *
  * Imports: memcpy and memset, and nothing else. The code is for x86-64 and calls as Linux does there (System V); no other system is
  * supported.

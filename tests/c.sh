@@ -13,7 +13,7 @@ build() {
     local program=$1
     shift
     "$CC" -std=c11 -Wall -Wextra -Wpedantic -Werror -O1 -g -I"$root/include" "$@" \
-        "$root/examples/c/apply_plan.c" "$LIBRARY_DIR/libagent.a" -o "$program" || say_failed "the example does not build"
+        "$root/examples/c/apply_plan.c" "$ARCHIVE" -o "$program" || say_failed "the example does not build"
 }
 
 # expect STATUS OUTPUT PROGRAM ARGUMENTS..

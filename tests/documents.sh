@@ -1,6 +1,6 @@
 #!/usr/bin/env bash
-# Holds docs/RULES.md against the project: each definition that it names is there, the limits are those of the definitions, and the
-# annotated plan is examples/first.plan. Needs no library.
+# Holds documents against the project. docs/RULES.md: each definition that it names is there, the limits are those of the definitions,
+# and the annotated plan is examples/first.plan. README.md: it lists the functions of the header. Needs no library.
 set -euo pipefail
 test_name=documents
 . "$(dirname "$0")/host.sh"
@@ -45,7 +45,16 @@ check_plan() {
     [ "$all" = "$stored" ] || say_failed "the annotated plan of docs/RULES.md is not examples/first.plan"
 }
 
+check_functions() {
+    local declared listed
+    declared=$(grep -oE '^[a-z0-9_]+ \*?peatmitten_[a-z_]+\(' "$root/include/peatmitten.h" | grep -oE 'peatmitten_[a-z_]+\(' | tr -d '(' | sort)
+    listed=$(sed -n 's/^| `\(peatmitten_[a-z_]*\)` |.*/\1/p' "$root/README.md" | sort)
+    [ -n "$declared" ] || say_failed "include/peatmitten.h declares no function"
+    [ "$declared" = "$listed" ] || say_failed "README.md lists other functions than include/peatmitten.h declares"
+}
+
 check_names
 check_limits
 check_plan
+check_functions
 echo "documents: ok"

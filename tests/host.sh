@@ -1,7 +1,8 @@
-# Sourced by the tests: how programs that link the library are built and run on this machine. The library is for x86-64. On
-# another processor they are built by a cross compiler and run under an emulator; tests/install_cross.sh installs both.
+# Sourced by the tests and by ./peatmitten: how programs that link the library are built and run on this machine. The library is for
+# x86-64. On another processor they are built by a cross compiler and run under an emulator; tests/install_cross.sh installs both.
 #
-#   LIBRARY_DIR  where libagent.a is
+#   LIBRARY_DIR  where the library is: PEATMITTEN_LIB_DIR, or where the toolchain writes it
+#   ARCHIVE      after need_library, its file: installed it is libpeatmitten.a, as the toolchain writes it libagent.a
 #   CC           a C compiler for x86-64
 #   EMULATOR     empty on x86-64, else the command that runs an x86-64 program
 #   SANITIZERS   after find_sanitizers, the C compiler's options for the sanitizers that run here
@@ -16,8 +17,14 @@ say_failed() {
 }
 
 need_library() {
-    [ -f "$LIBRARY_DIR/libagent.a" ] || say_failed "there is no $LIBRARY_DIR/libagent.a: build it by 'rt staticlib agent'"
+    local name
+    for name in libpeatmitten.a libagent.a; do
+        ARCHIVE=$LIBRARY_DIR/$name
+        [ ! -f "$ARCHIVE" ] || break
+    done
+    [ -f "$ARCHIVE" ] || say_failed "there is no library in $LIBRARY_DIR: build it by 'rt staticlib agent'"
     LIBRARY_DIR=$(cd "$LIBRARY_DIR" && pwd)
+    ARCHIVE=$LIBRARY_DIR/$name
 }
 
 is_native() {

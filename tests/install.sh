@@ -68,8 +68,19 @@ check_versions() {
     same_version peatmitten.pc "$(sed -n 's/^Version: //p' "$work/usr/lib/pkgconfig/peatmitten.pc")"
 }
 
+# The Rust crate takes the installed library too.
+check_rust() {
+    local runner=()
+    [ -z "$EMULATOR" ] || runner=(CARGO_TARGET_X86_64_UNKNOWN_LINUX_GNU_RUNNER="$EMULATOR")
+    find_cargo || say_failed "no Rust compiler here builds for x86-64 (tests/install_cross.sh installs one)"
+    (cd "$root/rust" && CARGO_TARGET_DIR=$work/rust PEATMITTEN_LIB_DIR=$work/usr/lib CARGO_TARGET_X86_64_UNKNOWN_LINUX_GNU_LINKER=$CC \
+        env "${runner[@]}" "$CARGO" test --offline --locked --quiet --target "$RUST_TARGET" --package peatmitten --test typed) >"$work/tested" 2>&1 ||
+        { cat "$work/tested" >&2; say_failed "the Rust crate with the installed library"; }
+}
+
 check_files
 check_example
+check_rust
 check_archive
 check_versions
 echo "install: ok"

@@ -30,6 +30,30 @@ check_apply() {
     [ "$("$launcher" apply - </dev/null)" = '20 0 0' ] || say_failed "no bytes on standard input"
 }
 
+# What docs/RULES.md says of first.plan with a byte changed, or with one more.
+check_changed_plans() {
+    local answer at byte
+    while read -r answer at byte; do
+        cp "$plans/first.plan" "$work/changed.plan"
+        printf '%b' "\\x$byte" | dd of="$work/changed.plan" bs=1 seek="$at" conv=notrunc status=none
+        grep -q "\`${answer//_/ }\`" "$root/docs/RULES.md" || say_failed "docs/RULES.md does not speak of ${answer//_/ }"
+        expect 0 "${answer//_/ }" '' apply "$work/changed.plan"
+    done <<'TEXT'
+21_0_0 0 3
+22_80_0 80 0
+27_0_3 48 7
+TEXT
+}
+
+# What the prover refuses is not run, and told apart from an answer.
+check_not_built() {
+    mkdir "$work/bin"
+    printf '#!/bin/sh\necho "a fact is false"\nexit 1\n' >"$work/bin/rt"
+    chmod +x "$work/bin/rt"
+    rm -f "$root/target/peatmitten/apply"
+    PATH=$work/bin:$PATH expect 3 '' $'*a fact is false\npeatmitten: apply was not built; *' apply "$plans/first.plan"
+}
+
 check_explain() {
     local answer
     answer=$("$launcher" apply "$plans/refused.plan")
@@ -89,7 +113,9 @@ check_two_at_once() {
 check_apply
 check_explain
 check_rest
+check_changed_plans
 check_full_output
 check_link
+check_not_built
 check_two_at_once
 echo "launcher: ok"

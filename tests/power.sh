@@ -18,7 +18,7 @@ warnings=(-std=c11 -Wall -Wextra -Wpedantic -Werror -O1 -g -U_FORTIFY_SOURCE)
 
 build_example() {
     "$CC" "${warnings[@]}" -I"$root/include" "${SANITIZERS[@]}" "${wrapped[@]/#/-Wl,--wrap=}" "$root/examples/c/apply_plan.c" \
-        "$root/tests/power_shim.c" "$LIBRARY_DIR/libagent.a" -o "$work/apply_plan" || say_failed "the example does not build"
+        "$root/tests/power_shim.c" "$ARCHIVE" -o "$work/apply_plan" || say_failed "the example does not build"
 }
 
 build_tool() {

@@ -20,7 +20,7 @@ while read -r name number _; do
 done <"$root/vectors/plans/answers.txt"
 [ ${#pairs[@]} -gt 0 ] || say_failed "there are no plans to measure with"
 
-"$CC" -std=c11 -Wall -Wextra -Werror -O1 -I"$root/include" "$root/tests/stack.c" "$LIBRARY_DIR/libagent.a" -o "$work/stack" ||
+"$CC" -std=c11 -Wall -Wextra -Werror -O1 -I"$root/include" "$root/tests/stack.c" "$ARCHIVE" -o "$work/stack" ||
     say_failed "the program that measures does not build"
 $EMULATOR "$work/stack" "${pairs[@]}" || say_failed "a function takes more stack than the header says"
 echo "stack: ok"

@@ -107,7 +107,7 @@ check_stored_plans() {
 
 # The C example and the tool keep the same state in the same bytes, and take each other's files.
 check_same_from_c() {
-    "$CC" -std=c11 -I"$root/include" "$root/examples/c/apply_plan.c" "$LIBRARY_DIR/libagent.a" -o "$work/apply_plan"
+    "$CC" -std=c11 -I"$root/include" "$root/examples/c/apply_plan.c" "$ARCHIVE" -o "$work/apply_plan"
     $EMULATOR "$work/apply_plan" -s "$work/from_c" "$plans/first.plan" >/dev/null
     make_state "$plans/first.plan"
     "$launcher" run "$state" "$plans/first.plan" >/dev/null

@@ -47,7 +47,7 @@ check_plan() {
 
 check_functions() {
     local declared listed
-    declared=$(grep -oE '^[a-z0-9_]+ \*?peatmitten_[a-z_]+\(' "$root/include/peatmitten.h" | grep -oE 'peatmitten_[a-z_]+\(' | tr -d '(' | sort)
+    declared=$(declared_functions)
     listed=$(sed -n 's/^| `\(peatmitten_[a-z_]*\)` |.*/\1/p' "$root/README.md" | sort)
     [ -n "$declared" ] || say_failed "include/peatmitten.h declares no function"
     [ "$declared" = "$listed" ] || say_failed "README.md lists other functions than include/peatmitten.h declares"

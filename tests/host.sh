@@ -16,6 +16,11 @@ say_failed() {
     exit 1
 }
 
+# The functions that the header declares, one a line.
+declared_functions() {
+    grep -oE '^[a-z0-9_]+ \*?peatmitten_[a-z_]+\(' "$root/include/peatmitten.h" | grep -oE 'peatmitten_[a-z_]+\(' | tr -d '(' | sort
+}
+
 need_library() {
     local name
     for name in libpeatmitten.a libagent.a; do

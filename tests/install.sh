@@ -47,11 +47,8 @@ check_archive() {
     [ "$imports" = 'memcpy memset ' ] || say_failed "the archive imports: $imports"
     size "$archive" | awk 'NR > 1 { state += $2 + $3 } END { exit state != 0 }' || say_failed "the archive has memory of its own"
     readelf -h "$archive" | grep -q 'X86-64' || say_failed "the archive is not for x86-64"
-    [ "$(nm "$archive" | awk '$2 == "T" { print $3 }' | sort)" = "$(declared)" ] || say_failed "the archive and the header have other functions"
-}
-
-declared() {
-    grep -oE '^[a-z0-9_]+ \*?peatmitten_[a-z_]+\(' "$root/include/peatmitten.h" | sed 's/.*[ *]//; s/($//' | sort
+    [ "$(nm "$archive" | awk '$2 == "T" { print $3 }' | sort)" = "$(declared_functions)" ] ||
+        say_failed "the archive has other functions than the header declares"
 }
 
 # same_version PLACE VERSION

@@ -86,6 +86,11 @@ check_full_output() {
         [ "$(cat "$work/errors")" = 'peatmitten: cannot write standard output: No space left on device' ] ||
             say_failed "peatmitten $arguments, where standard output is full, said '$(cat "$work/errors")'"
     done
+    if "$launcher" --version >&- 2>"$work/errors"; then
+        say_failed "peatmitten --version: status 0 where standard output is closed"
+    fi
+    [ "$(cat "$work/errors")" = 'peatmitten: cannot write standard output: it is closed' ] ||
+        say_failed "peatmitten, where standard output is closed, said '$(cat "$work/errors")'"
 }
 
 check_link() {

@@ -119,8 +119,8 @@ check_order() {
     done
     [ "${calls[*]:from:9}" = "${saved[*]}" ] || say_failed "these are not the calls in their order: ${calls[*]:from:9}"
     if [[ " ${calls[*]} " == *' write answer '* ]]; then
-        [ "${calls[from + 9]}" = 'write answer' ] && [[ " ${calls[*]:0:from} " != *' write answer '* ]] ||
-            say_failed "the answer is printed before its state is kept"
+        [[ " ${calls[*]:0:from} " != *' write answer '* ]] || say_failed "an answer is printed before any state is kept"
+        [ "${calls[from + 9]}" = 'write answer' ] || say_failed "the answer is not printed as soon as its state is kept"
     fi
 }
 
@@ -151,8 +151,8 @@ check_FAIL() {
         return
     fi
     [ "$status" = 2 ] || say_failed "$1 failed: status $status"
-    grep -Eqx "(apply_plan|peatmitten): cannot (open|read|write|sync|close|replace) (${work}[^ ]*|$first|standard output): Input/output error( \(os error 5\))?" \
-        "$work/errors" || say_failed "$1 failed, and this was said: $(cat "$work/errors")"
+    local doing='(apply_plan|peatmitten): cannot (open|read|write|sync|close|replace)' reason='Input/output error( \(os error 5\))?'
+    grep -Eqx "$doing (${work}[^ ]*|$first|standard output): $reason" "$work/errors" || say_failed "$1 failed, and this was said: $(cat "$work/errors")"
     [ "$(wc -l <"$work/errors")" = 1 ] || say_failed "$1 failed, and more than one line was said"
 }
 

@@ -1,28 +1,28 @@
 -- Translation.
-use Prim.Native.Nat.{ℕ, _<_}
+use Prim.Native.Nat.{ℕ, _+_, _-_, _≤_, _<_}
 use native.Mathlib.Decide.{decLt}
 use native.Mathlib.Omega.{arith}
 use mathlib.Core.Bool.{Bool, true, false, cond, true≢false}
 use mathlib.Core.List.{List}
 use mathlib.Core.Logic.{_⊎_, inl, inr}
 use mathlib.Core.Path.{_≡_, refl, sym, ap, _∙_}
-use borrow.Author.Tests.{ltb-true, not-true, not-false, eq-eqb}
+use borrow.Author.Tests.{ltb-true, ltb-false, not-true, not-false, eq-eqb}
 use lib.Dec.{ltb}
-use lib.ListN.{length, getD, set}
+use lib.ListN.{length, getD, set, List·getD-eq-default}
 use Rattle.lists.specs.First.{firstIndex, any, all}
 use Rattle.lists.specs.Rules.{firstRule}
 use Rattle.lists.proofs.Every.{all-at, any-make}
 use Rattle.lists.proofs.First.{any-first, first-passes}
 use Rattle.lists.proofs.Pairs.{pairs-at}
 use Rattle.lists.proofs.Rules.{testOf, quiet-answer, aboveZero, silent-number}
-use Rattle.lists.proofs.Tests.{not-holds, parts}
+use Rattle.lists.proofs.Tests.{not-holds, parts, true-of}
 use Rattle.rules.specs.Changes.{setAt}
 use Rattle.rules.specs.Closure.{RegionSet, contains-vaddr, GhostZone}
 use Rattle.rules.specs.Configuration.{configOf, Configuration, StoredConfig}
 use Rattle.rules.specs.Limits.{highestId, Limits}
 use Rattle.rules.specs.Regions.{regionEq, noRegion}
 use Rattle.rules.specs.Requests.{find, present, heldIn}
-use Rattle.rules.specs.Tables.{noZone, sideOf, regionsOf, configured, guestApart, soundSet, Zone}
+use Rattle.rules.specs.Tables.{noZone, sideOf, hasId, regionsOf, configured, guestApart, soundSet, Zone}
 use Rattle.rules.specs.Translation.{coversGuest, coveringIn, physIn, translationRules, translatedAs, translation}
 use Rattle.rules.specs.declared.Region.{Region}
 use Rattle.rules.specs.declared.Side.{Side}
@@ -32,9 +32,9 @@ use Rattle.rules.proofs.Closure.{state-some}
 use Rattle.rules.proofs.Keeps.{set-sound}
 use Rattle.rules.proofs.Regions.{equal-refl}
 use Rattle.rules.proofs.Tables.{overlap-same}
-use Rattle.rules.proofs.Translation.{covers-parts, lies-in}
+use Rattle.rules.proofs.Translation.{covers-parts, parts-cover, lies-in, same-distance}
 use Rattle.promises.specs.Tables.{In, SoundUnder}
-use Rattle.promises.specs.Translation.{OnlyOneCovers, StaysInside, OneToOne, ZonesMeetOnGic, Isolated, ZoneIsolated, IommuZoneIsolated}
+use Rattle.promises.specs.Translation.{TranslatesTo, PutBy, OnlyOneCovers, StaysInside, TranslationIs, TranslationIsExact, OneToOne, ZonesMeetOnGic, Isolated, ZoneIsolated, IommuZoneIsolated}
 use Rattle.promises.proofs.Closure.{held-at, held-either, config-ok, table-ok, there, low-id, set-ok, other-place}
 use Rattle.promises.proofs.Tables.{no-address-in-two-zones}
 
@@ -82,6 +82,29 @@ stays-inside t id side a x (e, h) = (
   lies-in a x (coveringIn a (xs t id side a)) (covers t id side a e) (sym (comes-out t id side a e) ∙ h),
 )
 
+pub translation-is : TranslationIs
+unfolding xs coveringIn
+translation-is t id side a x (e, h) = (
+  coveringIn a (xs t id side a),
+  (firstIndex (coversGuest a) (xs t id side a), within t id side a e, refl),
+  covers-parts a (coveringIn a (xs t id side a)) (covers t id side a e),
+  sym (same-distance a (coveringIn a (xs t id side a)) (covers t id side a e)) ∙ sym (comes-out t id side a e) ∙ h,
+)
+
+-- a set with a region in it is that of a zone that is there
+none-held : (side : Side) → length (sideOf side noZone) ≡ 0
+unfolding sideOf
+none-held Cpu = refl
+none-held Iommu = refl
+
+set-there : (t : List Zone) (id : ℕ) (side : Side) (i : ℕ) → i < length (setAt t (find id t) side) → present id t ≡ true
+unfolding setAt
+set-there t id side i h =
+    true-of (present id t)
+    (λ e.
+    let past : length t ≤ find id t = ltb-false _ _ (sym (any-first (hasId id) t) ∙ e) in
+    omega (arith, ap (λ (z : Zone). length (sideOf side z)) (List·getD-eq-default t noZone past), none-held side))
+
 -- ---- two translations that come out at one place
 in-held : (r : Region) (xs : List Region) → In r xs → heldIn r xs ≡ true
 in-held r xs (i, l, q) = any-make (regionEq r) xs noRegion i l (ap (regionEq r) q ∙ equal-refl r)
@@ -110,6 +133,21 @@ module _ (lim : Limits) where
           true≢false
           (sym (overlap-shared _ _ _ _ .1 (a, (covers-parts a (getD (setAt t z side) k noRegion) ck, covers-parts a (getD (setAt t z side) m noRegion) cm)))
           ∙ not-true _ (pairs-at guestApart (setAt t z side) noRegion (p .1 .1 .0) k m l u))
+
+  pub translation-is-exact : TranslationIsExact lim
+  unfolding xs
+  translation-is-exact s t ok id side a x = (translation-is t id side a x, back)
+    where
+      back : PutBy t id side a x → TranslatesTo t id side a x
+      back (r, (i, h, q), c, e) =
+          let zs : List Region = setAt t (find id t) side in
+          let p = set-there t id side i h in
+          let k : coversGuest a (getD zs i noRegion) ≡ true = ap (coversGuest a) q ∙ parts-cover a r c in
+          let z = translates t id side a (low-id lim s t ok id p) p (any-make (coversGuest a) zs noRegion i h k) in
+          let (g, (j, l, m), d, f) = translation-is t id side a (translation t id side a .phys .0) (z, refl) in
+          let one : i ≡ j = only-one-covers s t ok (find id t) side a i j (there lim s t ok id p) h l k (ap (coversGuest a) m ∙ parts-cover a g d) in
+          let same : g ≡ r = sym m ∙ ap (λ (n : ℕ). getD zs n noRegion) (sym one) ∙ q in
+          (z, sym f ∙ ap (λ (y : Region). y .p .0 + (a - y .v .0)) same ∙ e)
 
   pub zones-meet-on-gic : ZonesMeetOnGic lim
   zones-meet-on-gic s t ok y z one other a b x ne (ea, ha) (eb, hb) =

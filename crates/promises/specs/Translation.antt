@@ -1,11 +1,13 @@
 -- Translation: one region covers an address, what comes out lies in its physical range, and two zones meet only in the GIC region.
-use Prim.Native.Nat.{ℕ, _<_}
+use Prim.Native.Nat.{ℕ, _+_, _-_, _<_}
 use mathlib.Core.Bool.{true}
 use mathlib.Core.List.{List}
+use mathlib.Core.Logic.{_↔_}
 use mathlib.Core.Option.{some}
 use mathlib.Core.Path.{_≡_}
 use lib.ListN.{length, getD}
 use Rattle.rules.specs.Limits.{Limits}
+use Rattle.rules.specs.Addresses.{Covers}
 use Rattle.rules.specs.Changes.{setAt}
 use Rattle.rules.specs.Closure.{contains-vaddr, stateOf, RegionSet, GhostZone}
 use Rattle.rules.specs.Configuration.{gicOf, configOf, StoredConfig}
@@ -29,6 +31,22 @@ OnlyOneCovers l = (s : StoredConfig) (t : List Zone) → SoundUnder l s t → (z
 -- what comes out lies in the physical range of a region of that set that covers the address
 abbrev pub StaysInside : Type 0
 StaysInside = (t : List Zone) (id : ℕ) (side : Side) (a x : ℕ) → TranslatesTo t id side a x → (r : Region) × In r (setAt t (find id t) side) × (coversGuest a r ≡ true) × CoversPhys r x
+
+-- the region covers a guest address
+abbrev pub CoversGuest : Region → ℕ → Type 0
+CoversGuest r a = Covers (r .v .0) (r .size) a
+
+-- x is p + (address - v) of a region of that zone and side that covers the address
+abbrev pub PutBy : List Zone → ℕ → Side → ℕ → ℕ → Type 0
+PutBy t id side a x = (r : Region) × In r (setAt t (find id t) side) × CoversGuest r a × (r .p .0 + (a - r .v .0) ≡ x)
+
+-- in any table, what comes out is where a region of that set that covers the address puts it
+abbrev pub TranslationIs : Type 0
+TranslationIs = (t : List Zone) (id : ℕ) (side : Side) (a x : ℕ) → TranslatesTo t id side a x → PutBy t id side a x
+
+-- in a sound table the other way round too: whichever region of that set covers the address, that is where the address comes out
+abbrev pub TranslationIsExact : Limits → Type 0
+TranslationIsExact l = (s : StoredConfig) (t : List Zone) → SoundUnder l s t → (id : ℕ) (side : Side) (a x : ℕ) → TranslatesTo t id side a x ↔ PutBy t id side a x
 
 -- no two addresses of one set come out at one place
 abbrev pub OneToOne : Limits → Type 0

@@ -1,10 +1,10 @@
 -- Translation: what it is for a region to cover an address, and where the address comes out.
-use Prim.Native.Nat.{ℕ}
+use Prim.Native.Nat.{ℕ, _+_, _-_}
 use native.Mathlib.Omega.{arith}
 use mathlib.Core.Bool.{true}
 use mathlib.Core.Path.{_≡_}
-use borrow.Author.Tests.{ltb-true, leb-true}
-use Rattle.lists.proofs.Tests.{parts}
+use borrow.Author.Tests.{ltb-true, leb-true, lt-ltb, le-leb}
+use Rattle.lists.proofs.Tests.{parts, whole}
 use Rattle.rules.specs.Addresses.{Covers}
 use Rattle.rules.specs.Translation.{coversGuest, physIn}
 use Rattle.rules.specs.declared.Region.{Region}
@@ -14,7 +14,16 @@ pub covers-parts : (a : ℕ) (r : Region) → coversGuest a r ≡ true → Cover
 unfolding coversGuest
 covers-parts a r e = let p = parts _ e in (leb-true _ _ (p .0), ltb-true _ _ (p .1 .0))
 
+pub parts-cover : (a : ℕ) (r : Region) → Covers (r .v .0) (r .size) a → coversGuest a r ≡ true
+unfolding coversGuest
+parts-cover a r (l, u) = whole _ (le-leb _ _ l, (lt-ltb _ _ u, tt))
+
 -- what comes out lies in the region's physical range
 pub lies-in : (a x : ℕ) (r : Region) → coversGuest a r ≡ true → physIn a r ≡ x → Covers (r .p .0) (r .size) x
 unfolding physIn
 lies-in a x r e h = let (l, u) = covers-parts a r e in (omega arith, omega arith)
+
+-- and as far behind the physical start as the address is behind the guest start
+pub same-distance : (a : ℕ) (r : Region) → coversGuest a r ≡ true → physIn a r ≡ r .p .0 + (a - r .v .0)
+unfolding physIn
+same-distance a r e = let (l, u) = covers-parts a r e in omega arith

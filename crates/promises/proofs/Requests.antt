@@ -6,9 +6,11 @@ use Rattle.lists.specs.Runs.{runs}
 use Rattle.lists.proofs.Rules.{number-exactly, zero-exactly}
 use Rattle.rules.specs.Limits.{Limits}
 use Rattle.rules.specs.Requests.{requestRules, refusal, next}
+use Rattle.rules.specs.Run.{runFrom}
 use Rattle.rules.proofs.Keeps.{sound-parts, parts-sound, next-keeps, runs-keep}
 use Rattle.rules.proofs.Requests.{request-numbered}
-use Rattle.promises.specs.Requests.{NextKeepsSound, RunKeepsSound, NumberIsFirst}
+use Rattle.rules.proofs.Stored.{run-from-keeps}
+use Rattle.promises.specs.Requests.{NextKeepsSound, RunKeepsSound, StoppedRunKeepsSound, NumberIsFirst}
 
 module _ (lim : Limits) where
   pub next-keeps-sound : NextKeepsSound lim
@@ -16,6 +18,9 @@ module _ (lim : Limits) where
 
   pub run-keeps-sound : RunKeepsSound lim
   run-keeps-sound c t qs e = parts-sound lim c (runs (next lim c) t qs) (runs-keep lim c t qs (sound-parts lim c t e))
+
+  pub stopped-run-keeps-sound : StoppedRunKeepsSound lim
+  stopped-run-keeps-sound c i t qs e = parts-sound lim c (runFrom lim c i t qs .table) (run-from-keeps lim c i t qs (sound-parts lim c t e))
 
   pub number-is-first : NumberIsFirst lim
   unfolding refusal

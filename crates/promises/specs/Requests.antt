@@ -10,6 +10,7 @@ use Rattle.lists.specs.Runs.{runs}
 use Rattle.rules.specs.Limits.{Limits}
 use Rattle.rules.specs.Configuration.{Configuration}
 use Rattle.rules.specs.Requests.{requestRules, refusal, next}
+use Rattle.rules.specs.Run.{runFrom}
 use Rattle.rules.specs.Tables.{sound, Zone}
 use Rattle.rules.specs.declared.Request.{Request}
 
@@ -20,6 +21,10 @@ NextKeepsSound l = (c : Configuration) (t : List Zone) (q : Request) → sound l
 -- and so does every run of requests
 abbrev pub RunKeepsSound : Limits → Type 0
 RunKeepsSound l = (c : Configuration) (t : List Zone) (qs : List Request) → sound l c t ≡ true → sound l c (runs (next l c) t qs) ≡ true
+
+-- and so does a run that stops at its first refusal, wherever it ends and whatever index its first request has
+abbrev pub StoppedRunKeepsSound : Limits → Type 0
+StoppedRunKeepsSound l = (c : Configuration) (i : ℕ) (t : List Zone) (qs : List Request) → sound l c t ≡ true → sound l c (runFrom l c i t qs .table) ≡ true
 
 -- the number is that of rule k exactly when its test holds and no earlier one does, and 0 exactly when none does
 abbrev pub NumberIsFirst : Limits → Type 0

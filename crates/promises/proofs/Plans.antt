@@ -9,19 +9,20 @@ use lib.Dec.{eqb}
 use lib.ListN.{length}
 use Rattle.formats.specs.Formats.{got, bad, Out}
 use Rattle.rules.specs.Applying.{lastEdition, plain, judged, moved, applied, applyRead, apply, Terminal, Applied}
-use Rattle.rules.specs.Configuration.{Configuration}
+use Rattle.rules.specs.Configuration.{configOf, Configuration}
 use Rattle.rules.specs.Limits.{Limits, Sayable}
 use Rattle.rules.specs.Plan.{requestsOf, readPlan, Plan}
 use Rattle.rules.specs.Requests.{refusal, next, standing}
 use Rattle.rules.specs.Run.{runFrom, Run}
 use Rattle.rules.specs.Sizes.{planWith}
-use Rattle.rules.specs.Tables.{Zone}
+use Rattle.rules.specs.Tables.{tableOf, Zone}
 use Rattle.rules.specs.declared.Outcome.{Outcome}
 use Rattle.rules.specs.declared.Request.{Request}
 use Rattle.rules.proofs.Applying.{accepted-for-base, for-base-accepted}
 use Rattle.rules.proofs.Plan.{plan-refuses, plan-ends}
+use Rattle.rules.proofs.Stored.{stands-well, stored-stands, run-from-keeps}
 use Rattle.rules.proofs.Sizes.{least-length, most-length, whole-length, counts-length, counts-fit}
-use Rattle.promises.specs.Plans.{PlanFor, runOf, RefusalStays, AcceptedIsPlan, PlanIsAccepted, PlanLengths}
+use Rattle.promises.specs.Plans.{PlanFor, runOf, RefusalStays, ConfigurationStays, ApplyKeepsSound, AcceptedIsPlan, PlanIsAccepted, PlanLengths}
 
 module _ (lim : Limits) where
   -- a run without a refusal goes through all requests
@@ -93,6 +94,35 @@ module _ (lim : Limits) where
       let j : judged s p r ≡ plain 0 (length (requestsOf p)) = for-base-accepted s p r f last inner ∙ ap (plain 0) n in
       ap (λ (c : Bool). cond c (applyRead lim s b (readPlan lim b)) (record { outcome = plain (standing lim (s .config) (s .table)) 0; state = s })) (eq-eqb _ 0 st)
       ∙ ap (applyRead lim s b) g ∙ ap (λ (o : Outcome). applied lim s o r) j
+
+  -- ---- a state is left as it was, or moved as its run says
+  module _ (s : Terminal) (P : Terminal → Type 0) (stay : P s) where
+    applied-keeps : (o : Outcome) (r : Run) → P (moved lim s r) → P (applied lim s o r .state)
+    unfolding applied either
+    applied-keeps o r move = by (eqb (o .number) 0)
+      where
+        by : (c : Bool) → P (either s o r c .state)
+        by true = move
+        by false = stay
+
+    apply-keeps : (b : List ℕ) → ((p : Plan) → P (moved lim s (runOf lim s p))) → P (apply lim s b .state)
+    unfolding apply applyRead
+    apply-keeps b move = by (eqb (standing lim (s .config) (s .table)) 0) (readPlan lim b)
+      where
+        by : (c : Bool) (o : Out Plan) → P (cond c (applyRead lim s b o) (record { outcome = plain (standing lim (s .config) (s .table)) 0; state = s }) .state)
+        by true (got p t) = applied-keeps (judged s p (runOf lim s p)) (runOf lim s p) (move p)
+        by true (bad k t) = stay
+        by false o = stay
+
+  pub configuration-stays : ConfigurationStays lim
+  unfolding moved
+  configuration-stays s b = apply-keeps s (λ u. u .config ≡ s .config) refl b (λ p. refl)
+
+  pub apply-keeps-sound : ApplyKeepsSound lim
+  unfolding moved
+  apply-keeps-sound s b st =
+      let (c, t) = stands-well lim (s .config) (s .table) st in
+      apply-keeps s (λ u. standing lim (u .config) (u .table) ≡ 0) st b (λ p. stored-stands lim (s .config) (runOf lim s p .table) c (run-from-keeps lim (configOf (s .config)) 0 (tableOf (s .table)) (requestsOf p) t))
 
   -- ---- lengths
   pub plan-lengths : PlanLengths lim

@@ -26,6 +26,14 @@ runOf l s p = run l (configOf (s .config)) (tableOf (s .table)) (requestsOf p)
 abbrev pub RefusalStays : Limits → Type 0
 RefusalStays l = (s : Terminal) (b : List ℕ) → (apply l s b .outcome .number ≡ 0 → ⊥) → apply l s b .state ≡ s
 
+-- whatever is delivered, the configuration stays
+abbrev pub ConfigurationStays : Limits → Type 0
+ConfigurationStays l = (s : Terminal) (b : List ℕ) → apply l s b .state .config ≡ s .config
+
+-- a state at which neither 1 nor 2 is answered is followed by one at which neither is, whatever bytes were applied
+abbrev pub ApplyKeepsSound : Limits → Type 0
+ApplyKeepsSound l = (s : Terminal) (b : List ℕ) → standing l (s .config) (s .table) ≡ 0 → standing l (apply l s b .state .config) (apply l s b .state .table) ≡ 0
+
 -- what is accepted is a plan for the base, below the last edition, with requests that are all accepted in turn
 abbrev pub AcceptedIsPlan : Limits → Type 0
 AcceptedIsPlan l = (s : Terminal) (b : List ℕ) → apply l s b .outcome .number ≡ 0 → (p : Plan) × PlanFor l s b p × (s .edition ≡ lastEdition → ⊥) × (runOf l s p .inner ≡ 0)

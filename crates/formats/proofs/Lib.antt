@@ -4,3 +4,4 @@ pub mod Widths
 pub mod Sizes
 pub mod Spelled
 pub mod Bounds
+pub mod Most

@@ -1,28 +1,30 @@
 -- Plans.
-use Prim.Native.Nat.{ℕ, suc, _+_, _≤_}
+use Prim.Native.Nat.{ℕ, suc, _+_, _-_, _≤_, _<_}
+use native.Mathlib.Decide.{decLt}
 use native.Mathlib.Omega.{arith}
 use mathlib.Core.Bool.{Bool, true, false, cond}
-use mathlib.Core.List.{List, [], _∷_}
+use mathlib.Core.List.{List, [], _∷_, _++_}
 use mathlib.Core.Path.{_≡_, refl, sym, ap, _∙_}
 use borrow.Author.Tests.{eqb-true, eqb-false, eq-eqb}
 use lib.Dec.{eqb}
-use lib.ListN.{length}
+use lib.ListN.{length, take, drop, length-append, length-take, take-append-drop}
+use lib.Seq.{take-all}
 use Rattle.formats.specs.Formats.{got, bad, Out}
-use Rattle.rules.specs.Applying.{lastEdition, plain, judged, moved, applied, applyRead, apply, Terminal, Applied}
+use Rattle.rules.specs.Applying.{lastEdition, plain, judged, moved, applied, applyRead, apply, answerRead, answerAlone, Terminal, Applied}
 use Rattle.rules.specs.Configuration.{configOf, Configuration}
 use Rattle.rules.specs.Limits.{Limits, Sayable}
 use Rattle.rules.specs.Plan.{requestsOf, readPlan, Plan}
 use Rattle.rules.specs.Requests.{refusal, next, standing}
 use Rattle.rules.specs.Run.{runFrom, Run}
-use Rattle.rules.specs.Sizes.{planWith}
+use Rattle.rules.specs.Sizes.{longestSize, planWith}
 use Rattle.rules.specs.Tables.{tableOf, Zone}
 use Rattle.rules.specs.declared.Outcome.{Outcome}
 use Rattle.rules.specs.declared.Request.{Request}
 use Rattle.rules.proofs.Applying.{accepted-for-base, for-base-accepted}
 use Rattle.rules.proofs.Plan.{plan-refuses, plan-ends}
 use Rattle.rules.proofs.Stored.{stands-well, stored-stands, run-from-keeps}
-use Rattle.rules.proofs.Sizes.{least-length, most-length, whole-length, counts-length, counts-fit}
-use Rattle.promises.specs.Plans.{PlanFor, runOf, RefusalStays, ConfigurationStays, ApplyKeepsSound, AcceptedIsPlan, PlanIsAccepted, PlanLengths}
+use Rattle.rules.proofs.Sizes.{least-length, most-length, whole-length, counts-length, counts-fit, plan-past}
+use Rattle.promises.specs.Plans.{PlanFor, runOf, RefusalStays, ConfigurationStays, ApplyKeepsSound, AcceptedIsPlan, PlanIsAccepted, PlanLengths, PastTheLongest}
 
 module _ (lim : Limits) where
   -- a run without a refusal goes through all requests
@@ -137,3 +139,33 @@ module _ (lim : Limits) where
         let q : ℕ = lim .requests in
         (planWith n z k k q, counts-fit lim say n z k k q r (omega arith) (omega arith) (omega arith) (omega arith) (omega arith), counts-length lim n z k k q);
   }
+
+  -- ---- bytes past the longest plan: both are refused alike, with places that are the same
+  module _ (u v : List ℕ) (long : longestSize lim < length u) where
+    same-place : (t : List ℕ) → length u - length t ≡ length (u ++ v) - length (t ++ v)
+    same-place t = omega (arith, length-append u v, length-append t v)
+
+    alone-past : answerAlone lim u ≡ answerAlone lim (u ++ v)
+    unfolding answerAlone answerRead
+    alone-past = let (k, t, e, f) = plan-past lim u v long in ap (answerRead lim u) e ∙ ap (plain k) (same-place t) ∙ ap (answerRead lim (u ++ v)) (sym f)
+
+    read-past : (s : Terminal) → applyRead lim s u (readPlan lim u) ≡ applyRead lim s (u ++ v) (readPlan lim (u ++ v))
+    unfolding applyRead
+    read-past s =
+        let (k, t, e, f) = plan-past lim u v long in
+        let same : applyRead lim s u (bad k t) ≡ applyRead lim s (u ++ v) (bad k (t ++ v)) = (λ i. record { outcome = plain k (same-place t i); state = s }) in
+        ap (applyRead lim s u) e ∙ same ∙ ap (applyRead lim s (u ++ v)) (sym f)
+
+    apply-past : (s : Terminal) → apply lim s u ≡ apply lim s (u ++ v)
+    unfolding apply
+    apply-past s = ap (λ (a : Applied). cond (eqb (standing lim (s .config) (s .table)) 0) a (record { outcome = plain (standing lim (s .config) (s .table)) 0; state = s })) (read-past s)
+
+  pub past-the-longest : PastTheLongest lim
+  past-the-longest b n h =
+      elim (decLt n (length b)) [
+        | yes l ↦
+            (let e : take n b ++ drop n b ≡ b = take-append-drop n b in
+            let m : longestSize lim < length (take n b) = omega (arith, length-take n b) in
+            (alone-past (take n b) (drop n b) m ∙ ap (answerAlone lim) e, λ s. apply-past (take n b) (drop n b) m s ∙ ap (apply lim s) e))
+        | no l ↦ let e : take n b ≡ b = take-all n b (omega arith) in (ap (answerAlone lim) e, λ s. ap (apply lim s) e)
+      ]

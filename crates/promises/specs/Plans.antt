@@ -1,11 +1,11 @@
 -- Plans: bytes that are no plan for a terminal's base change nothing, and those that are one lead exactly where the rules say.
-use Prim.Native.Nat.{ℕ, _+_, _≤_}
+use Prim.Native.Nat.{ℕ, _+_, _≤_, _<_}
 use mathlib.Core.List.{List, []}
 use mathlib.Core.Path.{_≡_}
-use lib.ListN.{length}
+use lib.ListN.{length, take}
 use Rattle.lists.specs.Bytes.{Bytes}
 use Rattle.formats.specs.Formats.{got}
-use Rattle.rules.specs.Applying.{lastEdition, store, plain, apply, Terminal, ForBase}
+use Rattle.rules.specs.Applying.{lastEdition, store, plain, apply, answerAlone, Terminal, ForBase}
 use Rattle.rules.specs.Configuration.{configOf}
 use Rattle.rules.specs.Limits.{Limits, Sayable}
 use Rattle.rules.specs.Plan.{requestsOf, readPlan, encode, PlanFits, Plan}
@@ -59,3 +59,7 @@ pub record PlanLengths (l : Limits) : Type 0 where
   -- and both lengths are met, where a region is allowed and a plan's fields can say the limits
   pub least-met : 1 ≤ l .regions → Sayable l → IsMet l leastSize
   pub longest-met : 1 ≤ l .regions → Sayable l → IsMet l (longestSize l)
+
+-- what lies past the longest plan and one byte more changes no answer and no state: so many bytes are enough, at a terminal and alone
+abbrev pub PastTheLongest : Limits → Type 0
+PastTheLongest l = (b : List ℕ) (n : ℕ) → longestSize l < n → (answerAlone l (take n b) ≡ answerAlone l b) × ((s : Terminal) → apply l s (take n b) ≡ apply l s b)

@@ -2,15 +2,16 @@
 use Prim.Native.Nat.{ℕ, _+_, _*_, _^_, _≤_, _<_}
 use native.Mathlib.Nat.{mul-le-mul-right}
 use native.Mathlib.Omega.{arith}
-use mathlib.Core.List.{List}
+use mathlib.Core.List.{List, _++_}
 use mathlib.Core.Path.{_≡_, refl, ap, _∙_}
 use lib.ListN.{length, replicate, length-replicate}
 use Rattle.lists.specs.Bytes.{Bytes}
-use Rattle.formats.specs.Formats.{got, both, as-type, listed, Format, ListFits}
+use Rattle.formats.specs.Formats.{got, bad, both, as-type, listed, Format, ListFits}
 use Rattle.formats.specs.Sizes.{total}
+use Rattle.formats.proofs.Most.{most-number, most-both, most-field, most-as, most-headed, most-listed, file-past, Most}
 use Rattle.formats.proofs.Sizes.{sized-number, sized-both, sized-headed, sized-listed, total-same, total-most, total-replicate, all-replicate, Sized}
 use Rattle.rules.specs.Limits.{Limits, Sayable}
-use Rattle.rules.specs.Plan.{short, long, regionNumbers, regionField, askedField, marksTo, marksFrom, marksSection, regionsSection, setFormat, zoneFormat, zonesSection, requestsSection, readPlan, encode, RegionFits, AskedFits, ZoneFits, PlanFits, Asked, Plan}
+use Rattle.rules.specs.Plan.{short, long, regionTo, regionFrom, regionNumbers, regionField, askedTo, askedFrom, askedField, marksTo, marksFrom, marksSection, regionsSection, setFormat, zoneTo, zoneFrom, zoneFormat, zonesSection, requestsSection, planTo, planFrom, planFormat, readPlan, encode, RegionFits, AskedFits, ZoneFits, PlanFits, Asked, Plan}
 use Rattle.rules.specs.Regions.{noRegion}
 use Rattle.rules.specs.Sizes.{shortSize, longSize, regionSize, askedSize, marksSize, regionsSize, requestsSize, setsSize, zoneSize, planSize, longestSize, leastSize, SizesShown, zoneWith, noAsked, planWith}
 use Rattle.rules.specs.Tables.{Zone}
@@ -117,6 +118,44 @@ module _ (l : Limits) (say : Sayable l) (r z c i q : ℕ) where
           ),
         ),
       )
+
+-- ---- the most that reading takes
+region-most : Most regionNumbers regionSize
+region-most = most-as (both long (both long long)) regionTo regionFrom regionSize (most-both long (both long long) 8 16 (most-number 8) (most-both long long 8 8 (most-number 8) (most-number 8)))
+
+region-field-most : Most regionField regionSize
+region-field-most = most-field regionNumbers regionSize region-most
+
+asked-most : Most askedField askedSize
+asked-most =
+    most-field (as-type (both short (both short regionNumbers)) askedTo askedFrom) askedSize
+    (most-as (both short (both short regionNumbers)) askedTo askedFrom askedSize
+    (most-both short (both short regionNumbers) 4 (4 + regionSize) (most-number 4) (most-both short regionNumbers 4 regionSize (most-number 4) region-most)))
+
+marks-most : Most marksSection marksSize
+marks-most = most-headed 4 2 2 (λ c. as-type (both short short) marksTo marksFrom) (λ m. 2) 8 (λ c h. most-as (both short short) marksTo marksFrom 8 (most-both short short 4 4 (most-number 4) (most-number 4)))
+
+module _ (l : Limits) where
+  set-most : Most (setFormat l) (regionsSize (l .inSet))
+  set-most = most-listed 4 0 (l .inSet) regionField regionSize region-field-most
+
+  zone-most : Most (zoneFormat l) (setsSize (l .inSet) (l .inSet))
+  zone-most =
+      most-as (both short (both (setFormat l) (setFormat l))) zoneTo zoneFrom (setsSize (l .inSet) (l .inSet))
+      (most-both short (both (setFormat l) (setFormat l)) 4 (regionsSize (l .inSet) + regionsSize (l .inSet)) (most-number 4) (most-both (setFormat l) (setFormat l) (regionsSize (l .inSet)) (regionsSize (l .inSet)) set-most set-most))
+
+  plan-most : Most (planFormat l) (longestSize l)
+  plan-most =
+      let zones : ℕ = shortSize + l .zones * setsSize (l .inSet) (l .inSet) in
+      most-as (both marksSection (both (regionsSection l) (both (zonesSection l) (requestsSection l)))) planTo planFrom (longestSize l)
+      (most-both marksSection (both (regionsSection l) (both (zonesSection l) (requestsSection l))) marksSize (regionsSize (l .regions) + (zones + requestsSize (l .requests))) marks-most
+      (most-both (regionsSection l) (both (zonesSection l) (requestsSection l)) (regionsSize (l .regions)) (zones + requestsSize (l .requests)) (most-listed 4 1 (l .regions) regionField regionSize region-field-most)
+      (most-both (zonesSection l) (requestsSection l) zones (requestsSize (l .requests)) (most-listed 4 0 (l .zones) (zoneFormat l) (setsSize (l .inSet) (l .inSet)) zone-most) (most-listed 4 0 (l .requests) askedField askedSize asked-most))))
+
+  -- more than the longest plan is refused, and by the first of those bytes: what lies behind them changes nothing
+  pub plan-past : (u v : List ℕ) → longestSize l < length u → (k : ℕ) × (t : List ℕ) × (readPlan l u ≡ bad k t) × (readPlan l (u ++ v) ≡ bad k (t ++ v))
+  unfolding readPlan
+  plan-past u v h = file-past (planFormat l) (longestSize l) plan-most u v h
 
 -- ---- by computation
 pub sizes-shown : SizesShown

@@ -15,6 +15,7 @@ use Rattle.lists.proofs.Room.{length-room, room-rest, room-take, room-back, roo
 use Rattle.lists.proofs.Rules.{testOf, quiet-answer, aboveZero, silent-number}
 use Rattle.lists.proofs.Places.{getD-any}
 use Rattle.lists.proofs.Tests.{both-true, not-fails, not-holds, parts, whole}
+use Rattle.formats.specs.Formats.{All}
 use Rattle.rules.specs.Applying.{storeSet, storeZone, store, storeConfig}
 use Rattle.rules.specs.Configuration.{configOf, check, isSound, Configuration, StoredConfig}
 use Rattle.rules.specs.Limits.{Limits}
@@ -83,13 +84,35 @@ module _ (lim : Limits) where
   unfolding soundSet
   set-few c xs e = leb-true _ _ (parts _ e .0)
 
-  zone-back : (c : Configuration) (z : Zone) → soundZone lim c z ≡ true → zoneOf (storeZone lim z) ≡ z
-  unfolding soundZone zoneOf
-  zone-back c z e =
-      let h = parts _ e in
-      let p : setOf (storeSet lim (z .cpu)) ≡ z .cpu = set-back (z .cpu) (set-few c (z .cpu) (h .1 .0)) in
-      let q : setOf (storeSet lim (z .iommu)) ≡ z .iommu = set-back (z .iommu) (set-few c (z .iommu) (h .1 .1 .0)) in
+  -- there is room for both sets of a zone
+  abbrev pub SetsFew : Zone → Type 0
+  SetsFew z = (length (z .cpu) ≤ lim .inSet) × (length (z .iommu) ≤ lim .inSet)
+
+  few-back : (z : Zone) → SetsFew z → zoneOf (storeZone lim z) ≡ z
+  unfolding zoneOf
+  few-back z (m, n) =
+      let p : setOf (storeSet lim (z .cpu)) ≡ z .cpu = set-back (z .cpu) m in
+      let q : setOf (storeSet lim (z .iommu)) ≡ z .iommu = set-back (z .iommu) n in
       (λ i. record { id = z .id; cpu = p i; iommu = q i })
+
+  zone-back : (c : Configuration) (z : Zone) → soundZone lim c z ≡ true → zoneOf (storeZone lim z) ≡ z
+  unfolding soundZone
+  zone-back c z e = let h = parts _ e in few-back z (set-few c (z .cpu) (h .1 .0), set-few c (z .iommu) (h .1 .1 .0))
+
+  -- zones that there is room for, each read back
+  stored-zones : (t : List Zone) → length t ≤ lim .zones → tableOf (store lim t) ≡ map zoneOf (map (storeZone lim) t)
+  unfolding tableOf
+  stored-zones t h =
+      let zs : List StoredZone = map (storeZone lim) t in
+      let n : length zs ≡ length t = length-map t (storeZone lim) in
+      ap (λ (k : ℕ). map zoneOf (room k noStored (room (lim .zones) (unusedZone lim) zs))) (sym n) ∙ ap (map zoneOf) (read-back (lim .zones) noStored (unusedZone lim) zs (omega arith))
+
+  few-zones : (t : List Zone) → All SetsFew t → map zoneOf (map (storeZone lim) t) ≡ t
+  few-zones [] h = refl
+  few-zones (z ∷ t) h = ap₂ (λ (y : Zone) (ys : List Zone). y ∷ ys) (few-back z (h .0)) (few-zones t (h .1))
+
+  pub zones-back : (t : List Zone) → length t ≤ lim .zones → All SetsFew t → tableOf (store lim t) ≡ t
+  zones-back t h f = stored-zones t h ∙ few-zones t f
 
   -- ---- what is unused is zero
   set-tidy : (c : Configuration) (xs : List Region) → soundSet lim c xs ≡ true → restZero (storeSet lim xs) ≡ true
@@ -119,11 +142,7 @@ module _ (lim : Limits) where
     few = let f : length t ≤ lim .zones = ok .few in omega (arith, many)
 
     pub table-back : tableOf (store lim t) ≡ t
-    unfolding tableOf
-    table-back =
-        ap (λ (n : ℕ). map zoneOf (room n noStored (room (lim .zones) (unusedZone lim) zones))) (sym many)
-        ∙ ap (map zoneOf) (read-back (lim .zones) noStored (unusedZone lim) zones few)
-        ∙ map-back (soundZone lim c) (storeZone lim) zoneOf (zone-back c) t (ok .zones)
+    table-back = stored-zones t (ok .few) ∙ map-back (soundZone lim c) (storeZone lim) zoneOf (zone-back c) t (ok .zones)
 
     store-tidy : tidy (store lim t) ≡ true
     unfolding tidy

@@ -3,6 +3,7 @@ use Prim.Native.Nat.{ℕ, zero, suc, _+_, _^_, _≤_, _<_}
 use native.Mathlib.Omega.{arith}
 use mathlib.Core.Bool.{Bool, true, false}
 use mathlib.Core.List.{List, [], _∷_, _++_, append-assoc, append-nil}
+use mathlib.Core.Logic.{_⊎_, inl, inr}
 use mathlib.Core.Path.{_≡_, refl, sym, ap, ap₂, subst, _∙_}
 use borrow.Author.Tests.{le-leb, leb-true}
 use lib.Dec.{leb}
@@ -21,6 +22,10 @@ Part t b = (w : List ℕ) × (b ≡ w ++ t)
 part-trans : (t s b : List ℕ) → Part t s → Part s b → Part t b
 part-trans t s b p q = (q .0 ++ p .0, q .1 ∙ ap (λ (l : List ℕ). q .0 ++ l) (p .1) ∙ sym (append-assoc (q .0) (p .0) t))
 
+-- the numbers of a field: not wholly there, or a count out of range
+abbrev pub Told : ℕ → Type 0
+Told k = (k ≡ 20) ⊎ (k ≡ 21)
+
 pub record Lawful {A : Type 0} (F : Format A) (Fits : A → Type 0) : Type 0 where
   -- what is written is read back, whatever follows it
   pub back : (x : A) (t : List ℕ) → Fits x → F .read (F .write x ++ t) ≡ got x t
@@ -28,8 +33,12 @@ pub record Lawful {A : Type 0} (F : Format A) (Fits : A → Type 0) : Type 0 whe
   pub tight : (b : List ℕ) (x : A) (t : List ℕ) → Bytes b → F .read b ≡ got x t → (b ≡ F .write x ++ t) × Fits x
   -- a reader only goes forward, also where it refuses
   pub part : (b : List ℕ) → Part (left (F .read b)) b
-  -- no refusal has number 0
-  pub refuses : (b : List ℕ) (k : ℕ) (t : List ℕ) → F .read b ≡ bad k t → k ≡ 0 → ⊥
+  -- every refusal is one of a field
+  pub refuses : (b : List ℕ) (k : ℕ) (t : List ℕ) → F .read b ≡ bad k t → Told k
+
+-- what is left stands at a place
+pub part-at : (t b : List ℕ) → Part t b → (at : ℕ) × (at ≤ length b) × (t ≡ drop at b)
+part-at t b (w, e) = (length w, omega (arith, ap length e, length-append w t), sym (ap (drop (length w)) e ∙ drop-at w t (length w) refl))
 
 -- ---- what every reader is made of
 then-part : {A B : Type 0} (o : Out A) (f : A → List ℕ → Out B) (b : List ℕ) → Part (left o) b → ((x : A) (t : List ℕ) → Part (left (f x t)) t) → Part (left (then o f)) b
@@ -73,10 +82,6 @@ unfolding when
 when-bad true o j s P h p k t e = h k t e
 when-bad false o j s P h p k t e = subst P (same-number j k s t e) p
 
--- a number that is not 0
-abbrev Above : ℕ → Type 0
-Above k = k ≡ 0 → ⊥
-
 -- what is left of bytes is bytes
 left-bytes : (b w t : List ℕ) → b ≡ w ++ t → Bytes b → Bytes t
 left-bytes b w t e h i = rw (getD-append-add w t i 0) at (subst (λ (l : List ℕ). getD l (length w + i) 0 < 256) e (h (length w + i)))
@@ -108,9 +113,9 @@ module _ (k : ℕ) where
   unfolding readNumber left
   part-number b = when-part (leb k (length b)) (got (little (take k b)) (drop k b)) 20 b b (take k b, sym (take-append-drop k b)) ([], refl)
 
-  refuses-number : (b : List ℕ) (j : ℕ) (t : List ℕ) → readNumber k b ≡ bad j t → Above j
+  refuses-number : (b : List ℕ) (j : ℕ) (t : List ℕ) → readNumber k b ≡ bad j t → Told j
   unfolding readNumber
-  refuses-number b = when-bad (leb k (length b)) (got (little (take k b)) (drop k b)) 20 b Above (λ j t e. absurd (no-refusal (little (take k b)) (drop k b) j t e)) (λ e. omega arith)
+  refuses-number b = when-bad (leb k (length b)) (got (little (take k b)) (drop k b)) 20 b Told (λ j t e. absurd (no-refusal (little (take k b)) (drop k b) j t e)) (inl refl)
 
   pub lawful-number : Lawful (number k) (λ n. n < 256 ^ k)
   lawful-number = record { back = back-number; tight = tight-number; part = part-number; refuses = refuses-number }
@@ -139,11 +144,11 @@ module _ {A B : Type 0} (F : Format A) (G : Format B) (P : A → Type 0) (Q : B 
       then-part (F .read b) (λ x s. then (G .read s) (λ y t. got (x, y) t)) b (f .part b)
       (λ x s. then-part (G .read s) (λ y t. got (x, y) t) s (g .part s) (λ y t. ([], refl)))
 
-  refuses-both : (b : List ℕ) (k : ℕ) (t : List ℕ) → readBoth F G b ≡ bad k t → Above k
+  refuses-both : (b : List ℕ) (k : ℕ) (t : List ℕ) → readBoth F G b ≡ bad k t → Told k
   unfolding readBoth
   refuses-both b =
-      then-bad (F .read b) (λ x s. then (G .read s) (λ y t. got (x, y) t)) Above (f .refuses b)
-      (λ x s. then-bad (G .read s) (λ y t. got (x, y) t) Above (g .refuses s) (λ y u k t e. absurd (no-refusal (x, y) u k t e)))
+      then-bad (F .read b) (λ x s. then (G .read s) (λ y t. got (x, y) t)) Told (f .refuses b)
+      (λ x s. then-bad (G .read s) (λ y t. got (x, y) t) Told (g .refuses s) (λ y u k t e. absurd (no-refusal (x, y) u k t e)))
 
   pub lawful-both : Lawful (both F G) (λ p. P (p .0) × Q (p .1))
   lawful-both = record { back = back-both; tight = tight-both; part = part-both; refuses = refuses-both }
@@ -164,10 +169,10 @@ module _ {A : Type 0} (F : Format A) (P : A → Type 0) (f : Lawful F P) where
   start-part b (got x t) p = p
   start-part b (bad k t) p = ([], refl)
 
-  start-bad : (b : List ℕ) (o : Out A) → ((k : ℕ) (t : List ℕ) → o ≡ bad k t → Above k) → (k : ℕ) (t : List ℕ) → startAt b o ≡ bad k t → Above k
+  start-bad : (b : List ℕ) (o : Out A) → ((k : ℕ) (t : List ℕ) → o ≡ bad k t → Told k) → (k : ℕ) (t : List ℕ) → startAt b o ≡ bad k t → Told k
   unfolding startAt
   start-bad b (got x s) h k t e = absurd (no-refusal x s k t e)
-  start-bad b (bad j s) h k t e = subst Above (same-number j k b t e) (h j s refl)
+  start-bad b (bad j s) h k t e = subst Told (same-number j k b t e) (h j s refl)
 
   pub lawful-field : Lawful (field F) P
   lawful-field = record {
@@ -197,9 +202,9 @@ module _ {A B : Type 0} (F : Format A) (P : A → Type 0) (f : Lawful F P) (to :
   unfolding readAs left
   part-as b = then-part (F .read b) (λ x t. got (to x) t) b (f .part b) (λ x t. ([], refl))
 
-  refuses-as : (b : List ℕ) (k : ℕ) (t : List ℕ) → readAs F to from b ≡ bad k t → Above k
+  refuses-as : (b : List ℕ) (k : ℕ) (t : List ℕ) → readAs F to from b ≡ bad k t → Told k
   unfolding readAs
-  refuses-as b = then-bad (F .read b) (λ x t. got (to x) t) Above (f .refuses b) (λ x s k t e. absurd (no-refusal (to x) s k t e))
+  refuses-as b = then-bad (F .read b) (λ x t. got (to x) t) Told (f .refuses b) (λ x s k t e. absurd (no-refusal (to x) s k t e))
 
   pub lawful-as : Lawful (as-type F to from) (λ y. P (from y))
   lawful-as = record { back = back-as; tight = tight-as; part = part-as; refuses = refuses-as }
@@ -234,12 +239,12 @@ module _ {A : Type 0} (F : Format A) (P : A → Type 0) (f : Lawful F P) where
       then-part (F .read b) (λ x s. then (readMany F n s) (λ xs t. got (x ∷ xs) t)) b (f .part b)
       (λ x s. then-part (readMany F n s) (λ xs t. got (x ∷ xs) t) s (part-many n s) (λ xs t. ([], refl)))
 
-  refuses-many : (n : ℕ) (b : List ℕ) (k : ℕ) (t : List ℕ) → readMany F n b ≡ bad k t → Above k
+  refuses-many : (n : ℕ) (b : List ℕ) (k : ℕ) (t : List ℕ) → readMany F n b ≡ bad k t → Told k
   unfolding readMany
   refuses-many zero b k t e = absurd (no-refusal [] b k t e)
   refuses-many (suc n) b k t e =
-      then-bad (F .read b) (λ x s. then (readMany F n s) (λ xs t. got (x ∷ xs) t)) Above (f .refuses b)
-      (λ x s. then-bad (readMany F n s) (λ xs t. got (x ∷ xs) t) Above (refuses-many n s) (λ xs u k t e. absurd (no-refusal (x ∷ xs) u k t e))) k t e
+      then-bad (F .read b) (λ x s. then (readMany F n s) (λ xs t. got (x ∷ xs) t)) Told (f .refuses b)
+      (λ x s. then-bad (readMany F n s) (λ xs t. got (x ∷ xs) t) Told (refuses-many n s) (λ xs u k t e. absurd (no-refusal (x ∷ xs) u k t e))) k t e
 
   pub lawful-many : (n : ℕ) → Lawful (many F n) (λ xs. (length xs ≡ n) × All P xs)
   lawful-many n = record { back = λ xs t h. rw (← (h .0)) (back-many xs t (h .1)); tight = tight-many n; part = part-many n; refuses = refuses-many n }
@@ -268,11 +273,11 @@ module _ (w lo hi : ℕ) where
       by (got c s) p = when-part (within lo hi c) (got c s) 21 b b p ([], refl)
       by (bad k t) p = p
 
-  refuses-count : (b : List ℕ) (k : ℕ) (t : List ℕ) → readCount w lo hi b ≡ bad k t → Above k
+  refuses-count : (b : List ℕ) (k : ℕ) (t : List ℕ) → readCount w lo hi b ≡ bad k t → Told k
   unfolding readCount
   refuses-count b =
-      then-bad (readNumber w b) (λ c s. when (within lo hi c) (got c s) (bad 21 b)) Above (refuses-number w b)
-      (λ c s. when-bad (within lo hi c) (got c s) 21 b Above (λ k t e. absurd (no-refusal c s k t e)) (λ e. omega arith))
+      then-bad (readNumber w b) (λ c s. when (within lo hi c) (got c s) (bad 21 b)) Told (refuses-number w b)
+      (λ c s. when-bad (within lo hi c) (got c s) 21 b Told (λ k t e. absurd (no-refusal c s k t e)) (inr refl))
 
 -- as many are read as were asked for, and each has what every value that is read has
 module _ {A : Type 0} (F : Format A) (P : A → Type 0) (each : (b : List ℕ) (x : A) (t : List ℕ) → F .read b ≡ got x t → P x) where
@@ -316,9 +321,9 @@ module _ {A : Type 0} (w lo hi : ℕ) (F : ℕ → Format A) (size : A → ℕ) 
   unfolding readHeaded left
   part-headed b = then-part (readCount w lo hi b) (λ c s. F c .read s) b (part-count w lo hi b) (λ c s. f c .part s)
 
-  refuses-headed : (b : List ℕ) (k : ℕ) (t : List ℕ) → readHeaded w lo hi F size b ≡ bad k t → Above k
+  refuses-headed : (b : List ℕ) (k : ℕ) (t : List ℕ) → readHeaded w lo hi F size b ≡ bad k t → Told k
   unfolding readHeaded
-  refuses-headed b = then-bad (readCount w lo hi b) (λ c s. F c .read s) Above (refuses-count w lo hi b) (λ c s. f c .refuses s)
+  refuses-headed b = then-bad (readCount w lo hi b) (λ c s. F c .read s) Told (refuses-count w lo hi b) (λ c s. f c .refuses s)
 
   pub lawful-headed : Lawful (headed w lo hi F size) (InRange w lo hi size P)
   lawful-headed = record { back = back-headed; tight = tight-headed; part = part-headed; refuses = refuses-headed }
@@ -343,14 +348,15 @@ module _ {A : Type 0} (F : Format A) (P : A → Type 0) (f : Lawful F P) where
       end-got y [] x t e = (cc, refl)
       end-got y (c ∷ s) x t e = absurd (no-value 22 (c ∷ s) x t e)
 
-  end-bad : (x : A) (s : List ℕ) (k : ℕ) (t : List ℕ) → atEnd x s ≡ bad k t → Above k
+  end-bad : (x : A) (s : List ℕ) (k : ℕ) (t : List ℕ) → atEnd x s ≡ bad k t → k ≡ 22
   unfolding atEnd
   end-bad x [] k t e = absurd (no-refusal x [] k t e)
-  end-bad x (c ∷ s) k t e = subst Above (same-number 22 k (c ∷ s) t e) (λ z. omega arith)
+  end-bad x (c ∷ s) k t e = sym (same-number 22 k (c ∷ s) t e)
 
-  pub file-refuses : (b : List ℕ) (k : ℕ) (t : List ℕ) → readFile F b ≡ bad k t → k ≡ 0 → ⊥
+  -- a refusal of the whole is one of a field, or 22
+  pub file-refuses : (b : List ℕ) (k : ℕ) (t : List ℕ) → readFile F b ≡ bad k t → Told k ⊎ (k ≡ 22)
   unfolding readFile
-  file-refuses b = then-bad (F .read b) atEnd Above (f .refuses b) end-bad
+  file-refuses b = then-bad (F .read b) atEnd (λ k. Told k ⊎ (k ≡ 22)) (λ k t e. inl (f .refuses b k t e)) (λ x s k t e. inr (end-bad x s k t e))
 
 -- ---- what a reader that is put together went through
 pub both-got : {A B : Type 0} (F : Format A) (G : Format B) (b : List ℕ) (x : A) (y : B) (t : List ℕ) → both F G .read b ≡ got (x, y) t → (s : List ℕ) × (F .read b ≡ got x s) × (G .read s ≡ got y t)

@@ -1,12 +1,12 @@
 -- The most that a reader takes: what lies past it stays where it is, and changes neither a value nor a refusal. A format that is put together from formats has
 -- this from them.
 use Prim.Native.Nat.{ℕ, zero, suc, _+_, _*_, _≤_, _<_}
-use native.Mathlib.Nat.{suc-mul, zero-mul, mul-le-mul-right}
+use native.Mathlib.Nat.{suc-mul, mul-le-mul-right}
 use native.Mathlib.Omega.{arith}
 use mathlib.Core.Bool.{Bool, true, false}
 use mathlib.Core.List.{List, [], _∷_, _++_}
 use mathlib.Core.Path.{_≡_, refl, sym, ap, ap₂, _∙_}
-use lib.ListN.{length, take, drop, length-append, length-drop}
+use lib.ListN.{length, take, length-append, length-drop}
 use lib.Seq.{take-append-le, drop-append-le}
 use Rattle.lists.specs.Bytes.{little}
 use Rattle.formats.specs.Formats.{Out, got, bad, when, then, Format, readNumber, number, readBoth, both, startAt, field, readAs, as-type, readMany, many, within, readCount, readHeaded, headed, listed, atEnd, readFile}

@@ -5,6 +5,7 @@ pub mod Every
 pub mod Pairs
 pub mod Places
 pub mod Rules
+pub mod Lines
 pub mod Room
 pub mod Words
 pub mod Bytes

@@ -5,19 +5,22 @@ use native.Mathlib.Decide.{decLt}
 use native.Mathlib.Nat.{zero-mul, suc-mul, add-zero}
 use native.Mathlib.Numerals.{add-one}
 use native.Mathlib.Omega.{arith}
-use mathlib.Core.Bool.{Bool, true, false, _&&_}
+use mathlib.Core.Bool.{Bool, true, false, not, _&&_, _||_, true≢false}
 use mathlib.Core.List.{List, [], _∷_, _++_, map, map-map}
 use mathlib.Core.Logic.{_⊎_, inl, inr, ⊎-elim}
 use mathlib.Core.Path.{_≡_, refl, sym, ap, ap₂, _∙_}
+use borrow.Author.Tests.{eqb-true, eqb-false, not-true, not-false}
+use lib.Dec.{eqb}
 use lib.ListN.{length, getD, take, drop, length-take, length-drop, length-map, List·getD-map}
 use lib.Seq.{getD-take, getD-drop, ext-getD}
 use Rattle.lists.specs.First.{firstFrom, any, all}
 use Rattle.lists.specs.Pairs.{pairwise}
 use Rattle.lists.specs.Places.{places, tab}
-use Rattle.lists.proofs.Every.{all-both, all-same, all-map}
+use Rattle.lists.specs.Room.{removeAt}
+use Rattle.lists.proofs.Every.{all-both, all-same, all-map, none-others, none-others-make}
 use Rattle.lists.proofs.First.{from-pass, from-hit, from-end}
 use Rattle.lists.proofs.Pairs.{pairs-at, pairs-make}
-use Rattle.lists.proofs.Tests.{both-true, true-both, holds-or-fails, same-test}
+use Rattle.lists.proofs.Tests.{both-true, true-both, both-false, one-true, holds-or-fails, true-of, same-test}
 
 -- within a list the default does not matter
 pub getD-any : {A : Type 0} (xs : List A) (k : ℕ) (d e : A) → k < length xs → getD xs k d ≡ getD xs k e
@@ -152,6 +155,23 @@ first-failing p (suc n) = ⊎-elim (λ f. at-end f (holds-or-fails (p n))) (λ (
     at-end : ((i : ℕ) → i < n → p i ≡ true) → (p n ≡ true) ⊎ (p n ≡ false) → ((i : ℕ) → i < suc n → p i ≡ true) ⊎ ((i : ℕ) × (i < suc n) × (p i ≡ false) × ((j : ℕ) → j < i → p j ≡ true))
     at-end f (inl e) = inl (λ i h. elim (decLt i n) [ yes a ↦ f i a | no a ↦ (let q : i ≡ n = omega arith in ap p q ∙ e) ])
     at-end f (inr e) = inr (n, omega arith, e, f)
+
+-- an element other than the one at k that passes
+module _ {A : Type 0} (p : A → Bool) (xs : List A) (k : ℕ) (d : A) where
+  pub other-at : any p (removeAt k xs) ≡ true → (j : ℕ) × (j < length xs) × (j ≡ k → ⊥) × (p (getD xs j d) ≡ true)
+  other-at e = ⊎-elim (λ f. absurd (true≢false (sym e ∙ none-others-make p xs k d (λ j h ne. fails j ne (f j h))))) (λ (j, h, q, f). let (ne, e) = passes j q in (j, h, ne, e)) (first-failing test (length xs))
+    where
+      test : ℕ → Bool
+      test j = eqb j k || not (p (getD xs j d))
+
+      fails : (j : ℕ) → (j ≡ k → ⊥) → test j ≡ true → p (getD xs j d) ≡ false
+      fails j ne q = ⊎-elim (λ a. absurd (ne (eqb-true _ _ a))) (not-true _) (one-true (eqb j k) _ q)
+
+      passes : (j : ℕ) → test j ≡ false → (j ≡ k → ⊥) × (p (getD xs j d) ≡ true)
+      passes j q = let (a, b) = both-false (eqb j k) _ q in (eqb-false _ _ a, not-false _ b)
+
+  pub other-make : (j : ℕ) → j < length xs → (j ≡ k → ⊥) → p (getD xs j d) ≡ true → any p (removeAt k xs) ≡ true
+  other-make j h ne q = true-of _ (λ e. true≢false (sym q ∙ none-others p xs k d e j h ne))
 
 -- ---- a list made of a function
 module _ {A : Type 0} where

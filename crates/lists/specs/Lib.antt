@@ -4,6 +4,7 @@ pub mod First
 pub mod Pairs
 pub mod Places
 pub mod Rules
+pub mod Lines
 pub mod Room
 pub mod Words
 pub mod Bytes

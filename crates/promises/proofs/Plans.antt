@@ -52,11 +52,11 @@ module _ (lim : Limits) where
         by true e ne = absurd (ne (eqb-true _ _ e))
         by false e ne = refl
 
-    number-by : applied lim s o r .outcome .number ≡ o .number
+    pub outcome-by : applied lim s o r .outcome ≡ o
     unfolding applied either
-    number-by = by (eqb (o .number) 0)
+    outcome-by = by (eqb (o .number) 0)
       where
-        by : (b : Bool) → either b .outcome .number ≡ o .number
+        by : (b : Bool) → either b .outcome ≡ o
         by true = refl
         by false = refl
 
@@ -83,7 +83,7 @@ module _ (lim : Limits) where
           → cond c (applyRead lim s b o) (record { outcome = plain (standing lim (s .config) (s .table)) 0; state = s }) .outcome .number ≡ 0
           → (p : Plan) × PlanFor lim s b p × (s .edition ≡ lastEdition → ⊥) × (runOf lim s p .inner ≡ 0)
       by true h (got p t) g e =
-          let (f, last, inner) = accepted-for-base s p (runOf lim s p) (sym (number-by s (judged s p (runOf lim s p)) (runOf lim s p)) ∙ e) in
+          let (f, last, inner) = accepted-for-base s p (runOf lim s p) (sym (ap (λ (x : Outcome). x .number) (outcome-by s (judged s p (runOf lim s p)) (runOf lim s p))) ∙ e) in
           (p, (g ∙ ap (got p) (plan-ends lim b p t g), f), last, inner)
       by true h (bad k t) g e = absurd (plan-refuses lim b k t g e)
       by false h o g e = absurd (eqb-false _ _ h e)

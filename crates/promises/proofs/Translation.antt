@@ -29,7 +29,7 @@ use Rattle.rules.specs.declared.Side.{Side}
 use Rattle.rules.specs.declared.Side.the-variants.{Cpu, Iommu}
 use Rattle.rules.proofs.Addresses.{overlap-shared}
 use Rattle.rules.proofs.Closure.{state-some}
-use Rattle.rules.proofs.Keeps.{set-sound}
+use Rattle.rules.proofs.Keeps.{set-sound, SoundTable}
 use Rattle.rules.proofs.Regions.{equal-refl}
 use Rattle.rules.proofs.Tables.{overlap-same}
 use Rattle.rules.proofs.Translation.{covers-parts, parts-cover, lies-in, same-distance}
@@ -97,7 +97,7 @@ unfolding sideOf
 none-held Cpu = refl
 none-held Iommu = refl
 
-set-there : (t : List Zone) (id : ℕ) (side : Side) (i : ℕ) → i < length (setAt t (find id t) side) → present id t ≡ true
+pub set-there : (t : List Zone) (id : ℕ) (side : Side) (i : ℕ) → i < length (setAt t (find id t) side) → present id t ≡ true
 unfolding setAt
 set-there t id side i h =
     true-of (present id t)
@@ -118,9 +118,9 @@ held-by t k side r m = let (i, l, q) = held-at (regionsOf (getD t k noZone)) r (
     by Iommu h = inr h
 
 module _ (lim : Limits) where
-  pub only-one-covers : OnlyOneCovers lim
+  pub one-covers : (c : Configuration) (t : List Zone) → SoundTable lim c t → (z : ℕ) (side : Side) (a i j : ℕ) → z < length t → i < length (setAt t z side) → j < length (setAt t z side) → coversGuest a (getD (setAt t z side) i noRegion) ≡ true → coversGuest a (getD (setAt t z side) j noRegion) ≡ true → i ≡ j
   unfolding soundSet
-  only-one-covers s t ok z side a i j h li lj ci cj =
+  one-covers c t ok z side a i j h li lj ci cj =
       elim (decLt i j) [
         | yes l ↦ absurd (apart i j l lj ci cj)
         | no l ↦
@@ -129,10 +129,13 @@ module _ (lim : Limits) where
     where
       apart : (k m : ℕ) → k < m → m < length (setAt t z side) → coversGuest a (getD (setAt t z side) k noRegion) ≡ true → coversGuest a (getD (setAt t z side) m noRegion) ≡ true → ⊥
       apart k m l u ck cm =
-          let p = parts _ (set-sound lim (configOf s) t (table-ok lim s t ok) z side h) in
+          let p = parts _ (set-sound lim c t ok z side h) in
           true≢false
           (sym (overlap-shared _ _ _ _ .1 (a, (covers-parts a (getD (setAt t z side) k noRegion) ck, covers-parts a (getD (setAt t z side) m noRegion) cm)))
           ∙ not-true _ (pairs-at guestApart (setAt t z side) noRegion (p .1 .1 .0) k m l u))
+
+  pub only-one-covers : OnlyOneCovers lim
+  only-one-covers s t ok = one-covers (configOf s) t (table-ok lim s t ok)
 
   pub translation-is-exact : TranslationIsExact lim
   unfolding xs

@@ -6,6 +6,7 @@ pub mod Requests
 pub mod Closure
 pub mod Translation
 pub mod Plans
+pub mod Answers
 pub mod Editions
 pub mod Terminals
 pub mod Past

@@ -6,6 +6,7 @@ pub mod Tables
 pub mod Requests
 pub mod Keeps
 pub mod Stored
+pub mod Run
 pub mod Sections
 pub mod Translation
 pub mod Plan

@@ -2,11 +2,12 @@
 use Prim.Native.Nat.{ℕ, _^_, _≤_, _<_}
 use native.Mathlib.Omega.{arith}
 use mathlib.Core.List.{List, []}
+use mathlib.Core.Logic.{_⊎_, inl, inr}
 use mathlib.Core.Path.{_≡_, refl}
 use lib.ListN.{length}
 use Rattle.lists.specs.Bytes.{Bytes}
 use Rattle.formats.specs.Formats.{got, bad, number, both, as-type, many, listed, Format, All, ListFits}
-use Rattle.formats.proofs.Formats.{Lawful, lawful-number, lawful-both, lawful-field, lawful-as, lawful-many, lawful-headed, file-back, file-tight, file-refuses, file-ends}
+use Rattle.formats.proofs.Formats.{Told, Lawful, lawful-number, lawful-both, lawful-field, lawful-as, lawful-many, lawful-headed, file-back, file-tight, file-refuses, file-ends}
 use Rattle.formats.proofs.Spelled.{spelled-number, spelled-both, spelled-many, spelled-headed, Spelled}
 use Rattle.rules.specs.Limits.{Limits}
 use Rattle.rules.specs.Plan.{short, long, regionTo, regionFrom, regionNumbers, regionField, askedTo, askedFrom, askedField, marksTo, marksFrom, marksSection, regionsSection, setFormat, zoneTo, zoneFrom, zoneFormat, zonesSection, requestsSection, planTo, planFrom, planFormat, readPlan, encode, Short, Long, RegionFits, AskedFits, MarksFit, SetFits, ZoneFits, PlanFits, Asked, Plan}
@@ -69,7 +70,7 @@ module _ (l : Limits) where
   pub lawful-requests : Lawful (requestsSection l) Requests
   lawful-requests = lawful-list 0 (l .requests) askedField AskedFits lawful-asked
 
-  lawful-plan : Lawful (planFormat l) (PlanFits l)
+  pub lawful-plan : Lawful (planFormat l) (PlanFits l)
   lawful-plan =
       lawful-as (both marksSection (both (regionsSection l) (both (zonesSection l) (requestsSection l)))) (λ t. MarksFit (t .0) × (Regions (t .1 .0) × (Zones (t .1 .1 .0) × Requests (t .1 .1 .1))))
       (lawful-both marksSection (both (regionsSection l) (both (zonesSection l) (requestsSection l))) MarksFit (λ t. Regions (t .0) × (Zones (t .1 .0) × Requests (t .1 .1))) lawful-marks
@@ -86,9 +87,15 @@ module _ (l : Limits) where
   unfolding readPlan encode
   no-slack b p t h e = file-tight (planFormat l) (PlanFits l) lawful-plan b p t h e
 
+  -- no refusal has number 0
   pub plan-refuses : (b : List ℕ) (k : ℕ) (t : List ℕ) → readPlan l b ≡ bad k t → k ≡ 0 → ⊥
   unfolding readPlan
-  plan-refuses b k t e = file-refuses (planFormat l) (PlanFits l) lawful-plan b k t e
+  plan-refuses b k t e z = by (file-refuses (planFormat l) (PlanFits l) lawful-plan b k t e)
+    where
+      by : Told k ⊎ (k ≡ 22) → ⊥
+      by (inl (inl h)) = omega arith
+      by (inl (inr h)) = omega arith
+      by (inr h) = omega arith
 
 pub plan-ends : (l : Limits) (b : List ℕ) (p : Plan) (t : List ℕ) → readPlan l b ≡ got p t → t ≡ []
 unfolding readPlan

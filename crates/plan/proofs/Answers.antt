@@ -3,21 +3,21 @@ use Prim.Native.Nat.{ℕ, _+_, _-_, _*_, _/_, _≤_, _<_}
 use native.Mathlib.Omega.{arith}
 use mathlib.Core.Bool.{Bool, true, false, not}
 use mathlib.Core.List.{List, [], _∷_, _++_}
-use mathlib.Core.Path.{_≡_, refl, sym, ap, ap₂, subst, _∙_}
+use mathlib.Core.Path.{_≡_, refl, sym, ap, ap₂, _∙_}
 use lib.ListN.{length, drop, set, length-drop, replicate, replicate-append-replicate}
 use lib.Seq.{drop-drop}
 use Rattle.lists.specs.Places.{tab}
 use Rattle.lists.specs.Words.{counted}
 use Rattle.lists.proofs.Words.{counted-words}
-use Rattle.formats.specs.Formats.{Out, got, bad, then, readNumber, within, readCount, readBoth, readAs, readHeaded, readMany, number, both}
-use Rattle.formats.proofs.Formats.{then-got, listed-got}
+use Rattle.formats.specs.Formats.{Out, got, bad, then, readNumber, within, readCount, readBoth, readAs, readHeaded, readMany}
+use Rattle.formats.proofs.Formats.{listed-got}
 use Rattle.formats.proofs.Widths.{fields-there, fields-cut}
-use Rattle.rules.specs.Limits.{mostRegions, mostZones, mostInSet, mostRequests, limits}
-use Rattle.rules.specs.Plan.{regionField, askedField, marksSection, regionsSection, setFormat, zoneTo, zoneFormat, zonesSection, requestsSection}
+use Rattle.rules.specs.Limits.{mostRegions, mostZones, mostRequests, limits}
+use Rattle.rules.specs.Plan.{regionField, askedField, marksSection, regionsSection, zoneFormat, zonesSection, requestsSection}
 use Rattle.rules.specs.Regions.{noRegion}
 use Rattle.rules.specs.Run.{requestBytes}
-use Rattle.rules.specs.Tables.{Zone}
 use Rattle.rules.specs.declared.Region.{Region}
+use Rattle.rules.proofs.Sections.{sets-few}
 use Rattle.zones.specs.Layout.{regionWords, configWords, tableWords, configCount, configGic, configRecords}
 use Rattle.zones.specs.Records.{wordsOfRegion}
 use Rattle.zones.specs.Words.{wordsOfConfig}
@@ -123,22 +123,6 @@ module _ (s v : List ℕ) (gic : ℕ) (r : Section) (read : Reads s v r (setInto
       (λ i. record { section = ap End (place s e l) i; config = record { words = (m ∙ config-stored gic rs h) i } }) ∙ sym (ap (regionsAnswer gic (length s)) o)
 
 -- ---- the zones
-set-most : (b : List ℕ) (xs : List Region) (t : List ℕ) → setFormat limits .read b ≡ got xs t → length xs ≤ mostInSet
-set-most b xs t e = listed-got regionField (λ x. Unit {0}) (λ b x t e. tt) 4 0 mostInSet b xs t e .0
-
-pub sets-fit : (b : List ℕ) (z : Zone) (t : List ℕ) → zoneFormat limits .read b ≡ got z t → SetsFit z
-unfolding readAs readBoth
-sets-fit b z t e =
-    let (y, u, ey, e1) = then-got (readBoth (number 4) (both (setFormat limits) (setFormat limits)) b) (λ x t. got (zoneTo x) t) z t e in
-    let (id, v, ei, e2) = then-got (readNumber 4 b) (λ x s. then (readBoth (setFormat limits) (setFormat limits) s) (λ w t. got (x, w) t)) y u ey in
-    let (w, v2, ew, e3) = then-got (readBoth (setFormat limits) (setFormat limits) v) (λ w t. got (id, w) t) y u e2 in
-    let (xs, v3, ex, e4) = then-got (setFormat limits .read v) (λ x s. then (setFormat limits .read s) (λ y t. got (x, y) t)) w v2 ew in
-    let (ys, v4, ey2, e5) = then-got (setFormat limits .read v3) (λ y t. got (xs, y) t) w v2 e4 in
-    let c : length xs ≤ mostInSet = set-most v xs v3 ex in
-    let d : length ys ≤ mostInSet = set-most v3 ys v4 ey2 in
-    let q : zoneTo (id, (xs, ys)) ≡ z = cc in
-    subst SetsFit q (c, d)
-
 module _ (s v : List ℕ) (r : Section) (read : Reads s v r (zonesInto (replicate tableWords 0) s)) where
   pub zones-bad : (k at : ℕ) → r ≡ Bad k at → _≡_ {A = Zones} (record { section = r; table = noTable }) (zonesAnswer (length s) (zonesSection limits .read s))
   unfolding sectionAnswer tableAnswer
@@ -150,7 +134,7 @@ module _ (s v : List ℕ) (r : Section) (read : Reads s v r (zonesInto (replicat
   unfolding sectionAnswer tableAnswer
   zones-are e f =
       let (zs, o, m, l) = reads-end _ _ s v r _ (zones-agree (replicate tableWords 0) s) read e f in
-      let (h, g) = listed-got (zoneFormat limits) SetsFit sets-fit 4 0 mostZones s zs (drop e s) o in
+      let (h, g) = listed-got (zoneFormat limits) SetsFit (sets-few limits) 4 0 mostZones s zs (drop e s) o in
       (λ i. record { section = ap End (place s e l) i; table = record { words = (m ∙ zones-stored zs g h) i } }) ∙ sym (ap (zonesAnswer (length s)) o)
 
 -- ---- the requests: all of one width

@@ -11,13 +11,13 @@ use Rattle.lists.specs.Bytes.{little}
 use Rattle.lists.specs.Places.{places, tab}
 use Rattle.lists.specs.Words.{part}
 use Rattle.lists.proofs.Tests.{same-test, parts, whole}
-use Rattle.formats.specs.Formats.{Out, got, left, both, All}
-use Rattle.formats.proofs.Formats.{Part, both-got, as-got, file-got, listed-got}
+use Rattle.formats.specs.Formats.{Out, got, left, All}
+use Rattle.formats.proofs.Formats.{Part}
 use Rattle.rules.specs.Applying.{sameList, sameZone, sameConfig}
 use Rattle.rules.specs.Changes.{setAt}
 use Rattle.rules.specs.Configuration.{Configuration}
 use Rattle.rules.specs.Limits.{mostRegions, mostZones, mostInSet, limits}
-use Rattle.rules.specs.Plan.{regionField, zoneFormat, planTo, planFrom, marksSection, regionsSection, zonesSection, requestsSection, planFormat, requestsOf, readPlan, Asked, Marks, Plan}
+use Rattle.rules.specs.Plan.{requestsOf, readPlan, Asked, Marks, Plan}
 use Rattle.rules.specs.Regions.{regionEq}
 use Rattle.rules.specs.Requests.{standing}
 use Rattle.rules.specs.Run.{makeRequest, requestBytes, requestFrom, requestsIn}
@@ -28,13 +28,13 @@ use Rattle.rules.specs.declared.Side.the-variants.{Cpu, Iommu}
 use Rattle.rules.proofs.Applying.{same-list, list-same, same-zone, zone-same}
 use Rattle.rules.proofs.Plan.{lawful-marks, lawful-regions, lawful-zones}
 use Rattle.rules.proofs.Regions.{equal-same, equal-refl}
+use Rattle.rules.proofs.Sections.{sections as sections-read, few-regions as regions-few, few-zones as zones-few, Sections}
 use Rattle.rules.proofs.Stored.{stands-well}
 use Rattle.zones.specs.Layout.{configWords, tableWords}
 use Rattle.zones.specs.View.{storedConfig, storedTable, configIn, zonesIn}
 use Rattle.zones.specs.Words.{wordsOfConfig, wordsOf, Within}
 use Rattle.zones.proofs.Focus.{view-words}
 use Rattle.zones.proofs.Stepping.{stands-same, stands-ready}
-use Rattle.plan.proofs.Answers.{sets-fit}
 use Rattle.plan.proofs.Fields.{askedIn}
 use Rattle.plan.proofs.Comparing.{same-words, words-same}
 use Rattle.plan.proofs.Spelling.{config-in, config-spelled}
@@ -43,31 +43,15 @@ use Rattle.plan.proofs.Whole.{requests-read}
 
 -- ---- the sections of a plan that reads whole, and what each of them leaves
 module _ (b : List ℕ) (p : Plan) (t : List ℕ) (e : readPlan limits b ≡ got p t) where
-  pub record Sections : Type 0 where
-    pub afterMarks : List ℕ
-    pub afterRegions : List ℕ
-    pub afterZones : List ℕ
-    pub marks : marksSection .read b ≡ got (p .marks) afterMarks
-    pub regions : regionsSection limits .read afterMarks ≡ got (p .regions) afterRegions
-    pub zones : zonesSection limits .read afterRegions ≡ got (p .zones) afterZones
-    pub requests : requestsSection limits .read afterZones ≡ got (p .asked) []
-
-  pub sections : Sections
-  unfolding readPlan
-  sections =
-      let f0 = file-got (planFormat limits) b p t e in
-      let f1 = as-got (both marksSection (both (regionsSection limits) (both (zonesSection limits) (requestsSection limits)))) planTo planFrom (λ x. refl) b p [] f0 in
-      let (v1, em, f2) = both-got marksSection (both (regionsSection limits) (both (zonesSection limits) (requestsSection limits))) b (p .marks) (p .regions, (p .zones, p .asked)) [] f1 in
-      let (v2, er, f3) = both-got (regionsSection limits) (both (zonesSection limits) (requestsSection limits)) v1 (p .regions) (p .zones, p .asked) [] f2 in
-      let (v3, ez, eq) = both-got (zonesSection limits) (requestsSection limits) v2 (p .zones) (p .asked) [] f3 in
-      record { afterMarks = v1; afterRegions = v2; afterZones = v3; marks = em; regions = er; zones = ez; requests = eq }
+  sections : Sections limits b p t e
+  sections = sections-read limits b p t e
 
   -- counts within limits
   pub few-regions : length (p .regions) ≤ mostRegions
-  few-regions = listed-got regionField (λ x. Unit {0}) (λ b x t e. tt) 4 1 mostRegions _ _ _ (sections .regions) .0
+  few-regions = regions-few limits b p t e
 
   zones-fit : (length (p .zones) ≤ mostZones) × All SetsFit (p .zones)
-  zones-fit = listed-got (zoneFormat limits) SetsFit sets-fit 4 0 mostZones _ _ _ (sections .zones)
+  zones-fit = zones-few limits b p t e
 
   pub zones-within : Within (p .zones)
   unfolding setAt sideOf

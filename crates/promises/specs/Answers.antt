@@ -61,7 +61,7 @@ MeetsPhys r x = Shared (r .p .0) (r .size) (x .p .0) (x .size)
 abbrev pub MeetsGuest : Region → Region → Type 0
 MeetsGuest r x = Shared (r .v .0) (r .size) (x .v .0) (x .size)
 
--- some region of the set, or of what the zone at z holds, does
+-- some region of a set is such a one; some zone is, with its position
 abbrev pub SomeIn : List Region → (Region → Type 0) → Type 0
 SomeIn xs P = (x : Region) × In x xs × P x
 

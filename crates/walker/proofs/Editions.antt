@@ -14,7 +14,7 @@ use Rattle.formats.proofs.Formats.{then-got, count-got}
 use Rattle.formats.proofs.Widths.{wide-number}
 use Rattle.rules.specs.Limits.{limits}
 use Rattle.rules.specs.Plan.{short, marksTo, marksFrom, marksSection, readPlan, Marks, Plan}
-use Rattle.plan.proofs.Bases.{sections}
+use Rattle.rules.proofs.Sections.{sections}
 use Rattle.walker.specs.Walker.{foundOf, placeOf, stepAt, editionOf}
 use Rattle.walker.specs.declared.Found.{Found}
 use Rattle.walker.specs.declared.Found.the-variants.{Number, Missing}
@@ -94,4 +94,4 @@ marks-edition b m t e =
 
 -- so of every plan that reads whole
 pub plan-edition : (b : List ℕ) (p : Plan) (t : List ℕ) → readPlan limits b ≡ got p t → editionOf b ≡ Number (p .marks .edition)
-plan-edition b p t e = let h = sections b p t e in marks-edition b (p .marks) (h .afterMarks) (h .marks)
+plan-edition b p t e = let h = sections limits b p t e in marks-edition b (p .marks) (h .afterMarks) (h .marks)

@@ -434,6 +434,10 @@ module _ (lim : Limits) where
     unfolding standingAs firstRule
     past-standing say vs x = rw (not-holds _ (ap isSound (ok .config) ∙ sound-is), not-holds _ (ok .table))
 
+    none-told : standing lim c t ≡ 0
+    unfolding standingRules standingAs firstRule
+    none-told = past-standing (λ n. n) [] 0
+
     inside-request : (q : Request) → answer lim c t q ≡ refusal lim (configOf c) (tableOf t) q
     unfolding answer standingRules standingAs firstRule
     inside-request q = past-standing (λ n. n) [] (refusal lim (configOf c) (tableOf t) q)
@@ -447,7 +451,7 @@ module _ (lim : Limits) where
     inside-run qs = let r : Outcome = ended (run lim (configOf c) (tableOf t) qs) in standing-as c t (λ n. plain n 0) r ∙ past-standing (λ n. plain n 0) [] r
 
   pub standing-is-inside : StandingIsInside lim
-  standing-is-inside c t ok = record { request = inside-request c t ok; address = inside-address c t ok; requests = inside-run c t ok }
+  standing-is-inside c t ok = record { none = none-told c t ok; request = inside-request c t ok; address = inside-address c t ok; requests = inside-run c t ok }
 
   -- ---- the configuration's check, in numbers
   finds : (s : StoredConfig) (f : Checked) → Means lim s f → Finds lim s (checkNumber f) (checkPlace f) (checkEarlier f)

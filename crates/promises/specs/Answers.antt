@@ -15,7 +15,7 @@ use Rattle.rules.specs.Changes.{setAt}
 use Rattle.rules.specs.Configuration.{gicOf, configOf, check, checkNumber, checkPlace, checkEarlier, Configuration, StoredConfig}
 use Rattle.rules.specs.Limits.{highestId, pageOf, Limits}
 use Rattle.rules.specs.Plan.{planFormat, requestsOf, Plan}
-use Rattle.rules.specs.Requests.{find, refusal, next, answer}
+use Rattle.rules.specs.Requests.{find, refusal, next, standing, answer}
 use Rattle.rules.specs.Run.{run, ended, runAnswer}
 use Rattle.rules.specs.Tables.{noZone, regionsOf, tableOf, checkTable, Zone, StoredTable}
 use Rattle.rules.specs.Translation.{translation, translated}
@@ -96,6 +96,7 @@ kindLines l c t id NoRequest = []
 abbrev pub RequestSays : Limits → Configuration → List Zone → Request → ℕ → Type 0
 RequestSays l c t q = FirstOf (3 given (q .kind ≡ NoRequest) ∷ 4 given (highestId < q .zone) ∷ kindLines l c t (q .zone) (q .kind)) (λ n. 0 ≡ n)
 
+-- the number of a request at a table that stands
 abbrev pub RefusalIsExact : Limits → Type 0
 RefusalIsExact l = (c : Configuration) (t : List Zone) (q : Request) → Exactly (refusal l c t q) (RequestSays l c t q)
 
@@ -112,9 +113,11 @@ nowhere n = record { number = n; phys = record { 0 = 0 } }
 abbrev pub translationLines : List Zone → ℕ → Side → ℕ → List (Line Translated)
 translationLines t id s a = nowhere 4 given (highestId < id) ∷ nowhere 6 given (HasZone id t → ⊥) ∷ nowhere 18 given (SomeIn (setAt t (find id t) s) (λ r. CoversGuest r a) → ⊥) ∷ []
 
+-- the region that covers the address puts it there
 abbrev pub ComesOut : List Zone → ℕ → Side → ℕ → Translated → Type 0
 ComesOut t id s a o = (r : Region) × In r (setAt t (find id t) s) × CoversGuest r a × (record { number = 0; phys = record { 0 = r .p .0 + (a - r .v .0) } } ≡ o)
 
+-- from outside
 abbrev pub TranslatedIsExact : Limits → Type 0
 TranslatedIsExact l = (c : StoredConfig) (t : StoredTable) (id : ℕ) (s : Side) (a : Guest) → Exactly (translated l c t id s a) (FirstOf (standingLines nowhere l c t) (FirstOf (translationLines (tableOf t) id s (a .0)) (ComesOut (tableOf t) id s (a .0))))
 
@@ -132,6 +135,7 @@ pub data Ends (l : Limits) (c : Configuration) (t : List Zone) (qs : List Reques
   allAccepted : ((j : ℕ) → j < length qs → numberOf l c t qs j ≡ 0) → Ends l c t qs (plain 0 (length qs))
   twentySeven : (i : ℕ) → i < length qs → ((j : ℕ) → j < i → numberOf l c t qs j ≡ 0) → (numberOf l c t qs i ≡ 0 → ⊥) → Ends l c t qs (record { number = 27; place = i; inner = numberOf l c t qs i })
 
+-- from outside
 abbrev pub RunAnswerIsExact : Limits → Type 0
 RunAnswerIsExact l = (c : StoredConfig) (t : StoredTable) (qs : List Request) → Exactly (runAnswer l c t qs) (FirstOf (standingLines (λ n. plain n 0) l c t) (Ends l (configOf c) (tableOf t) qs))
 
@@ -156,13 +160,15 @@ baseLines s p =
 abbrev pub AtTerminal : Limits → Terminal → Plan → Outcome → Type 0
 AtTerminal l s p = FirstOf (baseLines s p) (Ends l (configOf (s .config)) (tableOf (s .table)) (requestsOf p))
 
+-- at a terminal: 1 and 2 of its own state, before any byte is read
 abbrev pub ApplyIsExact : Limits → Type 0
 ApplyIsExact l = (s : Terminal) (b : List ℕ) → Exactly (apply l s b .outcome) (FirstOf (standingLines (λ n. plain n 0) l (s .config) (s .table)) (Reading l b (AtTerminal l s)))
 
--- alone: 20, 21, 22; then 1 and 2 of the plan's own base, 25, and 27 or 0 by its own configuration and zones
+-- a plan alone: 1 and 2 of its own base, 25, and 27 or 0 by its own configuration and zones
 abbrev pub Alone : Limits → Plan → Outcome → Type 0
 Alone l p = FirstOf (standingLines (λ n. plain n 0) l (baseOf l p .config) (baseOf l p .table)) (FirstOf (plain 25 0 given (p .marks .edition ≡ lastEdition) ∷ []) (Ends l (record { regions = p .regions; gic = p .marks .gic }) (p .zones) (requestsOf p)))
 
+-- alone: 20, 21, 22 come first
 abbrev pub AloneIsExact : Limits → Type 0
 AloneIsExact l = (b : List ℕ) → Exactly (answerAlone l b) (Reading l b (Alone l))
 
@@ -172,10 +178,12 @@ NeverAlone l = (b : List ℕ) → (answerAlone l b .number ≡ 23 → ⊥) × (a
 
 -- ---- where neither 1 nor 2 applies, the outside forms are the inner ones
 pub record OutsideIsInside (l : Limits) (c : StoredConfig) (t : StoredTable) : Type 0 where
+  pub none : standing l c t ≡ 0
   pub request : (q : Request) → answer l c t q ≡ refusal l (configOf c) (tableOf t) q
   pub address : (id : ℕ) (s : Side) (a : Guest) → translated l c t id s a ≡ translation (tableOf t) id s (a .0)
   pub requests : (qs : List Request) → runAnswer l c t qs ≡ ended (run l (configOf c) (tableOf t) qs)
 
+-- for every configuration and table that stand
 abbrev pub StandingIsInside : Limits → Type 0
 StandingIsInside l = (c : StoredConfig) (t : StoredTable) → Stands l c t → OutsideIsInside l c t
 
@@ -189,5 +197,6 @@ pub data Finds (l : Limits) (s : StoredConfig) : ℕ → ℕ → ℕ → Type 0 
   c5 : (i : ℕ) → Means l s (OutOfReach i) → Finds l s 5 i 0
   c6 : (i k : ℕ) → Means l s (Overlap i k) → Finds l s 6 i k
 
+-- number, place and earlier place are told exactly when that is found; a stored configuration has a record for each region that there is room for
 abbrev pub CheckNumbersAreExact : Limits → Type 0
 CheckNumbersAreExact l = (s : StoredConfig) → length (s .records) ≡ l .regions → (n i k : ℕ) → ((checkNumber (check l s) ≡ n) × (checkPlace (check l s) ≡ i) × (checkEarlier (check l s) ≡ k)) ↔ Finds l s n i k

@@ -4,11 +4,11 @@ use mathlib.Core.List.{List, []}
 use mathlib.Core.Path.{_≡_}
 use lib.ListN.{length, take}
 use Rattle.lists.specs.Bytes.{Bytes}
-use Rattle.formats.specs.Formats.{got}
+use Rattle.formats.specs.Formats.{got, bad}
 use Rattle.rules.specs.Applying.{lastEdition, store, plain, apply, answerAlone, Terminal, ForBase}
 use Rattle.rules.specs.Configuration.{configOf}
 use Rattle.rules.specs.Limits.{Limits, Sayable}
-use Rattle.rules.specs.Plan.{requestsOf, readPlan, encode, PlanFits, Plan}
+use Rattle.rules.specs.Plan.{marksSection, requestsOf, readPlan, encode, PlanFits, Plan}
 use Rattle.rules.specs.Requests.{standing}
 use Rattle.rules.specs.Run.{run, Run}
 use Rattle.rules.specs.Sizes.{longestSize, leastSize}
@@ -42,6 +42,13 @@ AcceptedIsPlan l = (s : Terminal) (b : List ℕ) → apply l s b .outcome .numbe
 abbrev pub PlanIsAccepted : Limits → Type 0
 PlanIsAccepted l = (s : Terminal) (b : List ℕ) (p : Plan) → standing l (s .config) (s .table) ≡ 0 → PlanFor l s b p → (s .edition ≡ lastEdition → ⊥) → runOf l s p .inner ≡ 0
     → apply l s b ≡ record { outcome = plain 0 (length (requestsOf p)); state = record { config = s .config; table = store l (runOf l s p .table); edition = s .edition + 1 } }
+
+-- the marks section alone says which edition a plan is for
+pub record MarksTell (l : Limits) : Type 0 where
+  -- a plan that reads whole has the marks that the section says
+  pub whole : (b : List ℕ) (p : Plan) → readPlan l b ≡ got p [] → (t : List ℕ) × (marksSection .read b ≡ got (p .marks) t)
+  -- and marks that are refused are the plan's first fault
+  pub refused : (b : List ℕ) (k : ℕ) (t : List ℕ) → marksSection .read b ≡ bad k t → readPlan l b ≡ bad k t
 
 -- no shorter than the least plan and no longer than the longest, as the limits give them
 abbrev pub OfPlanLength : Limits → List ℕ → Type 0

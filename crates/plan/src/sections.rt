@@ -44,7 +44,7 @@ pub struct Zones {
 }
 
 // There are two marks.
-const MARKS: u32 = 2;
+pub const MARKS: u32 = 2;
 
 // Marks: the GIC's position and the base edition.
 pub fn read_marks(s: &[u8]) -> Marks

@@ -1,5 +1,5 @@
 -- Plans.
-use Prim.Native.Nat.{ℕ, suc, _+_, _-_, _≤_, _<_}
+use Prim.Native.Nat.{ℕ, suc, _+_, _-_, _<_}
 use native.Mathlib.Decide.{decLt}
 use native.Mathlib.Omega.{arith}
 use mathlib.Core.Bool.{Bool, true, false, cond}
@@ -12,9 +12,8 @@ use lib.Seq.{take-all}
 use Rattle.formats.specs.Formats.{got, bad, Out, then, both, readBoth, readAs, readFile}
 use Rattle.rules.specs.Applying.{lastEdition, plain, judged, moved, applied, applyRead, apply, answerRead, answerAlone, Terminal, Applied}
 use Rattle.rules.specs.Configuration.{configOf, Configuration}
-use Rattle.formats.proofs.Formats.{both-got, as-got, file-got}
-use Rattle.rules.specs.Limits.{Limits, Sayable}
-use Rattle.rules.specs.Plan.{marksSection, regionsSection, zonesSection, requestsSection, planTo, planFrom, planFormat, requestsOf, readPlan, Plan}
+use Rattle.rules.specs.Limits.{Limits}
+use Rattle.rules.specs.Plan.{requestsOf, readPlan, Plan}
 use Rattle.rules.specs.Requests.{refusal, next, standing}
 use Rattle.rules.specs.Run.{runFrom, Run}
 use Rattle.rules.specs.Sizes.{longestSize, planWith}
@@ -24,6 +23,7 @@ use Rattle.rules.specs.declared.Request.{Request}
 use Rattle.rules.proofs.Applying.{accepted-for-base, for-base-accepted}
 use Rattle.rules.proofs.Plan.{plan-refuses, plan-ends}
 use Rattle.rules.proofs.Stored.{stands-well, stored-stands, run-from-keeps}
+use Rattle.rules.proofs.Sections.{sections}
 use Rattle.rules.proofs.Sizes.{least-length, most-length, whole-length, counts-length, counts-fit, plan-past}
 use Rattle.promises.specs.Plans.{PlanFor, runOf, RefusalStays, ConfigurationStays, ApplyKeepsSound, AcceptedIsPlan, PlanIsAccepted, PlanLengths, PastTheLongest, MarksTell}
 
@@ -128,17 +128,9 @@ module _ (lim : Limits) where
       apply-keeps s (λ u. standing lim (u .config) (u .table) ≡ 0) st b (λ p. stored-stands lim (s .config) (runOf lim s p .table) c (run-from-keeps lim (configOf (s .config)) 0 (tableOf (s .table)) (requestsOf p) t))
 
   -- ---- the marks
-  marks-of-whole : (b : List ℕ) (p : Plan) → readPlan lim b ≡ got p [] → (t : List ℕ) × (marksSection .read b ≡ got (p .marks) t)
-  unfolding readPlan
-  marks-of-whole b p e =
-      let later = both (regionsSection lim) (both (zonesSection lim) (requestsSection lim)) in
-      let f = as-got (both marksSection later) planTo planFrom (λ x. refl) b p [] (file-got (planFormat lim) b p [] e) in
-      let (t, m, _) = both-got marksSection later b (p .marks) (planFrom p .1) [] f in
-      (t, m)
-
   pub marks-tell : MarksTell lim
   unfolding readPlan readFile readAs readBoth then
-  marks-tell = record { whole = marks-of-whole; refused = λ b k t e. rw e }
+  marks-tell = record { whole = λ b p e. let h = sections lim b p [] e in (h .afterMarks, h .marks); refused = λ b k t e. rw e }
 
   -- ---- lengths
   pub plan-lengths : PlanLengths lim

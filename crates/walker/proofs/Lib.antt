@@ -1,3 +1,3 @@
--- Laws that the proofs of the functions cite, and what the edition found is.
+-- Laws that the proofs of the functions cite.
 pub mod Steps
 pub mod Editions

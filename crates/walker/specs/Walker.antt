@@ -15,13 +15,13 @@ foundOf (got n left) = Number n
 foundOf (bad k left) = Missing
 
 -- past a number that is there, and nowhere else
-unfoldable pub placeOf : ℕ → Out ℕ → ℕ
-placeOf at (got n left) = at + 4
-placeOf at (bad k left) = at
+unfoldable pub placeBehind : ℕ → Out ℕ → ℕ
+placeBehind at (got n left) = at + 4
+placeBehind at (bad k left) = at
 
 -- at any place of b, also past its end
 unfoldable pub stepAt : List ℕ → ℕ → Step
-stepAt b at = record { found = foundOf (readNumber 4 (drop at b)); at = placeOf at (readNumber 4 (drop at b)) }
+stepAt b at = record { found = foundOf (readNumber 4 (drop at b)); at = placeBehind at (readNumber 4 (drop at b)) }
 
 -- ---- walkers
 abbrev pub startOf : RefT (List ℕ) → Walker
@@ -29,9 +29,7 @@ startOf plan = record { plan = plan; at = 0 }
 
 -- the lent bytes stay the same
 abbrev pub nextOf : Walker → Next
-nextOf w = record { found = stepAt (now (w .plan)) (w .at) .found; walker = record { plan = w .plan; at = stepAt (now (w .plan)) (w .at) .at } }
-
--- ---- the edition that a plan is for: the third number of 4 bytes, whatever the first says. Of a plan that reads whole it is the edition of its marks
--- (proofs/Editions)
-unfoldable pub editionOf : List ℕ → Found
-editionOf b = foundOf (readNumber 4 (drop 8 b))
+nextOf w = record {
+  found = stepAt (now (w .plan)) (w .at) .found;
+  walker = record { plan = w .plan; at = stepAt (now (w .plan)) (w .at) .at };
+}

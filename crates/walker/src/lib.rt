@@ -1,11 +1,18 @@
-// A walker over a plan: the lent bytes and the place in them, kept together. The reading is in `step_at`, whose parameters are plain; the
-// methods only take the walker apart.
+// A walker over a plan: the lent bytes and the place in them, kept together. The reading is in `step_at` and the judging in `judge`, whose
+// parameters are plain; the walker's own functions only take it apart and pass it on.
 use fields::u32_at;
+use plan::MARKS;
+use plan::NUMBER_BYTES;
+use rules::numbers::COUNT;
+use rules::numbers::CUT;
 ghost use mathlib.Core.Path.{_≡_};
-ghost use Rattle.walker.specs.Walker.{stepAt, startOf, nextOf, editionOf};
+ghost use Rattle.walker.specs.Walker.{stepAt, startOf, nextOf};
+ghost use Rattle.walker.specs.Edition.{judged, editionOf};
 
-// A count, a mark or an id has 4 bytes.
-const NUMBER_BYTES: usize = 4;
+// Where the two marks stand, behind their count.
+const GIC_AT: usize = NUMBER_BYTES;
+
+const EDITION_AT: usize = 2 * NUMBER_BYTES;
 
 pub struct Walker<'a> {
     pub plan: &'a [u8],
@@ -19,9 +26,9 @@ pub enum Found {
 }
 
 // What is found at a place, and the place behind it; where it is missing, the same place.
-pub struct Step {
-    pub found: Found,
-    pub at: usize,
+struct Step {
+    found: Found,
+    at: usize,
 }
 
 // What a walker finds, and the walker at the place behind it.
@@ -30,8 +37,14 @@ pub struct Next<'a> {
     pub walker: Walker<'a>,
 }
 
+// The base edition that a plan's marks name; or a refusal and its offset.
+pub enum Edition {
+    Is(u32),
+    Bad { number: u32, at: usize },
+}
+
 // At any place, also past the end: a sum that could wrap is never made.
-pub fn step_at(plan: &[u8], at: usize) -> Step
+fn step_at(plan: &[u8], at: usize) -> Step
     ensures { λ r. ⌜ r ≡ stepAt (now (plan .entry)) at ⌝ }
 {
     if at > plan.len() {
@@ -57,12 +70,6 @@ impl<'a> Walker<'a> {
         Walker { plan, at: 0 }
     }
 
-    pub fn at(self) -> usize
-        ensures { λ n. ⌜ n ≡ self .entry .at ⌝ }
-    {
-        self.at
-    }
-
     // The number at the walker's place.
     pub fn next(self) -> Next<'a>
         ensures { λ r. ⌜ r ≡ nextOf (self .entry) ⌝ }
@@ -76,21 +83,42 @@ impl<'a> Walker<'a> {
             },
         }
     }
-
-    // The same, of a walker that is lent.
-    pub fn advance(&mut self) -> Found
-        ensures { λ r. ⌜ (r ≡ nextOf (now (self .entry)) .found) × (now (self .exit) ≡ nextOf (now (self .entry)) .walker) ⌝ }
-    {
-        let step = step_at(self.plan, self.at);
-        self.at = step.at;
-        step.found
-    }
 }
 
-// The edition that a plan is for, its second mark: behind the marks' count and the GIC's position. A walker that misses a number stays, so
-// it misses the next one too.
-pub fn edition_of(plan: &[u8]) -> Found
+// The three numbers at a plan's start, in the order of the file: the count is judged before the marks are looked at.
+fn judge(count: Found, gic: Found, edition: Found) -> Edition
+    ensures { λ r. ⌜ r ≡ judged count gic edition ⌝ }
+{
+    let Found::Number(marks) = count else {
+        return Edition::Bad { number: CUT, at: 0 };
+    };
+    if marks != MARKS {
+        return Edition::Bad {
+            number: COUNT,
+            at: 0,
+        };
+    }
+    let Found::Number(_) = gic else {
+        return Edition::Bad {
+            number: CUT,
+            at: GIC_AT,
+        };
+    };
+    let Found::Number(named) = edition else {
+        return Edition::Bad {
+            number: CUT,
+            at: EDITION_AT,
+        };
+    };
+    Edition::Is(named)
+}
+
+// The base edition that a plan is for, by its marks alone: nothing behind them is looked at.
+pub fn edition_of(plan: &[u8]) -> Edition
     ensures { λ r. ⌜ r ≡ editionOf (now (plan .entry)) ⌝ }
 {
-    Walker::new(plan).next().walker.next().walker.next().found
+    let count = Walker::new(plan).next();
+    let gic = count.walker.next();
+    let edition = gic.walker.next();
+    judge(count.found, gic.found, edition.found)
 }

@@ -180,6 +180,14 @@ uint32_t peatmitten_translate(const uint64_t config[PEATMITTEN_CONFIG_WORDS], co
                               uint32_t zone, uint32_t side, uint64_t address, uint64_t physical[1]);
 
 /*
+ * Says which base edition a plan is for, before anything else of it is looked at: a terminal at a lower edition has missed the plans
+ * between. Answers 0, 20 or 21 (peatmitten_answer). answer[0] is the edition on 0, else the offset of the fault.
+ * The plan's marks alone are read, its first 12 bytes; what follows them may still be no plan.
+ * `plan` points to `length` bytes; it must not be null even where the length is 0.
+ */
+uint32_t peatmitten_edition(const uint8_t *plan, size_t length, uint64_t answer[1]);
+
+/*
  * Reads a plan, without a terminal. Answers 0, 20, 21 or 22 (peatmitten_answer).
  * place[0] is the offset of the fault or, on 0, that of the first request record (the plan's length, where it has no request).
  * `plan` points to `length` bytes; it must not be null even where the length is 0.

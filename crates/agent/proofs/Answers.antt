@@ -22,7 +22,10 @@ use Rattle.plan.specs.Read.{readAnswer}
 use Rattle.plan.specs.declared.read.Read.{Read}
 use Rattle.plan.specs.declared.words.Section.{Section}
 use Rattle.plan.specs.declared.words.Section.the-variants.{End, Bad}
-use Rattle.agent.specs.Agent.{placesOf, yesOrNo, sideOf, numberOf, placeOf, readNumber, readPlace}
+use Rattle.walker.specs.Edition.{editionOf}
+use Rattle.walker.specs.declared.Edition.{Edition}
+use Rattle.walker.specs.declared.Edition.the-variants.{Is, Bad as BadEdition}
+use Rattle.agent.specs.Agent.{placesOf, yesOrNo, sideOf, numberOf, placeOf, readNumber, readPlace, editionNumber, editionValue}
 
 -- one word, and two
 pub one-word : (w : List ℕ) (x : ℕ) → length w ≡ 1 → set w 0 x ≡ x ∷ []
@@ -94,3 +97,21 @@ module _ (b : List ℕ) (r : Read) (er : r ≡ readAnswer (length b) (readPlan l
   pub read-end-place : (a : ℕ) (u : List ℕ) → r .section ≡ End a → u ≡ a ∷ [] → u ≡ readPlace b ∷ []
   unfolding placeOf
   read-end-place a u f l = l ∙ ap (λ (x : Section). placeOf x ∷ []) (sym f ∙ told)
+
+-- a plan's base edition: r is what the walker answered
+module _ (b : List ℕ) (r : Edition) (er : r ≡ editionOf b) where
+  pub edition-bad : (k a : ℕ) → r ≡ BadEdition k a → k ≡ editionNumber (editionOf b)
+  unfolding editionNumber
+  edition-bad k a f = ap editionNumber (sym f ∙ er)
+
+  pub edition-bad-place : (k a : ℕ) (u : List ℕ) → r ≡ BadEdition k a → u ≡ a ∷ [] → u ≡ editionValue (editionOf b) ∷ []
+  unfolding editionValue
+  edition-bad-place k a u f l = l ∙ ap (λ (x : Edition). editionValue x ∷ []) (sym f ∙ er)
+
+  pub edition-is : (e : ℕ) → r ≡ Is e → 0 ≡ editionNumber (editionOf b)
+  unfolding editionNumber
+  edition-is e f = ap editionNumber (sym f ∙ er)
+
+  pub edition-is-named : (e : ℕ) (u : List ℕ) → r ≡ Is e → u ≡ e ∷ [] → u ≡ editionValue (editionOf b) ∷ []
+  unfolding editionValue
+  edition-is-named e u f l = l ∙ ap (λ (x : Edition). editionValue x ∷ []) (sym f ∙ er)

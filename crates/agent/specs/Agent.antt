@@ -13,6 +13,8 @@ use Rattle.rules.specs.declared.Side.the-variants.{Cpu, Iommu}
 use Rattle.plan.specs.Read.{readAnswer}
 use Rattle.plan.specs.declared.words.Section.{Section}
 use Rattle.plan.specs.declared.words.Section.the-variants.{End, Bad}
+use Rattle.walker.specs.declared.Edition.{Edition}
+use Rattle.walker.specs.declared.Edition.the-variants.{Is, Bad as BadEdition}
 
 -- the two places of a configuration's check
 unfoldable pub placesOf : Checked → List ℕ
@@ -39,3 +41,12 @@ readNumber b = numberOf (readAnswer (length b) (readPlan limits b) .section)
 
 abbrev pub readPlace : List ℕ → ℕ
 readPlace b = placeOf (readAnswer (length b) (readPlan limits b) .section)
+
+-- of a plan's base edition: the number, and the edition or an offset
+unfoldable pub editionNumber : Edition → ℕ
+editionNumber (Is e) = 0
+editionNumber (BadEdition k at) = k
+
+unfoldable pub editionValue : Edition → ℕ
+editionValue (Is e) = e
+editionValue (BadEdition k at) = at

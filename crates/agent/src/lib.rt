@@ -8,6 +8,8 @@ use rules::Outcome;
 use rules::Phys;
 use rules::Region;
 use rules::Side;
+use walker::Edition;
+use walker::edition_of;
 use zones::CONFIG_WORDS;
 use zones::Config;
 use zones::TABLE_WORDS;
@@ -31,7 +33,8 @@ ghost use Rattle.rules.specs.Translation.{translated};
 ghost use Rattle.zones.specs.Step.{Stepped};
 ghost use Rattle.zones.specs.View.{storedConfig, storedTable};
 ghost use Rattle.terminal.specs.Terminal.{Applies};
-ghost use Rattle.agent.specs.Agent.{placesOf, yesOrNo, sideOf, readNumber, readPlace};
+ghost use Rattle.walker.specs.Edition.{editionOf};
+ghost use Rattle.agent.specs.Agent.{placesOf, yesOrNo, sideOf, readNumber, readPlace, editionNumber, editionValue};
 
 // The number of a configuration's check, 1 to 6 for C1 to C6; and its two places.
 #[no_mangle]
@@ -141,6 +144,24 @@ pub extern "C" fn peatmitten_read(plan: &[u8], place: &mut [u64; 1]) -> u32
         }
         Section::End(at) => {
             put_one(place, at as u64);
+            0
+        }
+    }
+}
+
+// Which base edition a plan is for, by its marks alone: 20 or 21 with its offset, or 0 with the edition.
+#[no_mangle]
+pub extern "C" fn peatmitten_edition(plan: &[u8], answer: &mut [u64; 1]) -> u32
+    ensures { λ n. ⌜ (n ≡ editionNumber (editionOf (now (plan .entry)))) × (now (answer .exit) ≡ editionValue (editionOf (now (plan .entry))) ∷ []) ⌝ }
+{
+    let edition = edition_of(plan);
+    match edition {
+        Edition::Bad { number, at } => {
+            put_one(answer, at as u64);
+            number
+        }
+        Edition::Is(named) => {
+            put_one(answer, named as u64);
             0
         }
     }

@@ -16,7 +16,7 @@ const CPU_COUNT: usize = 2;
 const IOMMU_COUNT: usize = 51;
 
 pub fn cases() -> Vec<Case> {
-    [config_cases(), table_cases(), request_cases(), translate_cases(), plan_cases()].concat()
+    [config_cases(), table_cases(), request_cases(), translate_cases(), edition_cases(), plan_cases()].concat()
 }
 
 fn zone(id: u32, cpu: &[Region], iommu: &[Region]) -> Zone {
@@ -231,6 +231,23 @@ fn translate_cases() -> Vec<Case> {
     cases.extend(broken_tables().into_iter().map(|table| Case::translate(config, table, 5, 0, 0)));
     cases.push(Case::translate([0; CONFIG_WORDS], [0; TABLE_WORDS], 5, 0, 0));
     cases
+}
+
+/// Plans for editions at which something changes: cut at every length, and with each of the first four fields set to each edge in turn.
+fn edition_cases() -> Vec<Case> {
+    let mut plans = Vec::new();
+    for edition in EDITIONS {
+        let plan = encode(&State { edition, ..desk(&[]) }, &[]);
+        plans.extend((0..=plan.len()).map(|length| plan[..length].to_vec()));
+        for at in [0, 4, 8, 12] {
+            for edge in EDGES {
+                let mut changed = plan.clone();
+                changed[at..at + 4].copy_from_slice(&(edge as u32).to_le_bytes());
+                plans.push(changed);
+            }
+        }
+    }
+    plans.into_iter().map(Case::base_edition).collect()
 }
 
 /// Reading these bytes, and applying them to this state.

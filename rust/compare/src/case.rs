@@ -2,7 +2,9 @@
 
 use std::fmt;
 
-use ordinary::{Config, ConfigWords, Guest, Plan, Record, Region, Side, State, Table, TableWords, CONFIG_WORDS, TABLE_WORDS};
+use ordinary::{
+    base_edition, Config, ConfigWords, Guest, Plan, Record, Region, Side, State, Table, TableWords, CONFIG_WORDS, TABLE_WORDS,
+};
 use peatmitten::raw;
 
 use crate::shrink::shrink;
@@ -14,6 +16,7 @@ pub enum Question {
     Table,
     Request,
     Translate,
+    Edition,
     Read,
     Apply,
 }
@@ -73,6 +76,10 @@ impl Case {
         Case::new(Question::Translate, config, table, [zone.into(), side.into(), address, 0, 0], Vec::new())
     }
 
+    pub fn base_edition(plan: Vec<u8>) -> Case {
+        Case::new(Question::Edition, [0; CONFIG_WORDS], [0; TABLE_WORDS], [0; 5], plan)
+    }
+
     pub fn read(plan: Vec<u8>) -> Case {
         Case::new(Question::Read, [0; CONFIG_WORDS], [0; TABLE_WORDS], [0; 5], plan)
     }
@@ -125,6 +132,10 @@ impl Case {
                     raw::translate(&state.config, &state.table, self.number(0), self.number(1), self.numbers[2]);
                 (number, [physical, 0])
             }
+            Question::Edition => {
+                let (number, answer) = raw::edition(&self.plan);
+                (number, [answer, 0])
+            }
             Question::Read => {
                 let (number, place) = raw::read(&self.plan);
                 (number, [place, 0])
@@ -141,6 +152,10 @@ impl Case {
                 Err(fault) => self.unchanged(fault.number(), fault.places().map(|place| place as u64)),
             },
             Question::Table => self.unchanged(self.base().is_ok().into(), [0, 0]),
+            Question::Edition => match base_edition(&self.plan) {
+                Ok(edition) => self.unchanged(0, [edition.into(), 0]),
+                Err(fault) => self.unchanged(fault.number(), [fault.offset() as u64, 0]),
+            },
             Question::Read => match Plan::read(&self.plan) {
                 Ok(plan) => self.unchanged(0, [plan.requests_at as u64, 0]),
                 Err(fault) => self.unchanged(fault.number(), [fault.offset() as u64, 0]),

@@ -271,7 +271,8 @@ impl World {
             3..=5 => self.table_case(rng),
             6..=10 => self.request_case(rng),
             11..=12 => self.translate_case(rng),
-            13..=14 => Case::read(self.plan(rng)),
+            13 => Case::base_edition(self.plan_begun(rng)),
+            14 => Case::read(self.plan(rng)),
             _ => self.apply_case(rng),
         }
     }
@@ -353,6 +354,16 @@ impl World {
         let base = if rng.one_in(4) { other_base(rng, &self.state) } else { self.state.clone() };
         let mut plan = encode(&base, &requests);
         if rng.one_in(3) {
+            damage_bytes(rng, &mut plan);
+        }
+        plan
+    }
+
+    /// The beginning of a plan, damaged, so that damage meets its marks; or all of it.
+    fn plan_begun(&self, rng: &mut Rng) -> Vec<u8> {
+        let mut plan = self.plan(rng);
+        if rng.one_in(2) {
+            plan.truncate(16);
             damage_bytes(rng, &mut plan);
         }
         plan

@@ -6,11 +6,12 @@ use std::fmt;
 use crate::case::{Answer, Case, Question, Trouble};
 
 /// What every run must answer at least once, by question.
-const ALL_NUMBERS: [(Question, &[u32]); 6] = [
+const ALL_NUMBERS: [(Question, &[u32]); 7] = [
     (Question::Config, &[0, 1, 2, 3, 4, 5, 6]),
     (Question::Table, &[0, 1]),
     (Question::Request, &[0, 1, 2, 3, 4, 5, 6, 7, 8, 9, 10, 11, 12, 13, 14, 15, 16, 17]),
     (Question::Translate, &[0, 1, 2, 4, 6, 18]),
+    (Question::Edition, &[0, 20, 21]),
     (Question::Read, &[0, 20, 21, 22]),
     (Question::Apply, &[0, 1, 2, 20, 21, 22, 23, 24, 25, 26, 27]),
 ];

@@ -15,7 +15,7 @@ mod terminal;
 mod words;
 
 pub use config::{Config, ConfigFault};
-pub use plan::{encode, Plan, ReadFault, Requests};
+pub use plan::{base_edition, encode, Plan, ReadFault, Requests};
 pub use region::{Guest, Phys, Region};
 pub use request::{Action, Record, Refusal};
 pub use table::{Side, Table, Zone};

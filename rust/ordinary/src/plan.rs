@@ -63,15 +63,20 @@ impl<'a> Plan<'a> {
     /// Reads a plan, up to the first fault in file order.
     pub fn read(bytes: &'a [u8]) -> Result<Plan<'a>, ReadFault> {
         let mut reader = Reader { bytes, at: 0 };
-        reader.count(MARKS..=MARKS)?;
-        let gic = reader.number()? as usize;
-        let edition = reader.number()?;
+        let (gic, edition) = reader.marks()?;
         let regions = reader.regions(1..=MAX_REGIONS as u32)?;
         let table = reader.table()?;
         let (requests_at, requests) = reader.requests()?;
         reader.end()?;
-        Ok(Plan { config: Config { regions, gic }, edition, table, requests, requests_at })
+        let config = Config { regions, gic: gic as usize };
+        Ok(Plan { config, edition, table, requests, requests_at })
     }
+}
+
+/// The edition that a plan is for, by its marks alone.
+pub fn base_edition(bytes: &[u8]) -> Result<u32, ReadFault> {
+    let (_, edition) = Reader { bytes, at: 0 }.marks()?;
+    Ok(edition)
 }
 
 impl<'a> Requests<'a> {
@@ -119,6 +124,12 @@ impl<'a> Reader<'a> {
             return Err(ReadFault::Count(offset));
         }
         Ok(count as usize)
+    }
+
+    /// The GIC's position and the base edition.
+    fn marks(&mut self) -> Result<(u32, u32), ReadFault> {
+        self.count(MARKS..=MARKS)?;
+        Ok((self.number()?, self.number()?))
     }
 
     fn regions(&mut self, range: RangeInclusive<u32>) -> Result<Vec<Region>, ReadFault> {

@@ -47,7 +47,7 @@ mod table;
 
 pub use answers::{ConfigFault, PlanRefusal, ReadFault, Refusal};
 pub use config::{Config, CONFIG_WORDS};
-pub use plan::{read_plan, State};
+pub use plan::{base_edition, read_plan, State};
 pub use reading::{Counted, Field, Reading, LONGEST_PLAN};
 pub use region::{Guest, Physical, Region};
 pub use request::{Request, Side};

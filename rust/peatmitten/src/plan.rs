@@ -41,6 +41,21 @@ impl State {
     }
 }
 
+/// Says which base edition a plan is for, before anything else of it is looked at: a terminal at a lower edition has missed the plans
+/// between. The marks alone are read, so what follows them may still be no plan; a fault is [`ReadFault::Cut`] or [`ReadFault::Count`].
+///
+/// ```
+/// use peatmitten::{base_edition, ReadFault};
+///
+/// assert_eq!(base_edition(&[2, 0, 0, 0, 0, 0, 0, 0, 7, 0, 0, 0]), Ok(7));
+/// assert_eq!(base_edition(&[2, 0, 0, 0, 0, 0, 0, 0, 7]), Err(ReadFault::Cut { offset: 8 }));
+/// ```
+pub fn base_edition(plan: &[u8]) -> Result<u32, ReadFault> {
+    let (number, answer) = raw::edition(plan);
+    // An edition has 32 bits.
+    ReadFault::from_library(number, answer).map(|()| answer as u32)
+}
+
 /// Reads a plan, without a terminal, and says at which offset its first request record stands or would stand.
 ///
 /// ```

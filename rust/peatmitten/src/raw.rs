@@ -29,6 +29,7 @@ mod library {
             address: u64,
             physical: *mut [u64; 1],
         ) -> u32;
+        pub fn peatmitten_edition(plan: *const u8, length: usize, answer: *mut [u64; 1]) -> u32;
         pub fn peatmitten_read(plan: *const u8, length: usize, place: *mut [u64; 1]) -> u32;
         pub fn peatmitten_apply(state: *mut State, plan: *const u8, length: usize) -> Outcome;
     }
@@ -63,6 +64,13 @@ pub fn translate(config: &Config, table: &Table, zone: u32, side: u32, address: 
     let mut physical = [UNWRITTEN];
     let number = unsafe { library::peatmitten_translate(config, table, zone, side, address, &mut physical) };
     (number, physical[0])
+}
+
+/// The number of the first fault of a plan's marks, or 0, and its offset, or the base edition.
+pub fn edition(plan: &[u8]) -> (u32, u64) {
+    let mut answer = [UNWRITTEN];
+    let number = unsafe { library::peatmitten_edition(plan.as_ptr(), plan.len(), &mut answer) };
+    (number, answer[0])
 }
 
 /// The number of a plan's first fault, or 0, and its offset, or that of the first request record.

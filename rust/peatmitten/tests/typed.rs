@@ -3,7 +3,8 @@
 use std::mem::{offset_of, size_of};
 
 use peatmitten::{
-    raw, read_plan, Config, ConfigFault, Guest, Physical, PlanRefusal, ReadFault, Refusal, Region, Request, Side, State, Table,
+    base_edition, raw, read_plan, Config, ConfigFault, Guest, Physical, PlanRefusal, ReadFault, Refusal, Region, Request, Side,
+    State, Table,
 };
 
 const A: Region = Region::new(0x4000_0000, 0x8000_0000, 0x20_0000);
@@ -124,6 +125,19 @@ fn a_refused_request_in_a_plan() {
     assert_eq!((refusal.number(), refusal.place(), refusal.inner()), (27, 2, 14));
     assert_eq!(refusal.to_string(), "request 2 is refused: the region overlaps another one physically");
     assert_eq!(state, before);
+}
+
+#[test]
+fn base_editions() {
+    assert_eq!(base_edition(FIRST_PLAN), Ok(0));
+    assert_eq!(base_edition(REFUSED_PLAN), Ok(7));
+    assert_eq!(base_edition(CUT_PLAN), Ok(0), "nothing behind the marks is looked at");
+    for (length, offset) in [(0, 0), (3, 0), (4, 4), (7, 4), (8, 8), (11, 8)] {
+        assert_eq!(base_edition(&FIRST_PLAN[..length]), Err(ReadFault::Cut { offset }));
+    }
+    assert_eq!(base_edition(&[3, 0, 0, 0]), Err(ReadFault::Count { offset: 0 }));
+    let last = [&FIRST_PLAN[..8], &[0xff; 4]].concat();
+    assert_eq!(base_edition(&last), Ok(u32::MAX));
 }
 
 #[test]

@@ -7,6 +7,5 @@ pub mod Answers
 pub mod Whole
 pub mod Comparing
 pub mod Judging
-pub mod Spelling
 pub mod Bases
 pub mod Outcomes

@@ -32,7 +32,7 @@ use Rattle.plan.specs.declared.read.Read.{Read}
 use Rattle.plan.specs.declared.words.Section.{Section}
 use Rattle.plan.specs.declared.words.Section.the-variants.{End, Bad}
 use Rattle.plan.proofs.Bases.{config-same, zones-same, requests-same}
-use Rattle.plan.proofs.Spelling.{config-view, table-view}
+use Rattle.zones.proofs.Spelling.{config-view, table-view}
 
 -- an answer other than 0 leaves the words
 refused-in-words : (s : State) (o : Outcome) (t : Terminal) → (o .number ≡ 0 → ⊥) → inWords s (record { outcome = o; state = t }) ≡ record { outcome = o; state = s }

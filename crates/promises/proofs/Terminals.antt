@@ -1,10 +1,11 @@
 -- Demand 3 for the terminals of the rules.
 use Prim.Native.Nat.{ℕ, zero, suc, _+_, _-_, _<_}
 use native.Mathlib.Omega.{arith}
-use mathlib.Core.List.{List, [], _∷_, map}
+use mathlib.Core.List.{List, [], map}
 use mathlib.Core.Path.{_≡_, refl, sym, ap, subst, _∙_}
 use Rattle.lists.specs.Places.{places}
 use Rattle.lists.specs.Runs.{runs}
+use Rattle.lists.proofs.Runs.{runs-seen}
 use Rattle.formats.specs.Formats.{got, bad, Out}
 use Rattle.rules.specs.Limits.{Limits, Sayable}
 use Rattle.rules.specs.Applying.{lastEdition, store, apply, Terminal, Applied}
@@ -98,9 +99,7 @@ module _ (lim : Limits) where
 
   -- deliveries in turn, to the state and to the terminal
   in-turn : (s : State Held) (bs : List (List ℕ)) → runs (λ (t : Terminal) (b : List ℕ). apply lim t b .state) (terminal s) bs ≡ terminal (runs (terminals lim .after) s bs)
-  unfolding runs
-  in-turn s [] = refl
-  in-turn s (b ∷ bs) = in-turn (terminals lim .after s b) bs
+  in-turn s bs = sym (runs-seen (λ (x : State Held). terminal x) (terminals lim .after) (λ (t : Terminal) (b : List ℕ). apply lim t b .state) (λ x b. refl) s bs)
 
   pub lower-terminal-is-behind : LowerTerminalIsBehind lim
   lower-terminal-is-behind say c ok asked g h l =

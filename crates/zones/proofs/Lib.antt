@@ -15,4 +15,6 @@ pub mod Deciding
 pub mod Committing
 pub mod Stepping
 pub mod Running
+pub mod Spelling
+pub mod Kept
 pub mod Translating

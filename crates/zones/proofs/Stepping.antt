@@ -126,14 +126,15 @@ module _ (c t : List ℕ) where
       record { number = k; table = sym (ap (λ (b : Bool). cond b (wordsOf (after (q .kind) (q .zone) (tableOf (storedTable t)))) t) (ne-eqb _ 0 (λ z. ne (k ∙ z)))) }
 
   module _ (n : ℕ) (e : n ≡ standing limits (storedConfig c) (storedTable t)) (z : n ≡ 0) where
-    none : Quiet (standingRules limits (storedConfig c) (storedTable t))
+    -- neither 1 nor 2 applies
+    pub neither : Quiet (standingRules limits (storedConfig c) (storedTable t))
     unfolding standingRules aboveZero all
-    none = quiet (standingRules limits (storedConfig c) (storedTable t)) 0 (numbers-tell (standingRules limits (storedConfig c) (storedTable t)) refl) (sym e ∙ z)
+    neither = quiet (standingRules limits (storedConfig c) (storedTable t)) 0 (numbers-tell (standingRules limits (storedConfig c) (storedTable t)) refl) (sym e ∙ z)
 
     both : (check limits (storedConfig c) ≡ Sound) × (checkTable limits (storedConfig c) (storedTable t) ≡ true)
     unfolding standingRules testOf
     both =
-        let h = silent (λ m. m) (standingRules limits (storedConfig c) (storedTable t)) none in
+        let h = silent (λ m. m) (standingRules limits (storedConfig c) (storedTable t)) neither in
         (sound-answer _ (not-false _ (h 1)), not-false _ (h 2))
 
     pub stands-same : zonesIn t ≡ tableOf (storedTable t)
@@ -145,7 +146,7 @@ module _ (c t : List ℕ) where
 
       number-same : (q : Request) → refusal limits (configIn c) (zonesIn t) q ≡ answer limits (storedConfig c) (storedTable t) q
       unfolding answer
-      number-same q = ap (λ (x : List Zone). refusal limits (configIn c) x q) stands-same ∙ quiet-answer (standingRules limits (storedConfig c) (storedTable t)) (refusal limits (configIn c) (tableOf (storedTable t)) q) none
+      number-same q = ap (λ (x : List Zone). refusal limits (configIn c) x q) stands-same ∙ quiet-answer (standingRules limits (storedConfig c) (storedTable t)) (refusal limits (configIn c) (tableOf (storedTable t)) q) neither
 
       pub request-done : (q : Request) (m : ℕ) (u : List ℕ) → m ≡ refusal limits (configIn c) (zonesIn t) q → u ≡ wordsOf (next limits (configIn c) (zonesIn t) q) → Stepped c t q m u
       unfolding afterwards next

@@ -9,4 +9,5 @@ pub mod Holding
 pub mod Decide
 pub mod Step
 pub mod Run
+pub mod Kept
 pub mod Translate

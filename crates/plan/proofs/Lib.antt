@@ -9,3 +9,4 @@ pub mod Comparing
 pub mod Judging
 pub mod Bases
 pub mod Outcomes
+pub mod Deliveries

@@ -57,7 +57,7 @@ module _ (s : State) where
 
   module _ (b : List ℕ) where
     -- the state is unsound: 1 or 2, whatever the bytes are
-    unsound : (own ≡ 0 → ⊥) → applied s b ≡ record { outcome = plain own 0; state = s }
+    pub unsound : (own ≡ 0 → ⊥) → applied s b ≡ record { outcome = plain own 0; state = s }
     unfolding applied apply
     unsound ne = ap (λ (t : Bool). inWords s (cond t (rules.applyRead limits (terminalIn s) b (readPlan limits b)) (record { outcome = plain own 0; state = terminalIn s }))) (ne-eqb _ 0 ne) ∙ refused-in-words s (plain own 0) (terminalIn s) ne
 

@@ -4,3 +4,4 @@ pub mod Into
 pub mod Sections
 pub mod Read
 pub mod Applying
+pub mod Deliveries

@@ -64,7 +64,7 @@ module _ (lim : Limits) where
     config-stays zero = refl
     config-stays (suc k) = config-stays k
 
-    planned-at : (k : ℕ) → planned lim c asked k ≡ terminal (at (terminals lim) (planner lim c asked) k)
+    pub planned-at : (k : ℕ) → planned lim c asked k ≡ terminal (at (terminals lim) (planner lim c asked) k)
     unfolding planned tableAt
     planned-at zero = refl
     planned-at (suc k) =

@@ -34,7 +34,7 @@ module _ (c t : List ℕ) (z : Stands c t) (m : List Zone) (ok : SoundTable limi
   made-holds : tableIn u ≡ m
   made-holds = ap tableOf made ∙ table-back limits (configIn c) m ok
 
-  made-stands : Stands c u
+  pub made-stands : Stands c u
   made-stands = ap (λ (x : StoredTable). standing limits (storedConfig c) x) made ∙ stored-stands limits (storedConfig c) m (stands-well limits (storedConfig c) (storedTable t) z .0) ok
 
 -- ---- one request

@@ -6,6 +6,7 @@
 #   CC           a C compiler for x86-64
 #   EMULATOR     empty on x86-64, else the command that runs an x86-64 program
 #   SANITIZERS   after find_sanitizers, the C compiler's options for the sanitizers that run here
+#   CARGO        what builds the Rust crates
 
 root=$(cd "$(dirname "${BASH_SOURCE[0]}")/.." && pwd)
 LIBRARY_DIR=${PEATMITTEN_LIB_DIR:-$root/target/staticlib}
@@ -77,6 +78,11 @@ find_sanitizers() {
     )
     echo "$test_name: no sanitizer is run"
     SANITIZERS=()
+}
+
+# Any cargo, for what does not link the library and runs as it is built.
+need_cargo() {
+    CARGO=$(command -v cargo) || say_failed "there is no cargo"
 }
 
 # Whether the Rust compiler $1 has a standard library for the target.

@@ -1,18 +1,19 @@
 #!/usr/bin/env bash
-# Builds and tests the Rust crates against the library, and compares the library with the ordinary implementation on 40,000 cases.
+# Builds and tests the Rust crates against the library, and compares the library with the ordinary implementation on 50,000 cases.
 # On another processor than x86-64 the programs are emulated. Nothing is fetched: the crates depend on no others.
 set -euo pipefail
 test_name=rust
 . "$(dirname "$0")/host.sh"
 need_library
 need_c
-cases=40000
+cases=50000
 
 # Without a compiler for x86-64 the ordinary implementation, which does not need the library, is all that can be tested.
 test_natively_and_fail() {
-    command -v cargo >/dev/null || say_failed "there is no cargo"
-    (cd "$root/rust" && cargo test --offline --locked --package ordinary) || say_failed "a test of the ordinary implementation"
-    say_failed "no Rust compiler here builds for x86-64 (tests/install_cross.sh installs one), so only rust/ordinary was tested; it passed"
+    need_cargo
+    (cd "$root/rust" && "$CARGO" test --offline --locked --package ordinary --package cases) ||
+        say_failed "a test of the ordinary implementation"
+    say_failed "no Rust compiler here builds for x86-64 (tests/install_cross.sh installs one), so only the ordinary implementation was tested; it passed"
 }
 
 find_cargo || test_natively_and_fail

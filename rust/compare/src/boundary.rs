@@ -1,19 +1,16 @@
 //! Cases on both sides of every boundary. They are the same in every run and reach every number.
 
+use cases::Case;
+use ordinary::layout::{config_record, set_count, set_record, zone_id, CONFIG_COUNT, CONFIG_GIC, TABLE_COUNT};
 use ordinary::limits::{PAGE, REACH};
-use ordinary::{encode, Config, ConfigWords, Record, Region, State, Table, TableWords, Zone, CONFIG_WORDS, TABLE_WORDS};
+use ordinary::{encode, Config, ConfigWords, Record, Region, Side, State, Table, TableWords, Zone, CONFIG_WORDS, TABLE_WORDS};
 
-use crate::case::Case;
 use crate::random::{EDGES, EDITIONS};
 
 const A: Region = Region::new(0x4000_0000, 0x8000_0000, 0x20_0000);
 const B: Region = Region::new(0x4000_0000, 0x8020_0000, 0x20_0000);
 const C: Region = Region::new(0x4010_0000, 0x9000_0000, 0x20_0000);
 const G: Region = Region::new(0x0800_0000, 0x0800_0000, 0x1_0000);
-
-const ZONE_WORDS: usize = 99;
-const CPU_COUNT: usize = 2;
-const IOMMU_COUNT: usize = 51;
 
 pub fn cases() -> Vec<Case> {
     [config_cases(), table_cases(), request_cases(), translate_cases(), edition_cases(), plan_cases()].concat()
@@ -112,7 +109,9 @@ fn with_edges<const N: usize>(words: [u64; N], places: &[usize]) -> Vec<[u64; N]
 fn all_configs() -> Vec<ConfigWords> {
     let mut configs: Vec<ConfigWords> = states().iter().map(|state| state.config.to_words()).collect();
     for config in configs.clone() {
-        configs.extend(with_edges(config, &[0, 1, 2, 3, 4, 193]));
+        let first = config_record(0);
+        let places = [CONFIG_COUNT, CONFIG_GIC, first, first + 1, first + 2, CONFIG_WORDS - 1];
+        configs.extend(with_edges(config, &places));
     }
     for region in edge_regions() {
         configs.push(Config { regions: vec![G, region], gic: 0 }.to_words());
@@ -153,8 +152,9 @@ fn broken_tables() -> Vec<TableWords> {
 
 fn table_cases() -> Vec<Case> {
     let mut cases = Vec::new();
-    let last_zone = 1 + 7 * ZONE_WORDS;
-    let places = [0, 1, CPU_COUNT, 3, 50, IOMMU_COUNT, 100, last_zone, 792];
+    let (cpu, iommu) = (set_count(0, Side::Cpu), set_count(0, Side::Iommu));
+    let (first, last) = (set_record(0, Side::Cpu, 0), iommu - 1);
+    let places = [TABLE_COUNT, zone_id(0), cpu, first, last, iommu, zone_id(1), zone_id(7), TABLE_WORDS - 1];
     for state in states() {
         let (config, table) = (state.config.to_words(), state.table.to_words());
         cases.push(Case::table(config, table));

@@ -1,9 +1,9 @@
 //! Damage to words and to bytes.
 
-use crate::random::number;
-use crate::rng::Rng;
+use cases::rng::Rng;
+use ordinary::layout::REGION_WORDS;
 
-const REGION_WORDS: usize = 3;
+use crate::random::number;
 
 /// Changes one word, or copies one stretch of three over another.
 pub fn damage_words(rng: &mut Rng, words: &mut [u64]) {

@@ -2,33 +2,42 @@
 //!
 //!     compare [--cases N] [--seed S]
 //!
-//! The boundary cases are always run; random ones follow until there are N cases. It prints how often each number was answered and
-//! `N cases, 0 differences`. A difference ends the run: its input is made as small as can be, printed, and the exit status is 1.
-//! It is 1 too if a number of the document was never answered.
+//! The named cases of `rust/cases`, its plan files, the boundary cases and some simulations are always run; random cases and
+//! more simulations follow until there are at least N cases. It prints how often each number was answered and how often each
+//! thing happened in simulations, and `N cases, 0 differences`. A difference ends the run: its input is made as small as can be,
+//! printed, and the exit status is 1. It is 1 too if a number of the document was never answered, or if something that can happen
+//! in a simulation never did.
 
 #![forbid(unsafe_code)]
 
+mod agree;
 mod boundary;
-mod case;
 mod damage;
+mod event;
 mod random;
-mod rng;
 mod shrink;
 mod simulation;
 mod tally;
 
+use std::iter;
 use std::process::ExitCode;
 
-use case::{Case, Trouble};
+use agree::{agreed, agreed_by_name, agreed_on_file, Trouble};
+use cases::rng::Rng;
+use cases::Case;
 use random::World;
-use rng::Rng;
+use simulation::Length;
 use tally::Tally;
 
 const USAGE: &str = "usage: compare [--cases N] [--seed S]";
 
-/// Random cases that are made from one configuration, and the deliveries of one simulated terminal.
+/// Random cases that are made from one configuration.
 const CASES_OF_A_WORLD: usize = 60;
-const DELIVERIES: usize = 30;
+
+/// The first simulation, and all others; so many of those are always run.
+const LONG: Length = Length { plans: 60, turns: 4000 };
+const SHORT: Length = Length { plans: 8, turns: 50 };
+const SHORT_ALWAYS: usize = 40;
 
 struct Options {
     cases: usize,
@@ -52,20 +61,43 @@ impl Options {
 
 /// Compares the two on each case and counts the answers, up to the first difference.
 fn compare_all(cases: impl IntoIterator<Item = Case>, tally: &mut Tally) -> Result<(), Trouble> {
-    cases.into_iter().try_for_each(|case| tally.add(&case, &case.agreed()?))
+    cases.into_iter().try_for_each(|case| tally.add(&case, &agreed(&case)?))
+}
+
+/// Does a part of the run and says how many cases it had.
+fn part(name: &str, tally: &mut Tally, cases: impl FnOnce(&mut Tally) -> Result<(), Trouble>) -> Result<(), Trouble> {
+    let before = tally.total();
+    cases(tally)?;
+    println!("{:>6} {name}", tally.total() - before);
+    Ok(())
 }
 
 fn run(options: &Options, tally: &mut Tally) -> Result<(), Trouble> {
-    compare_all(boundary::cases(), tally)?;
     let mut rng = Rng::new(options.seed);
-    while tally.total() < options.cases {
-        let mut world = World::new(&mut rng);
-        let left = options.cases - tally.total();
-        compare_all((0..left.min(CASES_OF_A_WORLD)).map(|_| world.case(&mut rng)), tally)?;
-        let left = options.cases - tally.total();
-        simulation::run(&mut rng, left.min(DELIVERIES), tally)?;
-    }
-    Ok(())
+    part("named cases", tally, |tally| {
+        cases::named().iter().try_for_each(|named| tally.add(&named.case, &agreed_by_name(named)?))
+    })?;
+    part("plan files", tally, |tally| {
+        let files = [cases::plan_files(), cases::examples()].concat();
+        files.iter().try_for_each(|file| tally.add(&file.case(), &agreed_on_file(file)?))
+    })?;
+    part("boundary cases", tally, |tally| compare_all(boundary::cases(), tally))?;
+    let mut editions = simulation::FIRST_EDITIONS.into_iter().cycle();
+    part("deliveries of simulations", tally, |tally| {
+        let lengths = iter::once(LONG).chain(iter::repeat(SHORT).take(SHORT_ALWAYS));
+        lengths.zip(&mut editions).try_for_each(|(length, edition)| simulation::run(&mut rng, edition, length, tally))
+    })?;
+    part("random cases, and deliveries of more simulations", tally, |tally| {
+        for edition in editions {
+            if tally.total() >= options.cases {
+                break;
+            }
+            let mut world = World::new(&mut rng);
+            compare_all((0..CASES_OF_A_WORLD).map(|_| world.case(&mut rng)), tally)?;
+            simulation::run(&mut rng, edition, SHORT, tally)?;
+        }
+        Ok(())
+    })
 }
 
 fn main() -> ExitCode {
@@ -87,9 +119,9 @@ fn main() -> ExitCode {
     println!("{} cases, 0 differences", tally.total());
     let missing = tally.missing();
     if !missing.is_empty() {
-        println!("never answered: {}", missing.join(", "));
+        println!("never seen: {}", missing.join(", "));
         return ExitCode::FAILURE;
     }
-    println!("every number was answered");
+    println!("every number was answered, and everything happened that can");
     ExitCode::SUCCESS
 }

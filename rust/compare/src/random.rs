@@ -1,11 +1,11 @@
 //! Random cases, most of them near the line between what is accepted and what is refused.
 
+use cases::rng::Rng;
+use cases::Case;
 use ordinary::limits::{MAX_REQUESTS, PAGE, REACH};
 use ordinary::{encode, Config, ConfigWords, Record, Region, State, Table, TableWords, Zone};
 
-use crate::case::Case;
 use crate::damage::{damage_bytes, damage_words};
-use crate::rng::Rng;
 
 /// Numbers at which something changes, or just beside.
 pub const EDGES: [u64; 36] = [

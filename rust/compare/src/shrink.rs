@@ -1,6 +1,6 @@
 //! Makes a case smaller for as long as it stays as it must be.
 
-use crate::case::Case;
+use cases::Case;
 
 /// A case that still holds and of which nothing single can be taken away: no stretch of its plan, and no word, number or byte that
 /// could be zero.

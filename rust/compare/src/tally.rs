@@ -1,9 +1,12 @@
-//! Counts the answers by question and number.
+//! Counts the answers by question and number, and what happened in simulations.
 
 use std::collections::BTreeMap;
 use std::fmt;
 
-use crate::case::{Answer, Case, Question, Trouble};
+use cases::{Answer, Case, Question};
+
+use crate::agree::Trouble;
+use crate::event::Event;
 
 /// What every run must answer at least once, by question.
 const ALL_NUMBERS: [(Question, &[u32]); 7] = [
@@ -25,7 +28,7 @@ const ALL_INNER: [u64; 15] = [3, 4, 5, 6, 7, 8, 9, 10, 11, 12, 13, 14, 15, 16, 1
 pub struct Tally {
     answers: BTreeMap<(Question, u32), usize>,
     inner: BTreeMap<u64, usize>,
-    deliveries: usize,
+    events: BTreeMap<Event, usize>,
 }
 
 impl Tally {
@@ -42,23 +45,22 @@ impl Tally {
         Ok(())
     }
 
-    /// Counts a plan that came to a simulated terminal, which is counted as an answer too.
-    pub fn add_delivery(&mut self, case: &Case, answer: &Answer) -> Result<(), Trouble> {
-        self.deliveries += 1;
-        self.add(case, answer)
+    pub fn add_event(&mut self, event: Event) {
+        *self.events.entry(event).or_default() += 1;
     }
 
     pub fn total(&self) -> usize {
         self.answers.values().sum()
     }
 
-    /// What was never answered.
+    /// What was never answered, and what never happened.
     pub fn missing(&self) -> Vec<String> {
         let numbers = ALL_NUMBERS.iter().flat_map(|(question, numbers)| numbers.iter().map(|&number| (*question, number)));
         let answers =
             numbers.filter(|key| !self.answers.contains_key(key)).map(|(question, number)| format!("{question:?} {number}"));
         let inner = ALL_INNER.iter().filter(|number| !self.inner.contains_key(number)).map(|number| format!("27 with {number}"));
-        answers.chain(inner).collect()
+        let events = Event::ALL.iter().filter(|event| !self.events.contains_key(event)).map(Event::to_string);
+        answers.chain(inner).chain(events).collect()
     }
 }
 
@@ -69,7 +71,7 @@ impl fmt::Display for Tally {
             write_counts(f, &format!("{question:?}"), of_question.map(|((_, number), count)| (u64::from(*number), *count)))?;
         }
         write_counts(f, "inside 27", self.inner.iter().map(|(number, count)| (*number, *count)))?;
-        writeln!(f, "{:<10} {} of the plans applied came to simulated terminals", "", self.deliveries)
+        self.events.iter().try_for_each(|(event, count)| writeln!(f, "simulated  {event}: {count}"))
     }
 }
 

@@ -1,12 +1,14 @@
 //! The rules of document 01 in ordinary Rust: regions, configurations, tables, requests, translation, plans and terminals.
 //!
-//! It is written from the document alone and shares nothing with the proved code, so that the two can be compared
-//! (`rust/compare`) and measured against each other (`rust/bench`).
+//! It is the second reading of the rules, written from the document alone and sharing nothing with the proved code, so that the
+//! two can be compared (`rust/compare`) and measured against each other (`rust/bench`). By it `rust/cases` makes the stored plan
+//! files with their answers.
 
 #![forbid(unsafe_code)]
 #![deny(missing_docs)]
 
 mod config;
+pub mod layout;
 mod plan;
 mod region;
 mod request;
@@ -19,7 +21,7 @@ pub use plan::{base_edition, encode, Plan, ReadFault, Requests};
 pub use region::{Guest, Phys, Region};
 pub use request::{Action, Record, Refusal};
 pub use table::{Side, Table, Zone};
-pub use terminal::{PlanRefusal, State};
+pub use terminal::{apply_alone, PlanRefusal, State};
 pub use words::{ConfigWords, TableWords, CONFIG_WORDS, TABLE_WORDS};
 
 /// The limits that the document sets.

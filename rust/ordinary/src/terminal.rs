@@ -68,6 +68,12 @@ impl From<ReadFault> for PlanRefusal {
     }
 }
 
+/// What the program `apply` answers: the plan is applied to the configuration, edition and zones that it holds.
+pub fn apply_alone(bytes: &[u8]) -> Result<usize, PlanRefusal> {
+    let Plan { config, edition, table, .. } = Plan::read(bytes)?;
+    State { config, table, edition }.apply(bytes)
+}
+
 impl State {
     /// Applies a plan and says how many requests it had. A refused plan leaves the state as it was.
     pub fn apply(&mut self, bytes: &[u8]) -> Result<usize, PlanRefusal> {

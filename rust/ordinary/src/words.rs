@@ -2,19 +2,16 @@
 //! counts above the limits, and records past a count.
 
 use crate::config::{Config, ConfigFault};
+use crate::layout::{CONFIG_COUNT, CONFIG_GIC, CONFIG_RECORDS, REGION_WORDS, SET_WORDS, TABLE_COUNT, TABLE_ZONES, ZONE_WORDS};
 use crate::limits::{MAX_IN_SET, MAX_REGIONS, MAX_ZONES};
 use crate::region::Region;
 use crate::table::{Table, Zone};
 
-const REGION_WORDS: usize = 3;
-const SET_WORDS: usize = 1 + MAX_IN_SET * REGION_WORDS;
-const ZONE_WORDS: usize = 1 + 2 * SET_WORDS;
+/// How many words a configuration is.
+pub const CONFIG_WORDS: usize = CONFIG_RECORDS + MAX_REGIONS * REGION_WORDS;
 
-/// How many words a configuration is: its count, the GIC's position, 64 records.
-pub const CONFIG_WORDS: usize = 2 + MAX_REGIONS * REGION_WORDS;
-
-/// How many words a table is: its count, then 8 zones, each an id and two sets of a count and 16 records.
-pub const TABLE_WORDS: usize = 1 + MAX_ZONES * ZONE_WORDS;
+/// How many words a table is.
+pub const TABLE_WORDS: usize = TABLE_ZONES + MAX_ZONES * ZONE_WORDS;
 
 /// A configuration as words.
 pub type ConfigWords = [u64; CONFIG_WORDS];
@@ -25,9 +22,9 @@ pub type TableWords = [u64; TABLE_WORDS];
 impl Config {
     /// The configuration that these words are, if it is sound, or its first fault.
     pub fn from_words(words: &ConfigWords) -> Result<Config, ConfigFault> {
-        let (head, records) = words.split_at(2);
-        let count = count_up_to(MAX_REGIONS, head[0]).filter(|&count| count > 0).ok_or(ConfigFault::Count)?;
-        let gic = count_up_to(count - 1, head[1]).ok_or(ConfigFault::GicPosition)?;
+        let (head, records) = words.split_at(CONFIG_RECORDS);
+        let count = count_up_to(MAX_REGIONS, head[CONFIG_COUNT]).filter(|&count| count > 0).ok_or(ConfigFault::Count)?;
+        let gic = count_up_to(count - 1, head[CONFIG_GIC]).ok_or(ConfigFault::GicPosition)?;
         if let Some(past) = regions(&records[count * REGION_WORDS..]).position(|record| record != Region::ZERO) {
             return Err(ConfigFault::NotZero { place: count + past });
         }
@@ -39,9 +36,9 @@ impl Config {
     /// The words of a configuration of at most 64 regions.
     pub fn to_words(&self) -> ConfigWords {
         let mut words = [0; CONFIG_WORDS];
-        words[0] = self.regions.len() as u64;
-        words[1] = self.gic as u64;
-        put_regions(&mut words[2..], &self.regions);
+        words[CONFIG_COUNT] = self.regions.len() as u64;
+        words[CONFIG_GIC] = self.gic as u64;
+        put_regions(&mut words[CONFIG_RECORDS..], &self.regions);
         words
     }
 }
@@ -49,8 +46,8 @@ impl Config {
 impl Table {
     /// The table that these words are, unless a count is above its limit, an id is no id or something unused is not zero.
     pub fn from_words(words: &TableWords) -> Option<Table> {
-        let count = count_up_to(MAX_ZONES, words[0])?;
-        let (used, unused) = words[1..].split_at(count * ZONE_WORDS);
+        let count = count_up_to(MAX_ZONES, words[TABLE_COUNT])?;
+        let (used, unused) = words[TABLE_ZONES..].split_at(count * ZONE_WORDS);
         if !is_zero(unused) {
             return None;
         }
@@ -61,8 +58,8 @@ impl Table {
     /// The words of a table within the limits.
     pub fn to_words(&self) -> TableWords {
         let mut words = [0; TABLE_WORDS];
-        words[0] = self.zones.len() as u64;
-        for (zone, words) in self.zones.iter().zip(words[1..].chunks_exact_mut(ZONE_WORDS)) {
+        words[TABLE_COUNT] = self.zones.len() as u64;
+        for (zone, words) in self.zones.iter().zip(words[TABLE_ZONES..].chunks_exact_mut(ZONE_WORDS)) {
             words[0] = zone.id.into();
             put_set(&mut words[1..1 + SET_WORDS], &zone.cpu);
             put_set(&mut words[1 + SET_WORDS..], &zone.iommu);

@@ -1,0 +1,103 @@
+//! Cases written down one after another. Requests and plans are asked at the state that the ones before them left.
+
+use ordinary::layout::TABLE_COUNT;
+use ordinary::{ConfigWords, Record, TableWords, CONFIG_WORDS, TABLE_WORDS};
+
+use crate::case::{Answer, Case, Question};
+
+/// A case with its name and, where it is known without any implementation, the number that must be answered.
+#[derive(Clone, Debug)]
+pub struct Named {
+    pub name: String,
+    pub case: Case,
+    pub known: Option<u32>,
+}
+
+impl Named {
+    /// The number was worked out by hand. A table check answers 1 for yes, 0 for no.
+    pub fn known(&mut self, number: u32) {
+        self.known = Some(number);
+    }
+
+    /// The case and its answer on a line. Of a table afterwards it has the count of zones and a fingerprint of all words.
+    pub fn line(&self) -> String {
+        let Answer { number, places: [place, other], table, edition, .. } = self.case.ordinary();
+        let left = format!("{} {}", table[TABLE_COUNT], fingerprint(&table));
+        let answer = match self.case.question {
+            Question::Config => format!("{number} {place} {other}"),
+            Question::Table => (if number == 1 { "yes" } else { "no" }).into(),
+            Question::Request => format!("{number} {left}"),
+            Question::Translate | Question::Read => format!("{number} {place}"),
+            Question::Apply => format!("{number} {place} {other} {edition} {left}"),
+        };
+        format!("{}: {answer}", self.name)
+    }
+
+    /// What is wrong, if the ordinary implementation does not answer what was worked out by hand.
+    pub fn fault(&self) -> Option<String> {
+        let number = self.case.ordinary().number;
+        let known = self.known.filter(|&known| known != number)?;
+        Some(format!("{}: {known} by hand, {number} by rust/ordinary", self.name))
+    }
+}
+
+/// All words mixed into one number: a step of the generator xorshift64 before each word.
+fn fingerprint(words: &[u64]) -> u64 {
+    words.iter().fold(0, |mixed: u64, word| {
+        let mixed = mixed ^ (mixed << 13);
+        let mixed = mixed ^ (mixed >> 7);
+        mixed ^ (mixed << 17) ^ word
+    })
+}
+
+/// The cases so far, and the state at which the next is asked.
+pub struct Book {
+    pub config: ConfigWords,
+    pub table: TableWords,
+    pub edition: u32,
+    pub named: Vec<Named>,
+}
+
+impl Book {
+    pub fn new() -> Book {
+        Book { config: [0; CONFIG_WORDS], table: [0; TABLE_WORDS], edition: 0, named: Vec::new() }
+    }
+
+    /// Another configuration and table. The edition stays.
+    pub fn change_to(&mut self, config: ConfigWords, table: TableWords) {
+        self.config = config;
+        self.table = table;
+    }
+
+    pub fn ask_config(&mut self, name: impl Into<String>, config: ConfigWords) -> &mut Named {
+        self.ask(name.into(), Case::config(config))
+    }
+
+    pub fn ask_table(&mut self, name: impl Into<String>, config: ConfigWords, table: TableWords) -> &mut Named {
+        self.ask(name.into(), Case::table(config, table))
+    }
+
+    pub fn ask_request(&mut self, name: impl Into<String>, request: Record) -> &mut Named {
+        let case = Case::request(self.config, self.table, request);
+        self.table = case.ordinary().table;
+        self.ask(name.into(), case)
+    }
+
+    /// Side 0 is the CPU's, any other the IOMMU's.
+    pub fn ask_translation(&mut self, name: impl Into<String>, zone: u32, side: u32, address: u64) -> &mut Named {
+        self.ask(name.into(), Case::translate(self.config, self.table, zone, side, address))
+    }
+
+    pub fn ask_plan(&mut self, name: impl Into<String>, plan: Vec<u8>) -> &mut Named {
+        let case = Case::apply(self.config, self.table, self.edition, plan);
+        let after = case.ordinary();
+        self.table = after.table;
+        self.edition = after.edition;
+        self.ask(name.into(), case)
+    }
+
+    fn ask(&mut self, name: String, case: Case) -> &mut Named {
+        self.named.push(Named { name, case, known: None });
+        self.named.last_mut().expect("the case just written down")
+    }
+}

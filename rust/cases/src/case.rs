@@ -1,0 +1,206 @@
+//! One question with all that it is asked about, and what the ordinary implementation answers.
+
+use std::fmt;
+
+use ordinary::{base_edition, Config, ConfigWords, Guest, Plan, PlanRefusal, Record, Region, Side, State, Table, TableWords};
+use ordinary::{CONFIG_WORDS, TABLE_WORDS};
+
+/// Which function is asked.
+#[derive(Clone, Copy, Debug, PartialEq, Eq, PartialOrd, Ord)]
+pub enum Question {
+    Config,
+    Table,
+    Request,
+    Translate,
+    Edition,
+    Read,
+    Apply,
+}
+
+/// A question and its input. What the question does not take is zero or empty.
+#[derive(Clone, Debug, PartialEq, Eq)]
+pub struct Case {
+    pub question: Question,
+    pub config: ConfigWords,
+    pub table: TableWords,
+    /// Of a request its kind, zone, v, p and size; of a translation its zone, side and address; of a plan the terminal's edition.
+    pub numbers: [u64; 5],
+    pub plan: Vec<u8>,
+}
+
+/// What is answered, and what the configuration, the table and the edition then are.
+#[derive(Clone, Debug, PartialEq, Eq)]
+pub struct Answer {
+    pub number: u32,
+    pub places: [u64; 2],
+    pub config: ConfigWords,
+    pub table: TableWords,
+    pub edition: u32,
+}
+
+/// What is answered to a plan: the number, the place and the inner number.
+#[derive(Clone, Copy, Debug, PartialEq, Eq)]
+pub struct Outcome {
+    pub number: u32,
+    pub place: usize,
+    pub inner: u32,
+}
+
+impl From<Result<usize, PlanRefusal>> for Outcome {
+    fn from(applied: Result<usize, PlanRefusal>) -> Outcome {
+        match applied {
+            Ok(count) => Outcome { number: 0, place: count, inner: 0 },
+            Err(refusal) => {
+                let (place, inner) = refusal.found();
+                Outcome { number: refusal.number(), place, inner }
+            }
+        }
+    }
+}
+
+impl Case {
+    fn new(question: Question, config: ConfigWords, table: TableWords, numbers: [u64; 5], plan: Vec<u8>) -> Case {
+        Case { question, config, table, numbers, plan }
+    }
+
+    pub fn config(config: ConfigWords) -> Case {
+        Case::new(Question::Config, config, [0; TABLE_WORDS], [0; 5], Vec::new())
+    }
+
+    pub fn table(config: ConfigWords, table: TableWords) -> Case {
+        Case::new(Question::Table, config, table, [0; 5], Vec::new())
+    }
+
+    pub fn request(config: ConfigWords, table: TableWords, record: Record) -> Case {
+        let Record { kind, zone, region } = record;
+        Case::new(Question::Request, config, table, [kind.into(), zone.into(), region.v.0, region.p.0, region.size], Vec::new())
+    }
+
+    pub fn translate(config: ConfigWords, table: TableWords, zone: u32, side: u32, address: u64) -> Case {
+        Case::new(Question::Translate, config, table, [zone.into(), side.into(), address, 0, 0], Vec::new())
+    }
+
+    pub fn base_edition(plan: Vec<u8>) -> Case {
+        Case::new(Question::Edition, [0; CONFIG_WORDS], [0; TABLE_WORDS], [0; 5], plan)
+    }
+
+    pub fn read(plan: Vec<u8>) -> Case {
+        Case::new(Question::Read, [0; CONFIG_WORDS], [0; TABLE_WORDS], [0; 5], plan)
+    }
+
+    pub fn apply(config: ConfigWords, table: TableWords, edition: u32, plan: Vec<u8>) -> Case {
+        Case::new(Question::Apply, config, table, [edition.into(), 0, 0, 0, 0], plan)
+    }
+
+    /// One of the numbers that the function takes as 32 bits.
+    pub fn number(&self, at: usize) -> u32 {
+        u32::try_from(self.numbers[at]).expect("a 32-bit number")
+    }
+
+    /// The terminal's edition, where a plan is applied.
+    pub fn edition(&self) -> u32 {
+        match self.question {
+            Question::Apply => self.number(0),
+            _ => 0,
+        }
+    }
+
+    /// The request's numbers.
+    pub fn record(&self) -> Record {
+        let [_, _, v, p, size] = self.numbers;
+        Record { kind: self.number(0), zone: self.number(1), region: Region::new(v, p, size) }
+    }
+
+    /// The answer that leaves everything as it was.
+    fn unchanged(&self, number: u32, places: [u64; 2]) -> Answer {
+        Answer { number, places, config: self.config, table: self.table, edition: self.edition() }
+    }
+
+    /// What the ordinary implementation answers.
+    pub fn ordinary(&self) -> Answer {
+        match self.question {
+            Question::Config => match Config::from_words(&self.config) {
+                Ok(_) => self.unchanged(0, [0, 0]),
+                Err(fault) => self.unchanged(fault.number(), fault.places().map(|place| place as u64)),
+            },
+            Question::Table => self.unchanged(self.base().is_ok().into(), [0, 0]),
+            Question::Edition => match base_edition(&self.plan) {
+                Ok(edition) => self.unchanged(0, [edition.into(), 0]),
+                Err(fault) => self.unchanged(fault.number(), [fault.offset() as u64, 0]),
+            },
+            Question::Read => match Plan::read(&self.plan) {
+                Ok(plan) => self.unchanged(0, [plan.requests_at as u64, 0]),
+                Err(fault) => self.unchanged(fault.number(), [fault.offset() as u64, 0]),
+            },
+            Question::Request | Question::Translate | Question::Apply => match self.base() {
+                Ok(state) => self.ask_ordinary(state),
+                Err(number) => self.unchanged(number, [0, 0]),
+            },
+        }
+    }
+
+    /// The state that the words are, or 1 or 2.
+    fn base(&self) -> Result<State, u32> {
+        let config = Config::from_words(&self.config).map_err(|_| 1u32)?;
+        let table = Table::from_words(&self.table).filter(|table| table.is_sound(&config)).ok_or(2u32)?;
+        Ok(State { config, table, edition: self.edition() })
+    }
+
+    fn ask_ordinary(&self, mut state: State) -> Answer {
+        let (number, places) = match self.question {
+            Question::Request => match state.table.request(&state.config, &self.record()) {
+                Ok(()) => (0, [0, 0]),
+                Err(refusal) => (refusal.number(), [0, 0]),
+            },
+            Question::Translate => {
+                let side = if self.number(1) == 0 { Side::Cpu } else { Side::Iommu };
+                match state.table.translate(&state.config, self.number(0), side, Guest(self.numbers[2])) {
+                    Ok(physical) => (0, [physical.0, 0]),
+                    Err(refusal) => (refusal.number(), [0, 0]),
+                }
+            }
+            _ => {
+                let Outcome { number, place, inner } = state.apply(&self.plan).into();
+                (number, [place as u64, inner.into()])
+            }
+        };
+        Answer { number, places, config: self.config, table: state.table.to_words(), edition: state.edition }
+    }
+}
+
+impl fmt::Display for Outcome {
+    fn fmt(&self, f: &mut fmt::Formatter) -> fmt::Result {
+        write!(f, "{} {} {}", self.number, self.place, self.inner)
+    }
+}
+
+impl fmt::Display for Answer {
+    fn fmt(&self, f: &mut fmt::Formatter) -> fmt::Result {
+        writeln!(f, "number {}, places {:#x} {:#x}", self.number, self.places[0], self.places[1])?;
+        write_words(f, "  config", &self.config)?;
+        write_words(f, "  table", &self.table)?;
+        writeln!(f, "  edition {}", self.edition)
+    }
+}
+
+impl fmt::Display for Case {
+    fn fmt(&self, f: &mut fmt::Formatter) -> fmt::Result {
+        writeln!(f, "question: {:?}", self.question)?;
+        write_words(f, "  config", &self.config)?;
+        write_words(f, "  table", &self.table)?;
+        write_words(f, "  numbers", &self.numbers)?;
+        write!(f, "  plan of {} bytes:", self.plan.len())?;
+        for byte in &self.plan {
+            write!(f, " {byte:02x}")?;
+        }
+        writeln!(f)
+    }
+}
+
+/// The words that are not zero, each with its index.
+fn write_words(f: &mut fmt::Formatter, name: &str, words: &[u64]) -> fmt::Result {
+    for (at, word) in words.iter().enumerate().filter(|(_, &word)| word != 0) {
+        writeln!(f, "{name}[{at}] = {word:#x}")?;
+    }
+    Ok(())
+}

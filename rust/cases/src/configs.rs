@@ -1,0 +1,115 @@
+//! Cases for the configuration check, chosen by hand.
+
+use ordinary::layout::{config_record, CONFIG_COUNT, CONFIG_GIC};
+use ordinary::limits::{MAX_REGIONS, PAGE, REACH};
+use ordinary::{ConfigWords, Region, CONFIG_WORDS};
+
+use crate::book::Book;
+use crate::given::{config_words, with_word, P, SIZE, V};
+
+/// The last page of 64-bit addresses.
+const LAST_PAGE: u64 = PAGE.wrapping_neg();
+
+pub fn add(book: &mut Book) {
+    few(book);
+    past_the_count(book);
+    many(book);
+    for (place, i) in [("first", 0), ("middle", 31), ("last", MAX_REGIONS - 1)] {
+        one_fault(book, place, i);
+    }
+    overlaps(book);
+    two_faults(book);
+}
+
+/// So many regions of one page each, every second page left free, all at guest address 0; position 0 is the GIC.
+fn sound(count: u64) -> ConfigWords {
+    let regions: Vec<Region> = (0..count).map(|i| Region::new(0, i * 2 * PAGE, PAGE)).collect();
+    config_words(&regions, 0)
+}
+
+/// Other numbers in records; each poke is a position, a word of the record and a number.
+fn poked(words: ConfigWords, pokes: &[(usize, usize, u64)]) -> ConfigWords {
+    pokes.iter().fold(words, |words, &(i, word, x)| with_word(words, config_record(i) + word, x))
+}
+
+fn few(book: &mut Book) {
+    book.ask_config("all zero", [0; CONFIG_WORDS]);
+    book.ask_config("no region, GIC at 2^64 - 1", with_word(sound(0), CONFIG_GIC, u64::MAX));
+    book.ask_config("one region", sound(1));
+    book.ask_config("two regions", sound(2));
+}
+
+fn past_the_count(book: &mut Book) {
+    for (name, word) in [("v", V), ("p", P), ("size", SIZE)] {
+        book.ask_config(format!("{name} after the count"), poked(sound(3), &[(3, word, 1)]));
+        book.ask_config(format!("{name} in the last record"), poked(sound(3), &[(63, word, u64::MAX)]));
+    }
+    book.ask_config("two used records past the count", poked(sound(3), &[(40, V, 1), (5, P, 1)]));
+    book.ask_config("a whole region past the count", poked(sound(3), &[(3, P, 3 * 2 * PAGE), (3, SIZE, PAGE)]));
+    book.ask_config("a used record, GIC at the count", with_word(poked(sound(3), &[(3, V, 1)]), CONFIG_GIC, 3));
+    book.ask_config("a used record, size 0 at 0", poked(sound(3), &[(9, V, 1), (0, SIZE, 0)]));
+}
+
+fn many(book: &mut Book) {
+    book.ask_config("63 regions", sound(63));
+    book.ask_config("64 regions", sound(64));
+    for (text, count) in [("0", 0), ("62", 62), ("65", 65), ("2^32 + 64", (1 << 32) + 64), ("2^64 - 1", u64::MAX)] {
+        book.ask_config(format!("{text} counted"), with_word(sound(64), CONFIG_COUNT, count));
+    }
+    for (text, gic) in [("63", 63), ("the count", 64), ("2^32", 1 << 32), ("2^64 - 1", u64::MAX)] {
+        book.ask_config(format!("GIC at {text}"), with_word(sound(64), CONFIG_GIC, gic));
+    }
+}
+
+/// One fault at position i of 64, or a number that is just no fault.
+fn one_fault(book: &mut Book, place: &str, i: usize) {
+    for (name, word, x) in [
+        ("size 0", SIZE, 0),
+        ("size 0x1800", SIZE, 0x1800),
+        ("size 2^48", SIZE, REACH),
+        ("size 2^64 - 4096", SIZE, LAST_PAGE),
+        ("v 1", V, 1),
+        ("p 2^64 - 1", P, u64::MAX),
+        ("v 2^48", V, REACH),
+        ("p 2^48", P, REACH),
+        ("p 2^64 - 4096", P, LAST_PAGE),
+        ("v ends at 2^48", V, REACH - PAGE),
+        ("p ends at 2^48", P, REACH - PAGE),
+    ] {
+        book.ask_config(format!("{place}, {name}"), poked(sound(64), &[(i, word, x)]));
+    }
+}
+
+fn overlaps(book: &mut Book) {
+    for (name, pokes) in [
+        ("1 equals 0", &[(1, P, 0)][..]),
+        ("31 equals 30", &[(31, P, 30 * 2 * PAGE)]),
+        ("63 equals 0", &[(63, P, 0)]),
+        ("63 equals 62", &[(63, P, 62 * 2 * PAGE)]),
+        ("63 equals 40 and 7 encloses 8", &[(63, P, 40 * 2 * PAGE), (7, SIZE, 4 * PAGE)]),
+        ("40 encloses 3 to 5", &[(40, P, 5 * PAGE), (40, SIZE, 7 * PAGE)]),
+        ("40 lies in 3", &[(3, SIZE, 2 * PAGE), (40, P, 7 * PAGE)]),
+        ("40 meets the end of 3", &[(3, SIZE, 2 * PAGE), (40, P, 5 * PAGE), (40, SIZE, 2 * PAGE)]),
+        ("3 encloses 4", &[(3, SIZE, 4 * PAGE)]),
+        ("3 ends where 4 starts", &[(3, SIZE, 2 * PAGE)]),
+        ("guest addresses shared by all", &[]),
+    ] {
+        book.ask_config(name, poked(sound(64), pokes));
+    }
+}
+
+/// The lower position counts, and at one position the lower number.
+fn two_faults(book: &mut Book) {
+    let faults = [("form", SIZE, 0), ("reach", P, REACH), ("overlap", P, 0)];
+    for (first, at_3, x) in faults {
+        for (second, at_5, y) in faults.into_iter().filter(|fault| fault.0 != first) {
+            book.ask_config(format!("{first} at 3, {second} at 5"), poked(sound(64), &[(3, at_3, x), (5, at_5, y)]));
+        }
+    }
+    book.ask_config("form and reach at 3", poked(sound(64), &[(3, V, 1), (3, P, REACH)]));
+    book.ask_config("form and overlap at 3", poked(sound(64), &[(3, V, 1), (3, P, 0)]));
+    book.ask_config("reach and overlap at 3", poked(sound(64), &[(3, V, REACH), (3, P, 0)]));
+    let no_size = poked(sound(64), &[(0, SIZE, 0)]);
+    book.ask_config("none counted, size 0 at 0", with_word(no_size, CONFIG_COUNT, 0));
+    book.ask_config("GIC at the count, size 0 at 0", with_word(no_size, CONFIG_GIC, 64));
+}

@@ -1,0 +1,63 @@
+//! What many cases are made from: the document's regions, and short ways to write words, zones and requests.
+
+use ordinary::{Config, ConfigWords, Record, Region, Table, TableWords, Zone};
+
+// The desk's regions; G is the GIC's.
+pub const A: Region = Region::new(0x4000_0000, 0x8000_0000, 0x20_0000);
+pub const B: Region = Region::new(0x4000_0000, 0x8020_0000, 0x20_0000);
+pub const C: Region = Region::new(0x4010_0000, 0x9000_0000, 0x20_0000);
+pub const G: Region = Region::new(0x0800_0000, 0x0800_0000, 0x1_0000);
+
+// The kinds of a request.
+pub const ADD_ZONE: u32 = 1;
+pub const REMOVE_ZONE: u32 = 2;
+pub const CPU_INSERT: u32 = 3;
+pub const CPU_REMOVE: u32 = 4;
+pub const IOMMU_INSERT: u32 = 5;
+pub const IOMMU_REMOVE: u32 = 6;
+
+// The words of a record, in order.
+pub const V: usize = 0;
+pub const P: usize = 1;
+pub const SIZE: usize = 2;
+
+pub fn config_words(regions: &[Region], gic: usize) -> ConfigWords {
+    Config { regions: regions.to_vec(), gic }.to_words()
+}
+
+pub fn table_words(zones: &[Zone]) -> TableWords {
+    Table { zones: zones.to_vec() }.to_words()
+}
+
+pub fn zone(id: u32, cpu: &[Region], iommu: &[Region]) -> Zone {
+    Zone { id, cpu: cpu.to_vec(), iommu: iommu.to_vec() }
+}
+
+/// A request for a whole zone, or one whose region is zero.
+pub fn of_zone(kind: u32, zone: u32) -> Record {
+    Record { kind, zone, region: Region::ZERO }
+}
+
+pub fn of_region(kind: u32, zone: u32, region: Region) -> Record {
+    Record { kind, zone, region }
+}
+
+/// The same words but for one.
+pub fn with_word<const N: usize>(mut words: [u64; N], at: usize, word: u64) -> [u64; N] {
+    words[at] = word;
+    words
+}
+
+// The same region but for one of its numbers.
+
+pub fn with_v(region: Region, v: u64) -> Region {
+    Region::new(v, region.p.0, region.size)
+}
+
+pub fn with_p(region: Region, p: u64) -> Region {
+    Region::new(region.v.0, p, region.size)
+}
+
+pub fn with_size(region: Region, size: u64) -> Region {
+    Region { size, ..region }
+}

@@ -1,0 +1,227 @@
+//! Cases for the table check, chosen by hand.
+
+use ordinary::layout::{config_record, set_count, set_record, zone_id, CONFIG_COUNT, CONFIG_GIC, TABLE_COUNT};
+use ordinary::limits::{MAX_IN_SET, MAX_REGIONS, MAX_ZONES, PAGE};
+use ordinary::{ConfigWords, Region, Side, TableWords, Zone, TABLE_WORDS};
+
+use crate::book::Book;
+use crate::given::{config_words, table_words, with_size, with_word, zone, A, B, C, G, P, SIZE, V};
+use crate::rng::Rng;
+
+pub fn add(book: &mut Book) {
+    configurations(book);
+    counts(book);
+    ids(book);
+    unused(book);
+    configured(book);
+    guests(book);
+    shared(book);
+    full(book);
+    any_words(book);
+    desk(book);
+}
+
+/// Configured region k, of a page: 0 is the GIC, and 62 and 63 share guest addresses.
+fn region(k: u64) -> Region {
+    let p = if k == 0 { 0x0800_0000 } else { 0x8000_0000 + k * 2 * PAGE };
+    Region::new(0x4000_0000 + k.min(62) * 2 * PAGE, p, PAGE)
+}
+
+fn regions(positions: &[u64]) -> Vec<Region> {
+    positions.iter().map(|&k| region(k)).collect()
+}
+
+fn config() -> ConfigWords {
+    config_of(MAX_REGIONS as u64)
+}
+
+fn config_of(count: u64) -> ConfigWords {
+    config_words(&(0..count).map(region).collect::<Vec<_>>(), 0)
+}
+
+/// A zone: its id and the configured regions of its CPU and of its IOMMU set, by their positions.
+type Held<'a> = (u32, &'a [u64], &'a [u64]);
+
+const FIVE: Held = (5, &[1, 2], &[1, 0]);
+const SIX: Held = (6, &[3], &[0]);
+
+fn table(zones: &[Held]) -> TableWords {
+    let zones: Vec<Zone> = zones.iter().map(|(id, cpu, iommu)| zone(*id, &regions(cpu), &regions(iommu))).collect();
+    table_words(&zones)
+}
+
+fn base() -> TableWords {
+    table(&[FIVE, SIX])
+}
+
+fn ask(book: &mut Book, name: &str, words: TableWords) {
+    book.ask_table(name, config(), words);
+}
+
+// One table for each reason to be unsound, and the same repaired.
+
+fn configurations(book: &mut Book) {
+    let (none, config) = (table(&[]), config());
+    ask(book, "no zone", none);
+    book.ask_table("no zone, 0 configured", with_word(config, CONFIG_COUNT, 0), none);
+    ask(book, "two zones with regions", base());
+    book.ask_table("65 configured", with_word(config, CONFIG_COUNT, 65), base());
+    book.ask_table("GIC at the count", with_word(config, CONFIG_GIC, 64), base());
+    book.ask_table("two configured regions overlap", with_word(config, config_record(9) + P, region(8).p.0), base());
+    book.ask_table("another GIC, which a CPU set holds", with_word(config, CONFIG_GIC, 2), base());
+    book.ask_table("another GIC, and 0 in two zones", with_word(config, CONFIG_GIC, 9), base());
+    ask(book, "repaired", base());
+}
+
+fn counts(book: &mut Book) {
+    let eight = table(&[0, 1, 2, 3, 4, 5, 6, 7].map(|id| (id, &[][..], &[][..])));
+    ask(book, "9 zones counted", with_word(eight, TABLE_COUNT, 9));
+    ask(book, "2^32 + 8 zones counted", with_word(eight, TABLE_COUNT, (1 << 32) + 8));
+    ask(book, "2^64 - 1 zones counted", with_word(eight, TABLE_COUNT, u64::MAX));
+    ask(book, "8 zones counted", eight);
+    let (low, high): (Vec<u64>, Vec<u64>) = ((1..17).collect(), (17..33).collect());
+    let sixteen = table(&[(1, &low, &high)]);
+    for (side, name) in [(Side::Cpu, "CPU"), (Side::Iommu, "IOMMU")] {
+        for (count, text) in [(17, "17"), (1 << 32, "2^32"), (u64::MAX, "2^64 - 1")] {
+            ask(book, &format!("{text} regions counted, {name}"), with_word(sixteen, set_count(0, side), count));
+        }
+    }
+    ask(book, "16 and 16 regions counted", sixteen);
+}
+
+fn ids(book: &mut Book) {
+    ask(book, "id 256", with_word(base(), zone_id(0), 256));
+    ask(book, "id 2^32 + 5", with_word(base(), zone_id(0), (1 << 32) + 5));
+    ask(book, "id 255", with_word(base(), zone_id(0), 255));
+    ask(book, "id 256 at the second zone", with_word(base(), zone_id(1), 256));
+    ask(book, "id 0 at the second zone", with_word(base(), zone_id(1), 0));
+    ask(book, "the first id again", with_word(base(), zone_id(1), 5));
+    ask(book, "the first id again at the third", table(&[FIVE, SIX, (5, &[], &[])]));
+    ask(book, "the second id again at the third", table(&[FIVE, SIX, (6, &[], &[])]));
+    ask(book, "another id at the third", table(&[FIVE, SIX, (7, &[], &[])]));
+}
+
+fn unused(book: &mut Book) {
+    for (name, at) in [
+        ("v in an unused record", set_record(0, Side::Cpu, 2) + V),
+        ("p in an unused record", set_record(1, Side::Iommu, 1) + P),
+        ("size in an unused record", set_record(0, Side::Iommu, 2) + SIZE),
+        ("size in a set's last record", set_record(1, Side::Cpu, 15) + SIZE),
+        ("id in an unused zone", zone_id(2)),
+        ("CPU count in an unused zone", set_count(2, Side::Cpu)),
+        ("IOMMU count in the last zone", set_count(7, Side::Iommu)),
+        ("v in an unused zone", set_record(2, Side::Cpu, 0) + V),
+        ("p in the last zone", set_record(7, Side::Cpu, 15) + P),
+        ("the last word", TABLE_WORDS - 1),
+    ] {
+        ask(book, name, with_word(base(), at, 1));
+        ask(book, "repaired", base());
+    }
+    ask(book, "one region less counted", with_word(base(), set_count(0, Side::Cpu), 1));
+    ask(book, "one zone less counted", with_word(base(), TABLE_COUNT, 1));
+    ask(book, "its words gone too", table(&[FIVE]));
+}
+
+fn configured(book: &mut Book) {
+    let held = set_record(0, Side::Cpu, 1);
+    for (name, at, x) in [
+        ("v of a held region off by a page", held + V, region(2).v.0 + PAGE),
+        ("p of a held region off by a page", held + P, region(2).p.0 + PAGE),
+        ("size of a held region doubled", held + SIZE, 2 * PAGE),
+        ("v of one, p of another", held + P, region(9).p.0),
+        ("v of a held region 0", set_record(1, Side::Cpu, 0) + V, 0),
+        ("an IOMMU region not configured", set_record(1, Side::Iommu, 0) + P, 4 * PAGE),
+    ] {
+        ask(book, name, with_word(base(), at, x));
+        ask(book, "repaired", base());
+    }
+    let zero_held = with_word(base(), set_count(1, Side::Cpu), 2);
+    ask(book, "a zero record counted", zero_held);
+    book.ask_table("the same with an unused configured record", config_of(MAX_REGIONS as u64 - 1), zero_held);
+    book.ask_table("held but no longer configured", with_word(config(), config_record(3) + V, 0), base());
+    ask(book, "repaired", base());
+}
+
+/// Configured regions 62 and 63 share guest addresses.
+fn guests(book: &mut Book) {
+    ask(book, "62 and 63 in a CPU set", table(&[(5, &[1, 62, 63], &[1, 0]), SIX]));
+    ask(book, "63 and 62 in an IOMMU set", table(&[(5, &[1], &[63, 0, 62]), SIX]));
+    ask(book, "62 CPU, 63 IOMMU", table(&[(5, &[1, 62], &[1, 0, 63]), SIX]));
+    ask(book, "62 and 63 in two zones", table(&[(5, &[1, 62], &[1, 0]), (6, &[3, 63], &[0])]));
+    ask(book, "a region twice in a set", table(&[(5, &[1, 2, 1], &[1, 0]), SIX]));
+    ask(book, "the GIC twice in a set", table(&[(5, &[1, 2], &[0, 1, 0]), SIX]));
+    ask(book, "each once", table(&[(5, &[1, 2], &[1, 0]), SIX]));
+}
+
+fn shared(book: &mut Book) {
+    ask(book, "the GIC on the CPU side", table(&[FIVE, (6, &[3, 0], &[])]));
+    ask(book, "the GIC on the IOMMU side", table(&[FIVE, (6, &[3], &[0])]));
+    ask(book, "CPU region CPU elsewhere", table(&[FIVE, (6, &[3, 2], &[0])]));
+    ask(book, "CPU region IOMMU elsewhere", table(&[FIVE, (6, &[3], &[0, 2])]));
+    ask(book, "IOMMU region CPU elsewhere", table(&[(5, &[1, 2], &[1, 0, 3]), SIX]));
+    ask(book, "IOMMU region IOMMU elsewhere", table(&[(5, &[2], &[0, 1]), (6, &[3], &[0, 1])]));
+    ask(book, "shared by first and third zone", table(&[FIVE, SIX, (7, &[], &[0, 1])]));
+    ask(book, "shared by second and third zone", table(&[FIVE, SIX, (7, &[4, 3], &[0])]));
+    ask(book, "held by nobody else", table(&[FIVE, SIX, (7, &[4], &[0, 4])]));
+    ask(book, "a region on both sides of a zone", table(&[(5, &[1, 2], &[1, 0, 2]), SIX]));
+}
+
+fn full(book: &mut Book) {
+    let shares: Vec<Vec<u64>> = (0..3).map(|z| (1 + 16 * z..17 + 16 * z).collect()).collect();
+    let three: Vec<Held> = shares.iter().zip(0..).map(|(own, id)| (id, &own[..], &own[..])).collect();
+    let left: Vec<u64> = (49..63).collect();
+    let most = [&[63], &left[..13], &[0]].concat();
+    let with_fourth = |iommu: &[u64]| table(&[&three[..], &[(3, &left[..], iommu)]].concat());
+    ask(book, "3 full zones", table(&three));
+    ask(book, "and a fourth with all that is left", with_fourth(&most));
+    ask(book, "and the first region again", with_fourth(&[&most[..], &[1]].concat()));
+    ask(book, "8 full zones, some regions shared", full_of_regions());
+}
+
+fn full_of_regions() -> TableWords {
+    let zones: Vec<Zone> = (0..MAX_ZONES)
+        .map(|z| {
+            let held: Vec<Region> = (0..MAX_IN_SET).map(|i| region(((MAX_IN_SET * z + i) % 61 + 1) as u64)).collect();
+            zone(z as u32, &held, &held)
+        })
+        .collect();
+    table_words(&zones)
+}
+
+/// Words without a plan in the first zones, and what the last table left in the others; then they get ever closer to a table.
+fn any_words(book: &mut Book) {
+    let mut rng = Rng::new(0);
+    let mut words = full_of_regions();
+    words[..zone_id(2)].fill_with(|| rng.word());
+    ask(book, "any words", words);
+    words[TABLE_COUNT] = 2;
+    ask(book, "any words, 2 zones", words);
+    for z in [0, 1] {
+        for side in [Side::Cpu, Side::Iommu] {
+            words[set_count(z, side)] = 1;
+        }
+    }
+    ask(book, "any words, counts 2 and 1", words);
+}
+
+/// The document's desk examples, as the tables that their requests would give, with its own answers.
+fn desk(book: &mut Book) {
+    let config = config_words(&[A, B, C, G], 3);
+    let short = with_size(A, 0x1000);
+    for (name, is_sound, five, six) in [
+        ("CPU A to 5", true, zone(5, &[A], &[]), zone(6, &[], &[])),
+        ("CPU A to 5 again", false, zone(5, &[A, A], &[]), zone(6, &[], &[])),
+        ("CPU A and IOMMU A to 5", true, zone(5, &[A], &[A]), zone(6, &[], &[])),
+        ("then IOMMU A to 6", false, zone(5, &[A], &[A]), zone(6, &[], &[A])),
+        ("CPU A to 5 and to 6", false, zone(5, &[A], &[]), zone(6, &[A], &[])),
+        ("CPU A to 5, CPU B to 6", true, zone(5, &[A], &[]), zone(6, &[B], &[])),
+        ("CPU G to 5", false, zone(5, &[G], &[]), zone(6, &[], &[])),
+        ("IOMMU G to 5 and to 6", true, zone(5, &[], &[G]), zone(6, &[], &[G])),
+        ("IOMMU G to 5 again", false, zone(5, &[], &[G, G]), zone(6, &[], &[G])),
+        ("CPU A and C to 5", false, zone(5, &[A, C], &[]), zone(6, &[], &[])),
+        ("CPU A to 5, CPU C to 6", true, zone(5, &[A], &[]), zone(6, &[C], &[])),
+        ("CPU A with size 0x1000 to 5", false, zone(5, &[short], &[]), zone(6, &[], &[])),
+    ] {
+        book.ask_table(name, config, table_words(&[five, six])).known(is_sound.into());
+    }
+}

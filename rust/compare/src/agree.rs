@@ -1,0 +1,103 @@
+//! What the library answers to a case, and whether the ordinary implementation answers the same.
+
+use std::fmt;
+
+use cases::{Answer, Case, Named, Outcome, PlanFile, Question};
+use ordinary::Record;
+use peatmitten::raw;
+
+use crate::shrink::shrink;
+
+/// Why a run ends early.
+pub struct Trouble {
+    text: String,
+    case: Box<Case>,
+}
+
+impl Trouble {
+    pub fn new(text: impl Into<String>, case: Case) -> Trouble {
+        Trouble { text: text.into(), case: Box::new(case) }
+    }
+
+    /// The same, with the name of the case that it began with.
+    fn named(self, name: &str) -> Trouble {
+        Trouble { text: format!("{name}: {}", self.text), ..self }
+    }
+}
+
+/// What the library answers.
+fn library(case: &Case) -> Answer {
+    let config = peatmitten::Config::from_words(case.config);
+    let table = peatmitten::Table::from_words(case.table);
+    let mut state = peatmitten::State { config, table, edition: case.edition() };
+    let (number, places) = ask_library(case, &mut state);
+    Answer { number, places, config: *state.config.words(), table: *state.table.words(), edition: state.edition }
+}
+
+fn ask_library(case: &Case, state: &mut peatmitten::State) -> (u32, [u64; 2]) {
+    match case.question {
+        Question::Config => raw::check_config(&state.config),
+        Question::Table => (raw::check_table(&state.config, &state.table), [0, 0]),
+        Question::Request => {
+            let Record { kind, zone, region } = case.record();
+            (raw::request(&state.config, &mut state.table, kind, zone, [region.v.0, region.p.0, region.size]), [0, 0])
+        }
+        Question::Translate => {
+            let (number, physical) = raw::translate(&state.config, &state.table, case.number(0), case.number(1), case.numbers[2]);
+            (number, [physical, 0])
+        }
+        Question::Edition => {
+            let (number, answer) = raw::edition(&case.plan);
+            (number, [answer, 0])
+        }
+        Question::Read => {
+            let (number, place) = raw::read(&case.plan);
+            (number, [place, 0])
+        }
+        Question::Apply => raw::apply(state, &case.plan),
+    }
+}
+
+fn differ(case: &Case) -> bool {
+    library(case) != case.ordinary()
+}
+
+/// The answer of both or, if they differ, the smallest case like this one in which they do.
+pub fn agreed(case: &Case) -> Result<Answer, Trouble> {
+    let answer = library(case);
+    if answer == case.ordinary() {
+        return Ok(answer);
+    }
+    Err(Trouble::new("the library and the ordinary implementation differ", shrink(case, differ)))
+}
+
+/// The answer of both to a named case, which is the one worked out by hand where there is one.
+pub fn agreed_by_name(named: &Named) -> Result<Answer, Trouble> {
+    let answer = agreed(&named.case).map_err(|trouble| trouble.named(&named.name))?;
+    match named.known {
+        Some(known) if known != answer.number => {
+            Err(Trouble::new(format!("by hand the answer is {known}"), named.case.clone()).named(&named.name))
+        }
+        _ => Ok(answer),
+    }
+}
+
+/// The answer of both to a plan file, which is the one stored with it.
+pub fn agreed_on_file(file: &PlanFile) -> Result<Answer, Trouble> {
+    let case = file.case();
+    let answer = agreed(&case).map_err(|trouble| trouble.named(&file.name))?;
+    let Outcome { number, place, inner } = file.answer;
+    if (answer.number, answer.places) != (number, [place as u64, inner.into()]) {
+        return Err(Trouble::new(format!("the program's answer is {}", file.answer), case).named(&file.name));
+    }
+    Ok(answer)
+}
+
+impl fmt::Display for Trouble {
+    fn fmt(&self, f: &mut fmt::Formatter) -> fmt::Result {
+        writeln!(f, "DIFFERENCE: {}", self.text)?;
+        write!(f, "{}", self.case)?;
+        write!(f, "library answers: {}", library(&self.case))?;
+        write!(f, "ordinary answers: {}", self.case.ordinary())
+    }
+}

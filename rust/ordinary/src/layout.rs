@@ -1,0 +1,47 @@
+//! Where numbers stand among the words of a configuration and of a table. A record is v, p and size.
+
+use crate::limits::MAX_IN_SET;
+use crate::table::Side;
+
+/// How many words a record is.
+pub const REGION_WORDS: usize = 3;
+/// How many words a set is: its count, then its records.
+pub const SET_WORDS: usize = 1 + MAX_IN_SET * REGION_WORDS;
+/// How many words a zone is: its id, then its CPU and its IOMMU set.
+pub const ZONE_WORDS: usize = 1 + 2 * SET_WORDS;
+
+/// Where a configuration has its count.
+pub const CONFIG_COUNT: usize = 0;
+/// Where a configuration has the GIC's position.
+pub const CONFIG_GIC: usize = 1;
+/// Where the records of a configuration begin.
+pub const CONFIG_RECORDS: usize = 2;
+
+/// Where a table has its count.
+pub const TABLE_COUNT: usize = 0;
+/// Where the zones of a table begin.
+pub const TABLE_ZONES: usize = 1;
+
+/// Where the record of a configuration at this position begins.
+pub const fn config_record(position: usize) -> usize {
+    CONFIG_RECORDS + position * REGION_WORDS
+}
+
+/// Where the zone at this position has its id.
+pub const fn zone_id(zone: usize) -> usize {
+    TABLE_ZONES + zone * ZONE_WORDS
+}
+
+/// Where a set of the zone at this position has its count.
+pub const fn set_count(zone: usize, side: Side) -> usize {
+    let set = match side {
+        Side::Cpu => 0,
+        Side::Iommu => 1,
+    };
+    zone_id(zone) + 1 + set * SET_WORDS
+}
+
+/// Where a record of such a set begins.
+pub const fn set_record(zone: usize, side: Side, place: usize) -> usize {
+    set_count(zone, side) + 1 + place * REGION_WORDS
+}

@@ -1,4 +1,4 @@
-// What the desk examples start from: the regions, the configuration, and the tables.
+// What the examples speak of: the regions, each a letter, and the words of configurations and tables.
 use rules::Guest;
 use rules::Phys;
 use rules::Region;
@@ -6,112 +6,104 @@ use zones::CONFIG_COUNT;
 use zones::CONFIG_GIC;
 use zones::CONFIG_RECORDS;
 use zones::CONFIG_WORDS;
-use zones::Config;
 use zones::REGION_WORDS;
 use zones::TABLE_WORDS;
-use zones::Table;
 use zones::ZONE_WORDS;
-ghost use Prim.Native.Nat.{_<_};
-ghost use Rattle.rules.specs.Limits.{mostRegions};
 
 // ---- regions
 
-pub fn made(v: u64, p: u64, size: u64) -> Region {
+// v, p and size.
+struct Numbers(u64, u64, u64);
+
+const LETTERS: usize = 25;
+
+// The regions from A on, in the order of the letters.
+const REGIONS: [Numbers; LETTERS] = [
+    // The document's A, B and C, then D and E, which fit beside A in one set.
+    Numbers(0x4000_0000, 0x8000_0000, 0x20_0000),
+    Numbers(0x4000_0000, 0x8020_0000, 0x20_0000),
+    Numbers(0x4010_0000, 0x9000_0000, 0x20_0000),
+    Numbers(0x5000_0000, 0xa000_0000, 0x1000),
+    Numbers(0x5000_1000, 0xb000_0000, 0x1000),
+    // F: nothing. G: the GIC.
+    Numbers(0, 0, 0),
+    Numbers(0x0800_0000, 0x0800_0000, 0x1_0000),
+    // H to J: one number that is no multiple of a page.
+    Numbers(0, 0, 0x1800),
+    Numbers(1, 0, 0x1000),
+    Numbers(0, 0x800, 0x1000),
+    // K, L: an end past 2^64, of p and of v.
+    Numbers(0, 0xffff_ffff_ffff_f000, 0x2000),
+    Numbers(0xffff_ffff_ffff_f000, 0, 0x2000),
+    // M, and N to R beside it: inside, around, before, after, inside of size 0.
+    Numbers(0x8000_0000, 0x8000_0000, 0x4000),
+    Numbers(0x8000_1000, 0x8000_1000, 0x1000),
+    Numbers(0x7fff_c000, 0x7fff_c000, 0xc000),
+    Numbers(0x7fff_c000, 0x7fff_c000, 0x4000),
+    Numbers(0x8000_4000, 0x8000_4000, 0x4000),
+    Numbers(0x8000_1000, 0x8000_1000, 0),
+    // S: as long as reach. T: as long as can be.
+    Numbers(0, 0, 0x1_0000_0000_0000),
+    Numbers(0, 0, 0xffff_ffff_ffff_ffff),
+    // U: A with another v.
+    Numbers(0, 0x8000_0000, 0x20_0000),
+    // V, W: an end one page past reach. X: both ends exactly there.
+    Numbers(0x1_0000_0000_0000, 0, 0x1000),
+    Numbers(0, 0x1_0000_0000_0000, 0x1000),
+    Numbers(0xffff_ffff_f000, 0xffff_ffff_f000, 0x1000),
+    // Y: A with size 0x1000.
+    Numbers(0x4000_0000, 0x8000_0000, 0x1000),
+];
+
+// What takes the letter A to the first place.
+const OFFSET: usize = LETTERS - b'A' as usize % LETTERS;
+
+// The region that a letter stands for.
+pub fn region(letter: u8) -> Region {
+    let place = (letter as usize + OFFSET) % LETTERS;
+    let n = REGIONS[place];
     Region {
-        v: Guest(v),
-        p: Phys(p),
-        size,
+        v: Guest(n.0),
+        p: Phys(n.1),
+        size: n.2,
     }
-}
-
-pub fn a() -> Region {
-    made(0x4000_0000, 0x8000_0000, 0x20_0000)
-}
-
-pub fn b() -> Region {
-    made(0x4000_0000, 0x8020_0000, 0x20_0000)
-}
-
-pub fn c() -> Region {
-    made(0x4010_0000, 0x9000_0000, 0x20_0000)
-}
-
-pub fn gic() -> Region {
-    made(0x0800_0000, 0x0800_0000, 0x1_0000)
-}
-
-// Two regions that fit beside A in one set.
-pub fn d() -> Region {
-    made(0x5000_0000, 0xa000_0000, 0x1000)
-}
-
-pub fn e() -> Region {
-    made(0x5000_1000, 0xb000_0000, 0x1000)
 }
 
 // ---- configurations
 
-fn nothing() -> Config {
-    let words = [0u64; CONFIG_WORDS];
-    Config { words }
-}
-
-// The same with the region at position i, counted or not.
-pub fn with_region(c: Config, i: usize, r: Region) -> Config
-    requires { ⌜ i < mostRegions ⌝ }
-{
-    let k = CONFIG_RECORDS + i * REGION_WORDS;
-    let mut words = c.words;
+// Puts a region at a position, counted or not.
+fn put(words: &mut [u64; CONFIG_WORDS], position: usize, letter: u8) {
+    let k = CONFIG_RECORDS + position % LETTERS * REGION_WORDS;
+    let r = region(letter);
     words[k] = r.v.0;
     words[k + 1] = r.p.0;
     words[k + 2] = r.size;
-    Config { words }
 }
 
-pub fn with_count(c: Config, n: u64) -> Config {
-    let mut words = c.words;
-    words[CONFIG_COUNT] = n;
-    Config { words }
-}
-
-pub fn with_gic(c: Config, i: u64) -> Config {
-    let mut words = c.words;
-    words[CONFIG_GIC] = i;
-    Config { words }
-}
-
-// A, B, C and the GIC.
-pub fn config() -> Config {
-    let ab = with_region(with_region(nothing(), 0, a()), 1, b());
-    let abcg = with_region(with_region(ab, 2, c()), 3, gic());
-    with_gic(with_count(abcg, 4), 3)
-}
-
-// The same with D and E after them.
-pub fn wider_config() -> Config {
-    let six = with_region(with_region(config(), 4, d()), 5, e());
-    with_count(six, 6)
+// A, B, C and the GIC, then D and E where more than four are counted; and one more region put at a position.
+pub fn config(count: u64, gic: u64, position: usize, letter: u8) -> [u64; CONFIG_WORDS] {
+    let mut words = [0u64; CONFIG_WORDS];
+    words[CONFIG_COUNT] = count;
+    words[CONFIG_GIC] = gic;
+    put(&mut words, 0, b'A');
+    put(&mut words, 1, b'B');
+    put(&mut words, 2, b'C');
+    put(&mut words, 3, b'G');
+    if count > 4 {
+        put(&mut words, 4, b'D');
+        put(&mut words, 5, b'E');
+    }
+    put(&mut words, position, letter);
+    words
 }
 
 // ---- tables
 
-pub fn no_zones() -> Table {
-    let words = [0u64; TABLE_WORDS];
-    Table { words }
-}
-
-// Zones 5 and 6, both empty.
-pub fn five_and_six() -> Table {
+// Two empty zones: one with the first id, and 6.
+pub fn two_zones(first: u64) -> [u64; TABLE_WORDS] {
     let mut words = [0u64; TABLE_WORDS];
     words[0] = 2;
-    words[1] = 5;
+    words[1] = first;
     words[1 + ZONE_WORDS] = 6;
-    Table { words }
-}
-
-// The same with another id at the first zone.
-pub fn with_first_id(t: Table, id: u64) -> Table {
-    let mut words = t.words;
-    words[1] = id;
-    Table { words }
+    words
 }

@@ -1,9 +1,6 @@
 // The desk examples on regions, and each way in which two of them can lie.
-use crate::given::a;
-use crate::given::b;
-use crate::given::c;
-use crate::given::gic;
-use crate::given::made;
+use crate::given::region;
+use crate::report::name;
 use crate::report::say;
 use crate::report::text;
 use region::guest_overlap;
@@ -11,135 +8,48 @@ use region::in_reach;
 use region::phys_overlap;
 use region::region_eq;
 use region::well_formed;
-use rules::Region;
 
-// 2^48, where reach ends, and the last page of 64-bit addresses.
-const REACH: u64 = 0x1_0000_0000_0000;
-
-const LAST_PAGE: u64 = 0xffff_ffff_ffff_f000;
-
-// Where the regions of `beside` lie.
-const MID: u64 = 0x8000_0000;
-
-const LOW: u64 = 0x7fff_c000;
-
-pub fn forms() {
-    say(b"A is well formed", well_formed(a()));
-    say(b"size 0 is well formed", well_formed(made(0, 0, 0)));
-    say(
-        b"size 0x1800 is well formed",
-        well_formed(made(0, 0, 0x1800)),
-    );
-    say(b"v 1 is well formed", well_formed(made(1, 0, 0x1000)));
-    say(
-        b"p 0x800 is well formed",
-        well_formed(made(0, 0x800, 0x1000)),
-    );
-    say(
-        b"p 2^64 - 4096, size 8192 is well formed",
-        well_formed(made(0, LAST_PAGE, 0x2000)),
-    );
+pub fn examples() {
+    alone(b"AFHIJKLXVWST");
+    beside(b'A', b"ABUYCG");
+    beside(b'C', b"A");
+    beside(b'G', b"G");
+    beside(b'M', b"ONPQR");
 }
 
-pub fn reaches() {
-    say(b"A is in reach", in_reach(a()));
-    say(
-        b"p 2^64 - 4096, size 8192 is in reach",
-        in_reach(made(0, LAST_PAGE, 0x2000)),
-    );
-    say(
-        b"v 2^64 - 4096, size 8192 is in reach",
-        in_reach(made(LAST_PAGE, 0, 0x2000)),
-    );
-    say(
-        b"an end of v exactly at 2^48 is in reach",
-        in_reach(made(REACH - 0x1000, 0, 0x1000)),
-    );
-    say(
-        b"an end of p exactly at 2^48 is in reach",
-        in_reach(made(0, REACH - 0x1000, 0x1000)),
-    );
-    say(
-        b"an end of v one page past 2^48 is in reach",
-        in_reach(made(REACH, 0, 0x1000)),
-    );
-    say(
-        b"an end of p one page past 2^48 is in reach",
-        in_reach(made(0, REACH, 0x1000)),
-    );
-    say(b"size 2^48 from 0 is in reach", in_reach(made(0, 0, REACH)));
-    say(
-        b"size 2^64 - 1 from 0 is in reach",
-        in_reach(made(0, 0, 0xffff_ffff_ffff_ffff)),
-    );
+fn alone(letters: &[u8]) {
+    let mut k: usize = 0;
+    while k < letters.len() {
+        ask(letters[k]);
+        k += 1;
+    }
 }
 
-pub fn equals() {
-    say(b"A equals A", region_eq(a(), a()));
-    say(b"A equals B, which differs in p", region_eq(a(), b()));
-    say(
-        b"A equals A with another v",
-        region_eq(a(), made(0, 0x8000_0000, 0x20_0000)),
-    );
-    say(
-        b"A equals A with size 0x1000",
-        region_eq(a(), made(0x4000_0000, 0x8000_0000, 0x1000)),
-    );
+fn ask(letter: u8) {
+    let r = region(letter);
+    text(b"region");
+    name(letter);
+    say(b"\n    is well formed", well_formed(r));
+    say(b"    is in reach", in_reach(r));
 }
 
-pub fn overlaps() {
-    say(
-        b"A and B overlap physically (adjoining)",
-        phys_overlap(a(), b()),
-    );
-    say(
-        b"A and B overlap in guest addresses (equal)",
-        guest_overlap(a(), b()),
-    );
-    say(
-        b"A and C overlap physically (apart)",
-        phys_overlap(a(), c()),
-    );
-    say(
-        b"A and C overlap in guest addresses (crossing)",
-        guest_overlap(a(), c()),
-    );
-    say(
-        b"C and A overlap in guest addresses (crossing)",
-        guest_overlap(c(), a()),
-    );
-    say(
-        b"A and the GIC overlap physically (apart)",
-        phys_overlap(a(), gic()),
-    );
-    say(
-        b"the GIC and the GIC overlap physically (equal)",
-        phys_overlap(gic(), gic()),
-    );
-    beside(b"one that encloses a region", made(LOW, LOW, 0xc000));
-    beside(
-        b"one that a region encloses",
-        made(MID + 0x1000, MID + 0x1000, 0x1000),
-    );
-    beside(b"one that ends at a region's start", made(LOW, LOW, 0x4000));
-    beside(
-        b"one that starts at a region's end",
-        made(MID + 0x4000, MID + 0x4000, 0x4000),
-    );
-    beside(
-        b"one of size 0 inside a region",
-        made(MID + 0x1000, MID + 0x1000, 0),
-    );
+// One region beside each of the others.
+fn beside(one: u8, others: &[u8]) {
+    let mut k: usize = 0;
+    while k < others.len() {
+        ask_both(one, others[k]);
+        k += 1;
+    }
 }
 
-// Whether a region overlaps 0x4000 bytes from MID on, at physical and at guest addresses.
-fn beside(what: &[u8], other: Region) {
-    let mid = made(MID, MID, 0x4000);
-    text(what);
-    say(b" overlaps it physically", phys_overlap(mid, other));
-    text(what);
-    say(
-        b" overlaps it in guest addresses",
-        guest_overlap(mid, other),
-    );
+fn ask_both(one: u8, other: u8) {
+    let r = region(one);
+    let s = region(other);
+    text(b"regions");
+    name(one);
+    text(b" and");
+    name(other);
+    say(b"\n    are equal", region_eq(r, s));
+    say(b"    overlap physically", phys_overlap(r, s));
+    say(b"    overlap in guest addresses", guest_overlap(r, s));
 }

@@ -1,10 +1,11 @@
 // What the program writes.
+use crate::given::region;
+use rules::Region;
 use rules::limits::MOST_IN_SET;
 use rules::limits::MOST_ZONES;
 use zones::REGION_WORDS;
 use zones::SET_WORDS;
 use zones::TABLE_WORDS;
-use zones::Table;
 use zones::ZONE_WORDS;
 ghost use Prim.Native.Nat.{_+_, _≤_};
 ghost use Rattle.zones.specs.Layout.{tableWords, setWords, zoneWords, regionWords};
@@ -18,8 +19,8 @@ pub fn number(n: u64) {
     io::print_decimal(libc::STDOUT_FILENO, n);
 }
 
-fn hex(n: u64) {
-    text(b" 0x");
+fn hex(name: &[u8], n: u64) {
+    text(name);
     io::print_hex(libc::STDOUT_FILENO, n, 1);
 }
 
@@ -33,22 +34,32 @@ pub fn say(asked: &[u8], holds: bool) {
     }
 }
 
-// What was asked, and the number answered.
-pub fn answered(asked: &[u8], n: u32) {
-    text(asked);
-    text(b":");
-    number(n as u64);
-    text(b"\n");
+fn numbers(v: u64, p: u64, size: u64) {
+    hex(b" (v 0x", v);
+    hex(b" p 0x", p);
+    hex(b" size 0x", size);
+    text(b")");
+}
+
+// A region: its letter, A to E or G, or else its numbers.
+pub fn name(letter: u8) {
+    match letter {
+        b'A'..=b'E' | b'G' => text(&[b' ', letter]),
+        _ => of_numbers(region(letter)),
+    }
+}
+
+fn of_numbers(r: Region) {
+    numbers(r.v.0, r.p.0, r.size);
 }
 
 // ---- tables, a line for each zone in order
 
-pub fn show_table(t: Table) {
-    let words = t.words;
+pub fn show_table(t: &[u64; TABLE_WORDS]) {
     let mut z: usize = 0;
     while z < MOST_ZONES {
-        if (z as u64) < words[0] {
-            show_zone(&words, 1 + z * ZONE_WORDS);
+        if (z as u64) < t[0] {
+            show_zone(t, 1 + z * ZONE_WORDS);
         }
         z += 1;
     }
@@ -87,11 +98,5 @@ fn show_set(t: &[u64; TABLE_WORDS], b: usize)
 fn show_region(t: &[u64; TABLE_WORDS], k: usize)
     requires { ⌜ k + regionWords ≤ tableWords ⌝ }
 {
-    text(b" (v");
-    hex(t[k]);
-    text(b" p");
-    hex(t[k + 1]);
-    text(b" size");
-    hex(t[k + 2]);
-    text(b")");
+    numbers(t[k], t[k + 1], t[k + 2]);
 }

@@ -1,91 +1,141 @@
-// The desk examples on requests, each from zones 5 and 6, both empty.
-use crate::asking::add;
-use crate::asking::after;
-use crate::asking::ask;
-use crate::asking::five_holds_a;
-use crate::asking::insert_cpu;
-use crate::asking::insert_iommu;
-use crate::asking::remove_iommu;
-use crate::asking::remove_zone;
-use crate::given::a;
-use crate::given::b;
-use crate::given::c;
-use crate::given::five_and_six;
-use crate::given::gic;
-use crate::given::made;
+// The desk examples on requests. A request is four bytes: its kind, its zone, its region and a space. The zone is a digit, x for 255 or
+// y for 256; the region is F, nothing, where the kind takes none.
+use crate::given::config;
+use crate::given::region;
+use crate::given::two_zones;
+use crate::report::name;
+use crate::report::number;
+use crate::report::say;
 use crate::report::show_table;
-use rules::Region;
+use crate::report::text;
+use zones::CONFIG_WORDS;
+use zones::TABLE_WORDS;
+use zones::make_request;
+use zones::step_in;
 
-pub fn zones_added() {
-    let t = five_and_six();
-    show_table(ask(b"add 5 again", t, add(5)));
-    show_table(ask(b"add 256", t, add(256)));
-    show_table(ask(b"add 255", t, add(255)));
+const REQUEST: usize = 4;
+
+pub fn examples() {
+    // Add 5 again, 256 and 255.
+    run(4, 3, 5, b"15F 1yF 1xF ");
+    // A on both sides of 5 and in 6; B, which adjoins A, in 6.
+    run(4, 3, 5, b"35A 35A 55A 56A 36A 36B ");
+    // The GIC.
+    run(4, 3, 5, b"35G 55G 56G 55G ");
+    // C crosses A in guest addresses.
+    run(4, 3, 5, b"35A 35C 36C ");
+    // A zone that holds only the GIC, removed after it.
+    run(4, 3, 5, b"55G 25F 65G 25F ");
+    // The ninth zone, also after one is removed.
+    run(4, 3, 5, b"11F 12F 13F 14F 17F 18F 19F 26F 19F ");
+    // Form, reach, and whether a region is configured.
+    run(4, 3, 5, b"35F 35H 35K 35X 35Y ");
 }
 
-pub fn regions_inserted() {
-    let one = ask(b"CPU A to 5", five_and_six(), insert_cpu(a(), 5));
-    show_table(one);
-    let again = ask(b"CPU A to 5 again", one, insert_cpu(a(), 5));
-    let both = ask(b"then IOMMU A to 5", again, insert_iommu(a(), 5));
-    let other = ask(b"then IOMMU A to 6", both, insert_iommu(a(), 6));
-    let cpu = ask(b"then CPU A to 6", other, insert_cpu(a(), 6));
-    show_table(ask(b"then CPU B to 6, which adjoins A", cpu, insert_cpu(b(), 6)));
+pub fn more_examples() {
+    // Order is kept: A, D and E; A taken away; A put back.
+    run(6, 3, 5, b"35A 35D 35E ");
+    run(6, 3, 5, b"35A 35D 35E 45A ");
+    run(6, 3, 5, b"35A 35D 35E 45A 35A ");
+    // A region and a zone that are not there, and what is no request.
+    run(4, 3, 5, b"35A 45B 37B 05F 0yF ");
+    // An unsound configuration, an unsound table, both.
+    run(4, 4, 5, b"17F ");
+    run(4, 3, 256, b"17F ");
+    run(4, 4, 256, b"17F ");
 }
 
-pub fn gic_inserted() {
-    let t = ask(b"CPU GIC to 5", five_and_six(), insert_cpu(gic(), 5));
-    let five = ask(b"IOMMU GIC to 5", t, insert_iommu(gic(), 5));
-    let six = ask(b"then IOMMU GIC to 6", five, insert_iommu(gic(), 6));
-    show_table(ask(b"then IOMMU GIC to 5 again", six, insert_iommu(gic(), 5)));
+// So many regions configured, the GIC at a position, two empty zones of which the second is 6; then requests, and the table that they
+// leave.
+fn run(configured: u64, gic: u64, first: u64, requests: &[u8]) {
+    heading(configured, gic, first);
+    let c = config(configured, gic, 0, b'A');
+    let mut t = two_zones(first);
+    in_turn(&c, &mut t, requests);
+    show_table(&t);
 }
 
-pub fn guests_crossing() {
-    let t = ask(
-        b"CPU C to 5, which holds A",
-        five_holds_a(),
-        insert_cpu(c(), 5),
-    );
-    show_table(ask(b"then CPU C to 6", t, insert_cpu(c(), 6)));
+fn heading(configured: u64, gic: u64, first: u64) {
+    text(b"----");
+    number(configured);
+    text(b" regions, the GIC at");
+    number(gic);
+    text(b"; zones");
+    number(first);
+    text(b" and 6\n");
 }
 
-pub fn zones_removed() {
-    let held = after(five_and_six(), insert_iommu(gic(), 5));
-    let t = ask(b"remove 5, which holds only the GIC", held, remove_zone(5));
-    let empty = ask(b"then IOMMU GIC out of 5", t, remove_iommu(gic(), 5));
-    show_table(ask(b"then remove 5", empty, remove_zone(5)));
+fn in_turn(c: &[u64; CONFIG_WORDS], t: &mut [u64; TABLE_WORDS], requests: &[u8]) {
+    let mut k: usize = 0;
+    while requests.len() - k >= REQUEST {
+        request(c, t, requests[k], requests[k + 1], requests[k + 2]);
+        k += REQUEST;
+    }
 }
 
-pub fn ninth_zone() {
-    let four = after(after(five_and_six(), add(1)), add(2));
-    let six = after(after(four, add(3)), add(4));
-    let eight = after(after(six, add(7)), add(8));
-    let t = ask(b"add 9 to eight zones", eight, add(9));
-    let seven = ask(b"then remove 6, which is empty", t, remove_zone(6));
-    show_table(ask(b"then add 9", seven, add(9)));
+// Makes a request and writes what was asked and answered; of a refusal, also whether the table is the one that was given.
+fn request(c: &[u64; CONFIG_WORDS], t: &mut [u64; TABLE_WORDS], kind: u8, id: u8, letter: u8) {
+    let before = *t;
+    let n = step_in(c, t, make_request(digit(kind), zone_of(id), region(letter)));
+    let kept = same(&before, t);
+    answered(kind, id, letter, n);
+    if n != 0 {
+        say(b"    the table is the one that was given", kept);
+    }
 }
 
-// A region that zone 5 is asked to take.
-fn to_five(asked: &[u8], r: Region) {
-    ask(asked, five_and_six(), insert_cpu(r, 5));
+fn answered(kind: u8, id: u8, letter: u8, n: u32) {
+    asked(digit(kind), letter);
+    number(zone_of(id) as u64);
+    text(b":");
+    number(n as u64);
+    text(b"\n");
 }
 
-pub fn regions_looked_at() {
-    to_five(b"CPU A with size 0 to 5", made(0x4000_0000, 0x8000_0000, 0));
-    to_five(
-        b"CPU A with size 0x1800 to 5",
-        made(0x4000_0000, 0x8000_0000, 0x1800),
-    );
-    to_five(
-        b"CPU p 2^64 - 4096, size 8192, v 0 to 5",
-        made(0, 0xffff_ffff_ffff_f000, 0x2000),
-    );
-    to_five(
-        b"CPU end of v and p exactly 2^48 to 5, in reach and not configured",
-        made(0xffff_ffff_f000, 0xffff_ffff_f000, 0x1000),
-    );
-    to_five(
-        b"CPU A with size 0x1000 to 5",
-        made(0x4000_0000, 0x8000_0000, 0x1000),
-    );
+fn digit(b: u8) -> u32 {
+    b as u32 % 16
+}
+
+fn zone_of(id: u8) -> u32 {
+    match id {
+        b'x' => 255,
+        b'y' => 256,
+        _ => digit(id),
+    }
+}
+
+fn asked(kind: u32, letter: u8) {
+    match kind {
+        0 => text(b"no request, of"),
+        1 => text(b"add"),
+        2 => text(b"remove"),
+        _ => moved(kind, letter),
+    }
+}
+
+// Kinds 3 and 4 are of the CPU, 5 and 6 of the IOMMU; the odd ones insert.
+fn moved(kind: u32, letter: u8) {
+    if kind < 5 {
+        text(b"CPU");
+    } else {
+        text(b"IOMMU");
+    }
+    name(letter);
+    if kind % 2 == 1 {
+        text(b" to");
+    } else {
+        text(b" out of");
+    }
+}
+
+// Whether two tables are the same, word by word.
+fn same(a: &[u64; TABLE_WORDS], b: &[u64; TABLE_WORDS]) -> bool {
+    let mut k: usize = 0;
+    while k < TABLE_WORDS {
+        if a[k] != b[k] {
+            return false;
+        }
+        k += 1;
+    }
+    true
 }

@@ -27,7 +27,7 @@ impl Named {
             Question::Config => format!("{number} {place} {other}"),
             Question::Table => (if number == 1 { "yes" } else { "no" }).into(),
             Question::Request => format!("{number} {left}"),
-            Question::Translate | Question::Read => format!("{number} {place}"),
+            Question::Translate | Question::Edition | Question::Read => format!("{number} {place}"),
             Question::Apply => format!("{number} {place} {other} {edition} {left}"),
         };
         format!("{}: {answer}", self.name)

@@ -1,3 +1,4 @@
+-- The record shown is below the most that a set can hold, so it lies within the table.
 use Prim.Native.Nat.{_-_, _≤_}
 use borrow.Author.Needs.{needs}
 use Rattle.rules.specs.Limits.{mostInSet}

@@ -1,3 +1,4 @@
+-- The zone shown is below the most that a table can hold, so it lies within the table.
 use Prim.Native.Nat.{_-_, _≤_}
 use borrow.Author.Needs.{needs}
 use Rattle.rules.specs.Limits.{mostZones}
@@ -5,16 +6,16 @@ use Rattle.desk.proofs.report.show_table.Statement.{statement}
 use Rattle.desk.proofs.report.show_table.Tie as tie
 
 abbrev Inv-loop : tie.InvT-loop
-Inv-loop words z₀ z = z ≤ mostZones
+Inv-loop t z₀ z = z ≤ mostZones
 
 abbrev μ-loop : tie.MeasureT-loop
-μ-loop words z₀ z = mostZones - z
+μ-loop t z₀ z = mostZones - z
 
 loop-holds : tie.Need-loop-holds Inv-loop μ-loop
 loop-holds c = search needs
 
-array-read-if1 : tie.Need-array-read-if1 Inv-loop μ-loop
-array-read-if1 c = search needs
+element-copy-out-if1 : tie.Need-element-copy-out-if1 Inv-loop μ-loop
+element-copy-out-if1 c = search needs
 
 mul-show-zone : tie.Need-mul-show-zone Inv-loop μ-loop
 mul-show-zone c = search needs
@@ -44,7 +45,7 @@ show-table-spec =
     Inv-loop
     μ-loop
     loop-holds
-    array-read-if1
+    element-copy-out-if1
     mul-show-zone
     add-show-zone
     show-zone-requires

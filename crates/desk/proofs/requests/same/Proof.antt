@@ -1,8 +1,9 @@
+-- Every index is below the number of words, which both tables have.
 use Prim.Native.Nat.{_-_, _≤_}
-use borrow.Author.Needs.{needs}
 use Rattle.zones.specs.Layout.{tableWords}
-use Rattle.desk.proofs.changes.same.Statement.{statement}
-use Rattle.desk.proofs.changes.same.Tie as tie
+use borrow.Author.Needs.{needs}
+use Rattle.desk.proofs.requests.same.Statement.{statement}
+use Rattle.desk.proofs.requests.same.Tie as tie
 
 abbrev Inv-loop : tie.InvT-loop
 Inv-loop a b k₀ k = k ≤ tableWords
@@ -16,14 +17,14 @@ loop-holds c = search needs
 mul-if1 : tie.Need-mul-if1 Inv-loop μ-loop
 mul-if1 c = search needs
 
-array-read-if1 : tie.Need-array-read-if1 Inv-loop μ-loop
-array-read-if1 c = search needs
+element-copy-out-if1 : tie.Need-element-copy-out-if1 Inv-loop μ-loop
+element-copy-out-if1 c = search needs
 
 mul-if1-2 : tie.Need-mul-if1-2 Inv-loop μ-loop
 mul-if1-2 c = search needs
 
-array-read-if1-2 : tie.Need-array-read-if1-2 Inv-loop μ-loop
-array-read-if1-2 c = search needs
+element-copy-out-if1-2 : tie.Need-element-copy-out-if1-2 Inv-loop μ-loop
+element-copy-out-if1-2 c = search needs
 
 returns : tie.Need-returns Inv-loop μ-loop
 returns c = search needs
@@ -48,9 +49,9 @@ same-spec =
     μ-loop
     loop-holds
     mul-if1
-    array-read-if1
+    element-copy-out-if1
     mul-if1-2
-    array-read-if1-2
+    element-copy-out-if1-2
     returns
     add-k
     loop-less

@@ -14,4 +14,7 @@ pub mod Applying
 pub mod Planner
 pub mod Desk
 pub mod Story
+pub mod RequestExamples
+pub mod CheckExamples
+pub mod PlanExamples
 pub mod Closure

@@ -42,6 +42,7 @@ enum {
     PEATMITTEN_MOST_REGIONS = 64,   /* regions of a configuration */
     PEATMITTEN_MOST_ZONES = 8,      /* zones of a table */
     PEATMITTEN_MOST_IN_SET = 16,    /* regions of one set of a zone */
+    PEATMITTEN_MOST_REQUESTS = 1024, /* requests of a plan */
     PEATMITTEN_HIGHEST_ID = 255,    /* the highest zone id */
     PEATMITTEN_LONGEST_PLAN = 40568 /* bytes; a longer file is no plan */
 };
@@ -101,6 +102,25 @@ PEATMITTEN_ASSERT(offsetof(peatmitten_outcome, inner) == 16, "the inner number s
 PEATMITTEN_ASSERT(sizeof(peatmitten_outcome) == 24, "an outcome is 24 bytes");
 PEATMITTEN_ASSERT(sizeof(size_t) == 8, "the library is for a 64-bit machine");
 
+/*
+ * Header and library belong together. The name of this function has the most regions, zones, regions of a set and requests, and the words
+ * of a region; each file that includes this header refers to it, so that with the library of another layout a program does not link.
+ * It answers these numbers, one for each peatmitten_layout_number, and 0 for any other.
+ */
+#define peatmitten_layout peatmitten_layout_64_8_16_1024_3
+uint64_t peatmitten_layout_64_8_16_1024_3(uint32_t which);
+
+enum peatmitten_layout_number {
+    PEATMITTEN_LAYOUT_REGIONS = 0,
+    PEATMITTEN_LAYOUT_ZONES = 1,
+    PEATMITTEN_LAYOUT_IN_SET = 2,
+    PEATMITTEN_LAYOUT_REQUESTS = 3,
+    PEATMITTEN_LAYOUT_REGION_WORDS = 4,
+    PEATMITTEN_LAYOUT_LONGEST_PLAN = 5
+};
+
+static uint64_t (*const peatmitten_layout_needed)(uint32_t) __attribute__((used)) = peatmitten_layout;
+
 /* What peatmitten_check_config answers: the first fault, C1 to C6. C4 to C6 are looked for position by position. */
 enum peatmitten_config_fault {
     PEATMITTEN_CONFIG_SOUND = 0,
@@ -151,7 +171,7 @@ enum peatmitten_answer {
     PEATMITTEN_TRAILING = 22,         /* (plan) bytes after the last section; place: the first one's offset */
     PEATMITTEN_OTHER_CONFIG = 23,     /* (plan) configuration or GIC position differs from the terminal's */
     PEATMITTEN_OTHER_EDITION = 24,    /* (plan) the edition differs: most often a repeated or an overtaken plan */
-    PEATMITTEN_LAST_EDITION = 25,     /* (plan) the edition is 2^32 - 1: there is no next one */
+    PEATMITTEN_NO_NEXT_EDITION = 25,  /* (plan) the edition is 2^32 - 1: there is no next one */
     PEATMITTEN_OTHER_ZONES = 26,      /* (plan) the base zones differ, order included */
     PEATMITTEN_REQUEST_REFUSED = 27   /* (plan) a request is refused; place: its index from 0; inner: its number, 3 to 17 */
 };

@@ -60,7 +60,7 @@ static inline const char *peatmitten_words(uint32_t number)
         return "the plan is for another configuration, or for another position of the GIC";
     case PEATMITTEN_OTHER_EDITION:
         return "the plan is for another edition";
-    case PEATMITTEN_LAST_EDITION:
+    case PEATMITTEN_NO_NEXT_EDITION:
         return "the edition is 2^32 - 1, which has no next";
     case PEATMITTEN_OTHER_ZONES:
         return "the plan is for other zones, or for these in another order";

@@ -1,6 +1,6 @@
 #!/usr/bin/env bash
-# Builds the C example against the library, plainly and under sanitizers, and compares what it prints. The headers are compiled
-# as C++ too. On another processor than x86-64 the programs are emulated.
+# Builds the C example against the library, plainly and under sanitizers, and compares what it prints; holds the header's limits to the
+# library's, and sees that another layout does not link. The headers are compiled as C++ too. On another processor than x86-64 the programs are emulated.
 set -euo pipefail
 test_name=c
 . "$(dirname "$0")/host.sh"
@@ -54,6 +54,52 @@ run_cases() {
     expect_error 'usage: apply_plan [-s STATE] PLAN...' "$program"
 }
 
+# The header's limits are the library's, and its layout function's name says them.
+check_layout() {
+    cat >"$work/layout.c" <<'TEXT'
+#include <stdio.h>
+#include "peatmitten.h"
+
+static int differs(const char *what, uint64_t header, uint32_t which)
+{
+    if (header != peatmitten_layout(which))
+        printf("%s: %llu in the header, %llu in the library\n", what, (unsigned long long)header,
+               (unsigned long long)peatmitten_layout(which));
+    return header != peatmitten_layout(which);
+}
+
+#define NAME_OF(symbol) #symbol
+#define TEXT_OF(symbol) NAME_OF(symbol)
+
+int main(void)
+{
+    char name[100];
+    snprintf(name, sizeof name, "peatmitten_layout_%d_%d_%d_%d_%d", PEATMITTEN_MOST_REGIONS, PEATMITTEN_MOST_ZONES, PEATMITTEN_MOST_IN_SET,
+             PEATMITTEN_MOST_REQUESTS, PEATMITTEN_REGION_WORDS);
+    printf("%s %s\n", name, TEXT_OF(peatmitten_layout));
+    return differs("regions", PEATMITTEN_MOST_REGIONS, PEATMITTEN_LAYOUT_REGIONS) |
+           differs("zones", PEATMITTEN_MOST_ZONES, PEATMITTEN_LAYOUT_ZONES) |
+           differs("regions of a set", PEATMITTEN_MOST_IN_SET, PEATMITTEN_LAYOUT_IN_SET) |
+           differs("requests", PEATMITTEN_MOST_REQUESTS, PEATMITTEN_LAYOUT_REQUESTS) |
+           differs("words of a region", PEATMITTEN_REGION_WORDS, PEATMITTEN_LAYOUT_REGION_WORDS) |
+           differs("longest plan", PEATMITTEN_LONGEST_PLAN, PEATMITTEN_LAYOUT_LONGEST_PLAN) | (peatmitten_layout(6) != 0);
+}
+TEXT
+    "$CC" -std=c11 -Wall -Wextra -Wpedantic -Werror -I"$root/include" "$work/layout.c" "$ARCHIVE" -o "$work/layout" ||
+        say_failed "a program that asks for the layout does not build"
+    printed=$($EMULATOR "$work/layout") || say_failed "header and library differ: $printed"
+    [ "${printed% *}" = "${printed#* }" ] || say_failed "the layout function's name is ${printed#* }, and the limits make ${printed% *}"
+}
+
+# A program with the header of another layout must not link.
+check_other_layout() {
+    mkdir "$work/other"
+    sed 's/peatmitten_layout_64_/peatmitten_layout_65_/' "$root/include/peatmitten.h" >"$work/other/peatmitten.h"
+    ! "$CC" -std=c11 -I"$work/other" "$root/examples/c/apply_plan.c" "$ARCHIVE" -o "$work/other/program" 2>"$work/errors" ||
+        say_failed "a program with the header of another layout links"
+    grep -q 'undefined reference.*peatmitten_layout_65_' "$work/errors" || say_failed "another layout is refused for another reason"
+}
+
 check_cpp() {
     printf '#include "peatmitten.h"\n#include "peatmitten_words.h"\n' >"$work/header.cpp"
     "$1" -std=c++11 -Wall -Wextra -Wpedantic -Werror -fsyntax-only -I"$root/include" "$work/header.cpp" ||
@@ -62,6 +108,8 @@ check_cpp() {
 
 build "$work/plain"
 run_cases "$work/plain"
+check_layout
+check_other_layout
 
 find_sanitizers
 if [ ${#SANITIZERS[@]} -gt 0 ]; then

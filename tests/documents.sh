@@ -48,7 +48,7 @@ check_plan() {
 check_functions() {
     local declared listed
     declared=$(declared_functions)
-    listed=$(sed -n 's/^| `\(peatmitten_[a-z_]*\)` |.*/\1/p' "$root/README.md" | sort)
+    listed=$(sed -n 's/^| `\(peatmitten_[a-z0-9_]*\)` |.*/\1/p' "$root/README.md" | sort)
     [ -n "$declared" ] || say_failed "include/peatmitten.h declares no function"
     [ "$declared" = "$listed" ] || say_failed "README.md lists other functions than include/peatmitten.h declares"
 }

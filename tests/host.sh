@@ -19,7 +19,7 @@ say_failed() {
 
 # The functions that the header declares, one a line.
 declared_functions() {
-    grep -oE '^[a-z0-9_]+ \*?peatmitten_[a-z_]+\(' "$root/include/peatmitten.h" | grep -oE 'peatmitten_[a-z_]+\(' | tr -d '(' | sort
+    grep -oE '^[a-z0-9_]+ \*?peatmitten_[a-z0-9_]+\(' "$root/include/peatmitten.h" | grep -oE 'peatmitten_[a-z0-9_]+\(' | tr -d '(' | sort
 }
 
 need_library() {

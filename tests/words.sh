@@ -3,6 +3,7 @@
 set -euo pipefail
 test_name=words
 . "$(dirname "$0")/host.sh"
+need_library
 need_c
 work=$(mktemp -d)
 trap 'rm -rf "$work"' EXIT
@@ -21,7 +22,7 @@ int main(void)
     return 0;
 }
 TEXT
-"$CC" -std=c11 -Wall -Wextra -Wpedantic -Werror -I"$root/include" "$work/words.c" -o "$work/words" || say_failed "the words do not compile"
+"$CC" -std=c11 -Wall -Wextra -Wpedantic -Werror -I"$root/include" "$work/words.c" "$ARCHIVE" -o "$work/words" || say_failed "the words do not compile"
 $EMULATOR "$work/words" | grep -v ' no number of the library$\| no fault of a configuration$' | sort >"$work/said"
 awk -F ' *[|] *' '$2 ~ /^C?[0-9]+$/ { print $2, $3 }' "$root/docs/NUMBERS.md" | sort >"$work/written"
 [ -s "$work/written" ] || say_failed "docs/NUMBERS.md has no numbers"

@@ -1,11 +1,11 @@
 -- What each return answers.
-use Prim.Native.Nat.{ℕ}
+use Prim.Native.Nat.{ℕ, zero, suc}
 use native.Mathlib.Omega.{arith}
 use mathlib.Core.Bool.{Bool, true, false, cond}
 use mathlib.Core.List.{List, [], _∷_}
 use mathlib.Core.Path.{_≡_, refl, sym, ap, subst, _∙_}
 use borrow.Author.Tests.{eq-eqb, ne-eqb}
-use lib.ListN.{length, set}
+use lib.ListN.{length, getD, set}
 use Rattle.rules.specs.Configuration.{checkNumber, checkPlace, checkEarlier, StoredConfig}
 use Rattle.rules.specs.Limits.{limits}
 use Rattle.rules.specs.Plan.{readPlan}
@@ -25,7 +25,17 @@ use Rattle.plan.specs.declared.words.Section.the-variants.{End, Bad}
 use Rattle.walker.specs.Edition.{editionOf}
 use Rattle.walker.specs.declared.Edition.{Edition}
 use Rattle.walker.specs.declared.Edition.the-variants.{Is, Bad as BadEdition}
-use Rattle.agent.specs.Agent.{placesOf, yesOrNo, sideOf, numberOf, placeOf, readNumber, readPlace, editionNumber, editionValue}
+use Rattle.agent.specs.Agent.{layout, placesOf, yesOrNo, sideOf, numberOf, placeOf, readNumber, readPlace, editionNumber, editionValue}
+
+-- what stands past the last number of the layout
+pub past-layout : (n : ℕ) → (n ≡ 0 → ⊥) → (n ≡ 1 → ⊥) → (n ≡ 2 → ⊥) → (n ≡ 3 → ⊥) → (n ≡ 4 → ⊥) → (n ≡ 5 → ⊥) → 0 ≡ getD layout n 0
+past-layout zero a b c d e f = absurd (a refl)
+past-layout (suc zero) a b c d e f = absurd (b refl)
+past-layout (suc (suc zero)) a b c d e f = absurd (c refl)
+past-layout (suc (suc (suc zero))) a b c d e f = absurd (d refl)
+past-layout (suc (suc (suc (suc zero)))) a b c d e f = absurd (e refl)
+past-layout (suc (suc (suc (suc (suc zero))))) a b c d e f = absurd (f refl)
+past-layout (suc (suc (suc (suc (suc (suc n)))))) a b c d e f = refl
 
 -- one word, and two
 pub one-word : (w : List ℕ) (x : ℕ) → length w ≡ 1 → set w 0 x ≡ x ∷ []

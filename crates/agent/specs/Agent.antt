@@ -5,16 +5,22 @@ use mathlib.Core.List.{List, [], _∷_}
 use lib.Dec.{eqb}
 use lib.ListN.{length}
 use Rattle.rules.specs.Configuration.{checkPlace, checkEarlier}
-use Rattle.rules.specs.Limits.{limits}
+use Rattle.rules.specs.Limits.{mostRegions, mostZones, mostInSet, mostRequests, limits}
 use Rattle.rules.specs.Plan.{readPlan}
+use Rattle.rules.specs.Sizes.{longestSize}
 use Rattle.rules.specs.declared.Checked.{Checked}
 use Rattle.rules.specs.declared.Side.{Side}
 use Rattle.rules.specs.declared.Side.the-variants.{Cpu, Iommu}
+use Rattle.zones.specs.Layout.{regionWords}
 use Rattle.plan.specs.Read.{readAnswer}
 use Rattle.plan.specs.declared.words.Section.{Section}
 use Rattle.plan.specs.declared.words.Section.the-variants.{End, Bad}
 use Rattle.walker.specs.declared.Edition.{Edition}
 use Rattle.walker.specs.declared.Edition.the-variants.{Is, Bad as BadEdition}
+
+-- what a header must have for the library: the most regions, zones, regions in a set and requests, the words of a region, the longest plan
+abbrev pub layout : List ℕ
+layout = mostRegions ∷ mostZones ∷ mostInSet ∷ mostRequests ∷ regionWords ∷ longestSize limits ∷ []
 
 -- the two places of a configuration's check
 unfoldable pub placesOf : Checked → List ℕ

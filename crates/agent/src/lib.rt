@@ -1,5 +1,6 @@
 // The library for an update agent, for C and Rust to link: include/peatmitten.h has the same functions and layouts. Each function
 // answers on every argument; nothing is asked of the caller beyond pointers and lengths that are valid.
+use plan::LONGEST_PLAN;
 use plan::Section;
 use plan::State;
 use plan::read_plan;
@@ -8,10 +9,15 @@ use rules::Outcome;
 use rules::Phys;
 use rules::Region;
 use rules::Side;
+use rules::limits::MOST_IN_SET;
+use rules::limits::MOST_REGIONS;
+use rules::limits::MOST_REQUESTS;
+use rules::limits::MOST_ZONES;
 use walker::Edition;
 use walker::edition_of;
 use zones::CONFIG_WORDS;
 use zones::Config;
+use zones::REGION_WORDS;
 use zones::TABLE_WORDS;
 use zones::Table;
 use zones::check_config;
@@ -24,7 +30,7 @@ use zones::step_in;
 use zones::translate_in;
 ghost use mathlib.Core.List.{[], _∷_};
 ghost use mathlib.Core.Path.{_≡_};
-ghost use lib.ListN.{length};
+ghost use lib.ListN.{length, getD};
 ghost use Rattle.rules.specs.Limits.{limits};
 ghost use Rattle.rules.specs.Configuration.{check, checkNumber};
 ghost use Rattle.rules.specs.Run.{makeRequest};
@@ -34,7 +40,34 @@ ghost use Rattle.zones.specs.Step.{Stepped};
 ghost use Rattle.zones.specs.View.{storedConfig, storedTable};
 ghost use Rattle.terminal.specs.Terminal.{Applies};
 ghost use Rattle.walker.specs.Edition.{editionOf};
-ghost use Rattle.agent.specs.Agent.{placesOf, yesOrNo, sideOf, readNumber, readPlace, editionNumber, editionValue};
+ghost use Rattle.agent.specs.Agent.{layout, placesOf, yesOrNo, sideOf, readNumber, readPlace, editionNumber, editionValue};
+
+// What a header must have for this library, one number at a time; 0 past the last. Its name says them too, so that a program with the
+// header of another library does not link.
+#[no_mangle]
+pub extern "C" fn peatmitten_layout_64_8_16_1024_3(which: u32) -> u64
+    ensures { λ n. ⌜ n ≡ getD layout which 0 ⌝ }
+{
+    if which == 0 {
+        return MOST_REGIONS as u64;
+    }
+    if which == 1 {
+        return MOST_ZONES as u64;
+    }
+    if which == 2 {
+        return MOST_IN_SET as u64;
+    }
+    if which == 3 {
+        return MOST_REQUESTS as u64;
+    }
+    if which == 4 {
+        return REGION_WORDS as u64;
+    }
+    if which == 5 {
+        return LONGEST_PLAN as u64;
+    }
+    0
+}
 
 // The number of a configuration's check, 1 to 6 for C1 to C6; and its two places.
 #[no_mangle]

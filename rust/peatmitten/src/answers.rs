@@ -9,7 +9,7 @@ pub enum ConfigFault {
     /// C1: there is no region, or there are more than 64.
     Count,
     /// C2: the GIC's position is not below the count.
-    GicPosition,
+    Gic,
     /// C3: a record past the count is not all zero.
     NotZero {
         /// The record.
@@ -39,7 +39,7 @@ impl ConfigFault {
         Err(match number {
             0 => return Ok(()),
             1 => ConfigFault::Count,
-            2 => ConfigFault::GicPosition,
+            2 => ConfigFault::Gic,
             3 => ConfigFault::NotZero { place },
             4 => ConfigFault::Form { place },
             5 => ConfigFault::Reach { place },
@@ -52,7 +52,7 @@ impl ConfigFault {
     pub fn number(&self) -> u32 {
         match self {
             ConfigFault::Count => 1,
-            ConfigFault::GicPosition => 2,
+            ConfigFault::Gic => 2,
             ConfigFault::NotZero { .. } => 3,
             ConfigFault::Form { .. } => 4,
             ConfigFault::Reach { .. } => 5,
@@ -63,7 +63,7 @@ impl ConfigFault {
     /// The document's two places, 0 where it uses none.
     pub fn places(&self) -> [u64; 2] {
         match *self {
-            ConfigFault::Count | ConfigFault::GicPosition => [0, 0],
+            ConfigFault::Count | ConfigFault::Gic => [0, 0],
             ConfigFault::NotZero { place } | ConfigFault::Form { place } | ConfigFault::Reach { place } => [place, 0],
             ConfigFault::Overlap { place, earlier } => [place, earlier],
         }
@@ -74,7 +74,7 @@ impl fmt::Display for ConfigFault {
     fn fmt(&self, f: &mut fmt::Formatter) -> fmt::Result {
         match self {
             ConfigFault::Count => write!(f, "the configuration has no region, or more than 64"),
-            ConfigFault::GicPosition => write!(f, "the GIC's position is not below the count of regions"),
+            ConfigFault::Gic => write!(f, "the GIC's position is not below the count of regions"),
             ConfigFault::NotZero { place } => write!(f, "record {place} is past the count and not all zero"),
             ConfigFault::Form { place } => write!(f, "region {place} is not well formed"),
             ConfigFault::Reach { place } => write!(f, "region {place} is out of reach"),
@@ -96,7 +96,7 @@ pub enum Refusal {
     /// 3: the kind is not 1 to 6, or there is a nonzero region with kind 1 or 2.
     NoRequest = 3,
     /// 4: the zone id is above 255.
-    ZoneId = 4,
+    ZoneIdTooHigh = 4,
     /// 5: the zone is already there.
     ZoneThere = 5,
     /// 6: there is no such zone.
@@ -132,7 +132,7 @@ impl Refusal {
         Refusal::UnsoundConfig,
         Refusal::UnsoundTable,
         Refusal::NoRequest,
-        Refusal::ZoneId,
+        Refusal::ZoneIdTooHigh,
         Refusal::ZoneThere,
         Refusal::NoZone,
         Refusal::ZonesFull,
@@ -171,7 +171,7 @@ impl fmt::Display for Refusal {
             Refusal::UnsoundConfig => "the configuration is unsound",
             Refusal::UnsoundTable => "the table is unsound",
             Refusal::NoRequest => "the numbers make no request",
-            Refusal::ZoneId => "the zone id is above 255",
+            Refusal::ZoneIdTooHigh => "the zone id is above 255",
             Refusal::ZoneThere => "the zone is already there",
             Refusal::NoZone => "there is no such zone",
             Refusal::ZonesFull => "eight zones are in use",
@@ -266,7 +266,7 @@ pub enum PlanRefusal {
     /// 24: the edition differs.
     OtherEdition,
     /// 25: the edition is the last one, 2^32 - 1.
-    LastEdition,
+    NoNextEdition,
     /// 26: the base zones differ, order included.
     OtherZones,
     /// 27: a request is refused.
@@ -286,7 +286,7 @@ impl PlanRefusal {
             2 => PlanRefusal::UnsoundTable,
             23 => PlanRefusal::OtherConfig,
             24 => PlanRefusal::OtherEdition,
-            25 => PlanRefusal::LastEdition,
+            25 => PlanRefusal::NoNextEdition,
             26 => PlanRefusal::OtherZones,
             27 => PlanRefusal::Request { index: place, refusal: inner_refusal(inner) },
             _ => return ReadFault::from_library(number, place).map_err(PlanRefusal::Read),
@@ -301,7 +301,7 @@ impl PlanRefusal {
             PlanRefusal::Read(fault) => fault.number(),
             PlanRefusal::OtherConfig => 23,
             PlanRefusal::OtherEdition => 24,
-            PlanRefusal::LastEdition => 25,
+            PlanRefusal::NoNextEdition => 25,
             PlanRefusal::OtherZones => 26,
             PlanRefusal::Request { .. } => 27,
         }
@@ -333,7 +333,7 @@ impl fmt::Display for PlanRefusal {
             PlanRefusal::Read(fault) => fault.fmt(f),
             PlanRefusal::OtherConfig => write!(f, "the plan is for another configuration"),
             PlanRefusal::OtherEdition => write!(f, "the plan is for another edition"),
-            PlanRefusal::LastEdition => write!(f, "the terminal is at the last edition"),
+            PlanRefusal::NoNextEdition => write!(f, "the terminal is at the last edition"),
             PlanRefusal::OtherZones => write!(f, "the plan is for other zones"),
             PlanRefusal::Request { index, refusal } => write!(f, "request {index} is refused: {refusal}"),
         }

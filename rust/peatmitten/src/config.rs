@@ -1,10 +1,10 @@
 use std::fmt;
 
 use crate::answers::ConfigFault;
+use crate::limits::MOST_REGIONS;
 use crate::raw;
 use crate::region::Region;
 
-const MOST_REGIONS: usize = 64;
 const COUNT: usize = 0;
 const GIC: usize = 1;
 const REGIONS: usize = 2;

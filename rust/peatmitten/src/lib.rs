@@ -37,6 +37,7 @@
 
 mod answers;
 mod config;
+pub mod limits;
 mod plan;
 pub mod raw;
 mod reading;
@@ -48,7 +49,7 @@ mod table;
 pub use answers::{ConfigFault, PlanRefusal, ReadFault, Refusal};
 pub use config::{Config, CONFIG_WORDS};
 pub use plan::{base_edition, read_plan, State};
-pub use reading::{Counted, Field, Reading, LONGEST_PLAN};
+pub use reading::{Counted, Field, Reading};
 pub use region::{Guest, Physical, Region};
 pub use request::{Request, Side};
 pub use store::STATE_BYTES;

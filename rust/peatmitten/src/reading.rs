@@ -7,9 +7,6 @@ use crate::region::Region;
 use crate::request::{Request, Side};
 use crate::table::Table;
 
-/// How long a plan can be; a longer file is none.
-pub const LONGEST_PLAN: usize = 40568;
-
 /// What a count of a plan counts.
 #[derive(Clone, Copy, Debug, PartialEq, Eq, Hash)]
 pub enum Counted {
@@ -97,7 +94,7 @@ impl State {
         }
         state.table = table_of(&state.config, &reading.fields).map_err(|_| PlanRefusal::UnsoundTable)?;
         match state.clone().apply(plan) {
-            Ok(_) | Err(PlanRefusal::LastEdition | PlanRefusal::Request { .. }) => Ok(state),
+            Ok(_) | Err(PlanRefusal::NoNextEdition | PlanRefusal::Request { .. }) => Ok(state),
             Err(refusal) => panic!("the library finds that a plan is not for its own base: {refusal}"),
         }
     }

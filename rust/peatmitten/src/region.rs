@@ -18,7 +18,8 @@ pub struct Region {
 }
 
 impl Region {
-    pub(crate) const WORDS: usize = 3;
+    /// How many words a region is.
+    pub const WORDS: usize = 3;
 
     /// A region from its guest start, its physical start and its size.
     pub const fn new(v: u64, p: u64, size: u64) -> Region {

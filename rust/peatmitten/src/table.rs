@@ -2,12 +2,11 @@ use std::fmt;
 
 use crate::answers::Refusal;
 use crate::config::Config;
+use crate::limits::{MOST_IN_SET, MOST_ZONES};
 use crate::raw;
 use crate::region::{Guest, Physical, Region};
 use crate::request::{Request, Side};
 
-const MOST_ZONES: usize = 8;
-const MOST_IN_SET: usize = 16;
 const SET_WORDS: usize = 1 + MOST_IN_SET * Region::WORDS;
 const ZONE_WORDS: usize = 1 + 2 * SET_WORDS;
 const COUNT: usize = 0;

@@ -5,9 +5,8 @@ use std::io::ErrorKind;
 use std::mem::size_of;
 use std::path::PathBuf;
 
-use peatmitten::{
-    Config, Counted, Field, PlanRefusal, ReadFault, Reading, Refusal, Region, Request, Side, State, LONGEST_PLAN, STATE_BYTES,
-};
+use peatmitten::limits::LONGEST_PLAN;
+use peatmitten::{Config, Counted, Field, PlanRefusal, ReadFault, Reading, Refusal, Region, Request, Side, State, STATE_BYTES};
 
 const GIC: Region = Region::new(0x0800_0000, 0x0800_0000, 0x1_0000);
 

@@ -3,8 +3,8 @@
 use std::mem::{offset_of, size_of};
 
 use peatmitten::{
-    base_edition, raw, read_plan, Config, ConfigFault, Guest, Physical, PlanRefusal, ReadFault, Refusal, Region, Request, Side,
-    State, Table,
+    base_edition, limits, raw, read_plan, Config, ConfigFault, Guest, Physical, PlanRefusal, ReadFault, Refusal, Region, Request,
+    Side, State, Table,
 };
 
 const A: Region = Region::new(0x4000_0000, 0x8000_0000, 0x20_0000);
@@ -42,7 +42,7 @@ fn requests() {
     let (config, mut table) = desk();
     let mut ask = |request| table.request(&config, request);
     assert_eq!(ask(Request::add_zone(5)), Err(Refusal::ZoneThere));
-    assert_eq!(ask(Request::add_zone(256)), Err(Refusal::ZoneId));
+    assert_eq!(ask(Request::add_zone(256)), Err(Refusal::ZoneIdTooHigh));
     assert_eq!(ask(Request::insert(5, Side::Cpu, A)), Ok(()));
     assert_eq!(ask(Request::insert(5, Side::Cpu, A)), Err(Refusal::RegionThere));
     assert_eq!(ask(Request::insert(5, Side::Cpu, C)), Err(Refusal::GuestOverlap));
@@ -94,7 +94,7 @@ fn more_regions_than_words() {
     let mut words = [u64::MAX; peatmitten::CONFIG_WORDS];
     assert_eq!(Config::from_words(words).regions().count(), 64);
     words[0] = 1;
-    assert_eq!(Config::from_words(words).check(), Err(ConfigFault::GicPosition));
+    assert_eq!(Config::from_words(words).check(), Err(ConfigFault::Gic));
     assert_eq!(Table::from_words([u64::MAX; peatmitten::TABLE_WORDS]).zones().count(), 8);
 }
 
@@ -146,4 +146,14 @@ fn reading() {
     assert_eq!(read_plan(CUT_PLAN), Err(ReadFault::Cut { offset: 48 }));
     let longer = [FIRST_PLAN, &[0]].concat();
     assert_eq!(read_plan(&longer), Err(ReadFault::Trailing { offset: 80 }));
+}
+
+#[test]
+fn limits_are_the_librarys() {
+    let shared =
+        [limits::MOST_REGIONS, limits::MOST_ZONES, limits::MOST_IN_SET, limits::MOST_REQUESTS, Region::WORDS, limits::LONGEST_PLAN];
+    for (which, limit) in (0..).zip(shared) {
+        assert_eq!(raw::layout(which), limit as u64, "number {which} of the layout");
+    }
+    assert_eq!(raw::layout(shared.len() as u32), 0);
 }

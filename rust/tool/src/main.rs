@@ -13,7 +13,8 @@ use std::io::{self, IsTerminal, Read, Write};
 use std::path::Path;
 use std::process::ExitCode;
 
-use peatmitten::{PlanRefusal, Reading, State, LONGEST_PLAN};
+use peatmitten::limits::LONGEST_PLAN;
+use peatmitten::{PlanRefusal, Reading, State};
 
 const USAGE: &str = "usage: peatmitten run [--words] STATE PLAN... | base PLAN >STATE | show PLAN";
 

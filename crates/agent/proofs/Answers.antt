@@ -18,6 +18,7 @@ use Rattle.rules.specs.declared.Side.{Side}
 use Rattle.rules.specs.declared.Side.the-variants.{Cpu, Iommu}
 use Rattle.rules.specs.declared.Translated.{Translated}
 use Rattle.zones.specs.Step.{Stepped}
+use Rattle.plan.specs.Into.{sectionPlace}
 use Rattle.plan.specs.Read.{readAnswer}
 use Rattle.plan.specs.declared.read.Read.{Read}
 use Rattle.plan.specs.declared.words.Section.{Section}
@@ -25,7 +26,7 @@ use Rattle.plan.specs.declared.words.Section.the-variants.{End, Bad}
 use Rattle.walker.specs.Edition.{editionOf}
 use Rattle.walker.specs.declared.Edition.{Edition}
 use Rattle.walker.specs.declared.Edition.the-variants.{Is, Bad as BadEdition}
-use Rattle.agent.specs.Agent.{layout, placesOf, yesOrNo, sideOf, numberOf, placeOf, readNumber, readPlace, editionNumber, editionValue}
+use Rattle.agent.specs.Agent.{layout, placesOf, yesOrNo, sideAsked, sectionNumber, readingNumber, readingPlace, editionNumber, editionValue}
 
 -- what stands past the last number of the layout
 pub past-layout : (n : ℕ) → (n ≡ 0 → ⊥) → (n ≡ 1 → ⊥) → (n ≡ 2 → ⊥) → (n ≡ 3 → ⊥) → (n ≡ 4 → ⊥) → (n ≡ 5 → ⊥) → 0 ≡ getD layout n 0
@@ -64,12 +65,12 @@ pub no : (t b : Bool) → t ≡ b → t ≡ false → 0 ≡ yesOrNo b
 unfolding yesOrNo
 no t b e h = sym (ap (λ (x : Bool). cond x 1 0) (sym e ∙ h))
 
-pub cpu-side : (n : ℕ) → n ≡ 0 → Cpu ≡ sideOf n
-unfolding sideOf
+pub cpu-side : (n : ℕ) → n ≡ 0 → Cpu ≡ sideAsked n
+unfolding sideAsked
 cpu-side n e = sym (ap (λ (x : Bool). cond x Cpu Iommu) (eq-eqb n 0 e))
 
-pub iommu-side : (n : ℕ) → (n ≡ 0 → ⊥) → Iommu ≡ sideOf n
-unfolding sideOf
+pub iommu-side : (n : ℕ) → (n ≡ 0 → ⊥) → Iommu ≡ sideAsked n
+unfolding sideAsked
 iommu-side n ne = sym (ap (λ (x : Bool). cond x Cpu Iommu) (ne-eqb n 0 ne))
 
 -- a request by its numbers
@@ -77,36 +78,36 @@ pub request-told : (c t u : List ℕ) (q r : Request) (n : ℕ) → q ≡ r → 
 request-told c t u q r n e h = subst (λ (x : Request). Stepped c t x n u) e h
 
 -- a translation on a side by its number
-module _ (c : StoredConfig) (t : StoredTable) (zone : ℕ) (s : Side) (n : ℕ) (a : Guest) (r : Translated) (e : s ≡ sideOf n) (h : r ≡ translated limits c t zone s a) where
-  same : r ≡ translated limits c t zone (sideOf n) a
+module _ (c : StoredConfig) (t : StoredTable) (zone : ℕ) (s : Side) (n : ℕ) (a : Guest) (r : Translated) (e : s ≡ sideAsked n) (h : r ≡ translated limits c t zone s a) where
+  same : r ≡ translated limits c t zone (sideAsked n) a
   same = h ∙ ap (λ (x : Side). translated limits c t zone x a) e
 
-  pub translation-number : r .number ≡ translated limits c t zone (sideOf n) a .number
+  pub translation-number : r .number ≡ translated limits c t zone (sideAsked n) a .number
   translation-number = ap (λ (x : Translated). x .number) same
 
-  pub translation-address : (u : List ℕ) → u ≡ r .phys .0 ∷ [] → u ≡ translated limits c t zone (sideOf n) a .phys .0 ∷ []
+  pub translation-address : (u : List ℕ) → u ≡ r .phys .0 ∷ [] → u ≡ translated limits c t zone (sideAsked n) a .phys .0 ∷ []
   translation-address u k = k ∙ ap (λ (x : Translated). x .phys .0 ∷ []) same
 
 -- a plan that was read: r is what the reader answered
 module _ (b : List ℕ) (r : Read) (er : r ≡ readAnswer (length b) (readPlan limits b)) where
-  told : r .section ≡ readAnswer (length b) (readPlan limits b) .section
-  told = ap (λ (x : Read). x .section) er
+  told : r .requests ≡ readAnswer (length b) (readPlan limits b) .requests
+  told = ap (λ (x : Read). x .requests) er
 
-  pub read-bad : (k a : ℕ) → r .section ≡ Bad k a → k ≡ readNumber b
-  unfolding numberOf
-  read-bad k a f = ap numberOf (sym f ∙ told)
+  pub read-bad : (k a : ℕ) → r .requests ≡ Bad k a → k ≡ readingNumber b
+  unfolding sectionNumber
+  read-bad k a f = ap sectionNumber (sym f ∙ told)
 
-  pub read-bad-place : (k a : ℕ) (u : List ℕ) → r .section ≡ Bad k a → u ≡ a ∷ [] → u ≡ readPlace b ∷ []
-  unfolding placeOf
-  read-bad-place k a u f l = l ∙ ap (λ (x : Section). placeOf x ∷ []) (sym f ∙ told)
+  pub read-bad-place : (k a : ℕ) (u : List ℕ) → r .requests ≡ Bad k a → u ≡ a ∷ [] → u ≡ readingPlace b ∷ []
+  unfolding sectionPlace
+  read-bad-place k a u f l = l ∙ ap (λ (x : Section). sectionPlace x ∷ []) (sym f ∙ told)
 
-  pub read-end : (a : ℕ) → r .section ≡ End a → 0 ≡ readNumber b
-  unfolding numberOf
-  read-end a f = ap numberOf (sym f ∙ told)
+  pub read-end : (a : ℕ) → r .requests ≡ End a → 0 ≡ readingNumber b
+  unfolding sectionNumber
+  read-end a f = ap sectionNumber (sym f ∙ told)
 
-  pub read-end-place : (a : ℕ) (u : List ℕ) → r .section ≡ End a → u ≡ a ∷ [] → u ≡ readPlace b ∷ []
-  unfolding placeOf
-  read-end-place a u f l = l ∙ ap (λ (x : Section). placeOf x ∷ []) (sym f ∙ told)
+  pub read-end-place : (a : ℕ) (u : List ℕ) → r .requests ≡ End a → u ≡ a ∷ [] → u ≡ readingPlace b ∷ []
+  unfolding sectionPlace
+  read-end-place a u f l = l ∙ ap (λ (x : Section). sectionPlace x ∷ []) (sym f ∙ told)
 
 -- a plan's base edition: r is what the walker answered
 module _ (b : List ℕ) (r : Edition) (er : r ≡ editionOf b) where

@@ -12,6 +12,7 @@ use Rattle.rules.specs.declared.Checked.{Checked}
 use Rattle.rules.specs.declared.Side.{Side}
 use Rattle.rules.specs.declared.Side.the-variants.{Cpu, Iommu}
 use Rattle.zones.specs.Layout.{regionWords}
+use Rattle.plan.specs.Into.{sectionPlace}
 use Rattle.plan.specs.Read.{readAnswer}
 use Rattle.plan.specs.declared.words.Section.{Section}
 use Rattle.plan.specs.declared.words.Section.the-variants.{End, Bad}
@@ -30,23 +31,19 @@ unfoldable pub yesOrNo : Bool → ℕ
 yesOrNo b = cond b 1 0
 
 -- side 0 is the CPU, any other the IOMMU
-unfoldable pub sideOf : ℕ → Side
-sideOf n = cond (eqb n 0) Cpu Iommu
+unfoldable pub sideAsked : ℕ → Side
+sideAsked n = cond (eqb n 0) Cpu Iommu
 
 -- of a plan that is only read: the number, and its offset or that of the first request
-unfoldable pub numberOf : Section → ℕ
-numberOf (End at) = 0
-numberOf (Bad k at) = k
+unfoldable pub sectionNumber : Section → ℕ
+sectionNumber (End at) = 0
+sectionNumber (Bad k at) = k
 
-unfoldable pub placeOf : Section → ℕ
-placeOf (End at) = at
-placeOf (Bad k at) = at
+abbrev pub readingNumber : List ℕ → ℕ
+readingNumber b = sectionNumber (readAnswer (length b) (readPlan limits b) .requests)
 
-abbrev pub readNumber : List ℕ → ℕ
-readNumber b = numberOf (readAnswer (length b) (readPlan limits b) .section)
-
-abbrev pub readPlace : List ℕ → ℕ
-readPlace b = placeOf (readAnswer (length b) (readPlan limits b) .section)
+abbrev pub readingPlace : List ℕ → ℕ
+readingPlace b = sectionPlace (readAnswer (length b) (readPlan limits b) .requests)
 
 -- of a plan's base edition: the number, and the edition or an offset
 unfoldable pub editionNumber : Edition → ℕ

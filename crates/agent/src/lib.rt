@@ -40,7 +40,7 @@ ghost use Rattle.zones.specs.Step.{Stepped};
 ghost use Rattle.zones.specs.View.{storedConfig, storedTable};
 ghost use Rattle.terminal.specs.Terminal.{Applies};
 ghost use Rattle.walker.specs.Edition.{editionOf};
-ghost use Rattle.agent.specs.Agent.{layout, placesOf, yesOrNo, sideOf, readNumber, readPlace, editionNumber, editionValue};
+ghost use Rattle.agent.specs.Agent.{layout, placesOf, yesOrNo, sideAsked, readingNumber, readingPlace, editionNumber, editionValue};
 
 // What a header must have for this library, one number at a time; 0 past the last. Its name says them too, so that a program with the
 // header of another library does not link.
@@ -135,16 +135,16 @@ pub extern "C" fn peatmitten_translate(
     address: u64,
     physical: &mut [u64; 1],
 ) -> u32
-    ensures { λ n. ⌜ (n ≡ translated limits (storedConfig (now (config .entry))) (storedTable (now (table .entry))) zone (sideOf side) (record { 0 = address }) .number) × (now (physical .exit) ≡ translated limits (storedConfig (now (config .entry))) (storedTable (now (table .entry))) zone (sideOf side) (record { 0 = address }) .phys .0 ∷ []) ⌝ }
+    ensures { λ n. ⌜ (n ≡ translated limits (storedConfig (now (config .entry))) (storedTable (now (table .entry))) zone (sideAsked side) (record { 0 = address }) .number) × (now (physical .exit) ≡ translated limits (storedConfig (now (config .entry))) (storedTable (now (table .entry))) zone (sideAsked side) (record { 0 = address }) .phys .0 ∷ []) ⌝ }
 {
-    let asked = side_of(side);
+    let asked = side_asked(side);
     let found = translate_in(config, table, zone, asked, Guest(address));
     put_one(physical, found.phys.0);
     found.number
 }
 
-fn side_of(number: u32) -> Side
-    ensures { λ s. ⌜ s ≡ sideOf number ⌝ }
+fn side_asked(number: u32) -> Side
+    ensures { λ s. ⌜ s ≡ sideAsked number ⌝ }
 {
     if number == 0 {
         return Side::Cpu;
@@ -166,10 +166,10 @@ pub extern "C" fn peatmitten_apply(state: &mut State, plan: &[u8]) -> Outcome
 // Reads a plan and applies nothing: 20, 21 or 22 with its offset, or 0 with the offset of the first request.
 #[no_mangle]
 pub extern "C" fn peatmitten_read(plan: &[u8], place: &mut [u64; 1]) -> u32
-    ensures { λ n. ⌜ (n ≡ readNumber (now (plan .entry))) × (now (place .exit) ≡ readPlace (now (plan .entry)) ∷ []) ⌝ }
+    ensures { λ n. ⌜ (n ≡ readingNumber (now (plan .entry))) × (now (place .exit) ≡ readingPlace (now (plan .entry)) ∷ []) ⌝ }
 {
     let read = read_plan(plan);
-    let section = read.section;
+    let section = read.requests;
     match section {
         Section::Bad { number, at } => {
             put_one(place, at as u64);

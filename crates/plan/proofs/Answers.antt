@@ -23,7 +23,7 @@ use Rattle.zones.specs.Records.{wordsOfRegion}
 use Rattle.zones.specs.Words.{wordsOfConfig}
 use Rattle.zones.proofs.Records.{zero-region}
 use Rattle.plan.specs.Fields.{numberOut, NumberRead}
-use Rattle.plan.specs.Into.{Step, on, stop, setInto, zonesInto, stepOf, placeOf, Reads}
+use Rattle.plan.specs.Into.{Step, on, stop, setInto, zonesInto, stepOf, sectionPlace, Reads}
 use Rattle.plan.specs.Sections.{noConfig, noTable, marksAnswer, sectionAnswer, configAnswer, tableAnswer, regionsAnswer, zonesAnswer}
 use Rattle.plan.specs.declared.field.Number.{Number}
 use Rattle.plan.specs.declared.field.Number.the-variants.{Is, Missing}
@@ -44,7 +44,7 @@ place s k h = omega (arith, length-drop k s)
 -- ---- what a reader into words says of the format: o is what the format reads
 module _ {A : Type 0} (p : A → List ℕ) (o : Out A) (s v : List ℕ) (r : Section) (S : Step) (agrees : Agrees p o S) (read : Reads s v r S) where
   reads-end : (e : ℕ) → r ≡ End e → (x : A) × (o ≡ got x (drop e s)) × (v ≡ p x) × (e ≤ length s)
-  unfolding Agrees stepOf placeOf
+  unfolding Agrees stepOf sectionPlace
   reads-end e f = by o agrees
     where
       by : (o : Out A) → Agrees p o S → (x : A) × (o ≡ got x (drop e s)) × (v ≡ p x) × (e ≤ length s)
@@ -52,7 +52,7 @@ module _ {A : Type 0} (p : A → List ℕ) (o : Out A) (s v : List ℕ) (r : Sec
       by (bad k t) a = absurd (let q : stop (a .0) k t ≡ on v (drop e s) = sym (a .1) ∙ read .step ∙ ap (stepOf s v) f in let z : _≡_ {A = ℕ} 0 1 = cc in omega arith)
 
   reads-bad : (k at : ℕ) → r ≡ Bad k at → (o ≡ bad k (drop at s)) × (at ≤ length s)
-  unfolding Agrees stepOf placeOf
+  unfolding Agrees stepOf sectionPlace
   reads-bad k at f = by o agrees
     where
       by : (o : Out A) → Agrees p o S → (o ≡ bad k (drop at s)) × (at ≤ length s)

@@ -36,7 +36,7 @@ use Rattle.zones.specs.Words.{wordsOfConfig, wordsOf, Within}
 use Rattle.zones.proofs.Focus.{view-words}
 use Rattle.zones.proofs.Stepping.{stands-same, stands-ready}
 use Rattle.plan.proofs.Fields.{askedIn}
-use Rattle.plan.proofs.Comparing.{same-words, words-same}
+use Rattle.zones.proofs.Comparing.{same-words, words-same}
 use Rattle.zones.proofs.Spelling.{config-in, config-spelled}
 use Rattle.plan.proofs.Storing.{SetsFit}
 use Rattle.plan.proofs.Whole.{requests-read}

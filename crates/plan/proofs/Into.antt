@@ -3,18 +3,21 @@ use Prim.Native.Nat.{ℕ, suc, _+_, _-_, _*_, _≤_, _<_}
 use native.Mathlib.Omega.{arith}
 use mathlib.Core.Bool.{Bool, true, false, not}
 use mathlib.Core.List.{List}
-use mathlib.Core.Path.{_≡_, sym, ap, _∙_}
+use mathlib.Core.Path.{_≡_, refl, sym, ap, subst, _∙_}
 use lib.ListN.{length, drop, set, length-set}
+use lib.Seq.{sets}
 use Rattle.lists.proofs.Tests.{told-on, told-off}
 use Rattle.formats.specs.Formats.{Out, got, bad, when, then, readNumber, within, readCount}
 use Rattle.formats.proofs.Formats.{count-got}
 use Rattle.rules.specs.Limits.{mostInSet, mostZones}
 use Rattle.rules.specs.Plan.{regionField}
 use Rattle.rules.specs.declared.Region.{Region}
-use Rattle.zones.specs.Layout.{regionWords, setWords, tableWords, zoneBase}
-use Rattle.zones.proofs.Records.{region-stored}
+use Rattle.zones.specs.Layout.{regionWords, setWords, tableWords, zoneBase, zoneStart}
+use Rattle.zones.specs.Records.{wordsOfRegion, placed}
+use Rattle.zones.proofs.Readers.{start-is}
+use Rattle.zones.proofs.Records.{has-room}
 use Rattle.plan.specs.Fields.{regionBytes, numberOut, numberEnd, regionOut, regionEnd, NumberRead, RegionRead}
-use Rattle.plan.specs.Into.{Step, on, stop, given, andThen, times, putRecord, recordInto, putSet, setInto, setsInto, putZone, zoneInto, putZones, zonesInto, stepOf, placeOf, Reads}
+use Rattle.plan.specs.Into.{Step, on, stop, given, andThen, times, putRecord, recordInto, putSet, setInto, setsInto, putZone, zoneInto, putZones, zonesInto, stepOf, sectionPlace, Reads}
 use Rattle.plan.specs.declared.field.RegionField.{RegionField}
 use Rattle.plan.specs.declared.field.RegionField.the-variants.{Is as IsRegion, Missing as NoRegion}
 use Rattle.plan.specs.declared.field.Number.{Number}
@@ -24,11 +27,11 @@ use Rattle.plan.specs.declared.words.Section.the-variants.{End, Bad}
 
 -- ---- where a reader ends or stops
 pub stops-here : (s w : List ℕ) (S : Step) (k at : ℕ) → S ≡ stop w k (drop at s) → at ≤ length s → Reads s w (Bad k at) S
-unfolding stepOf placeOf
+unfolding stepOf sectionPlace
 stops-here s w S k at e h = record { step = e; within = h }
 
 pub ends-here : (s w : List ℕ) (S : Step) (at : ℕ) → S ≡ on w (drop at s) → at ≤ length s → Reads s w (End at) S
-unfolding stepOf placeOf
+unfolding stepOf sectionPlace
 ends-here s w S at e h = record { step = e; within = h }
 
 -- ---- what a number's reader answered, and what it says of a count
@@ -88,11 +91,12 @@ module _ (s w : List ℕ) (at a i : ℕ) (o : RegionField) (read : RegionRead s 
   unfolding recordInto given regionOut
   record-stops e h = stops-here s w (recordInto a i w (drop at s)) 20 at (ap (λ (x : Out Region). given w x (putRecord a i w)) (read .read ∙ ap (regionOut s at) e)) h
 
-  pub record-ends : (r : Region) → o ≡ IsRegion r → Reads s (set (set (set w (a + i * regionWords) (r .v .0)) (a + i * regionWords + 1) (r .p .0)) (a + i * regionWords + 2) (r .size)) (End (at + regionBytes)) (recordInto a i w (drop at s))
+  pub record-ends : (r : Region) (v : List ℕ) → o ≡ IsRegion r → v ≡ placed w (a + i * regionWords) r → a + (i + 1) * regionWords ≤ length w → Reads s v (End (at + regionBytes)) (recordInto a i w (drop at s))
   unfolding recordInto given regionOut putRecord regionEnd
-  record-ends r e =
-      ends-here s _ (recordInto a i w (drop at s)) (at + regionBytes)
-      (ap (λ (x : Out Region). given w x (putRecord a i w)) (read .read ∙ ap (regionOut s at) e) ∙ ap (λ (v : List ℕ). on v (drop (at + regionBytes) s)) (sym (region-stored w (a + i * regionWords) r)))
+  record-ends r v e p room =
+      ends-here s v (recordInto a i w (drop at s)) (at + regionBytes)
+      (ap (λ (x : Out Region). given w x (putRecord a i w)) (read .read ∙ ap (regionOut s at) e)
+      ∙ ap (λ (u : List ℕ). on u (drop (at + regionBytes) s)) (has-room w (a + i * regionWords) r (sets w (a + i * regionWords) (wordsOfRegion r)) (omega arith) refl ∙ sym p))
       (rw e at (read .within))
 
 -- ---- a set, after its count; a zone, after its id
@@ -117,9 +121,9 @@ module _ (s w : List ℕ) (at : ℕ) (c : Number) (read : NumberRead s at (readN
   unfolding zoneInto
   zone-stops i = number-stops s w at c read (putZone i w)
 
-  pub zone-leads : (i n : ℕ) (v : List ℕ) (r : Section) → c ≡ Is n → Reads s v r (setsInto (zoneBase i + 1) (set w (zoneBase i) n) (drop (at + 4) s)) → Reads s v r (zoneInto i w (drop at s))
+  pub zone-leads : (i z n : ℕ) (v : List ℕ) (r : Section) → z ≡ zoneStart i → i < mostZones → c ≡ Is n → Reads s v r (setsInto (z + 1) (set w z n) (drop (at + 4) s)) → Reads s v r (zoneInto i w (drop at s))
   unfolding zoneInto putZone
-  zone-leads i = number-leads s w at c read (putZone i w)
+  zone-leads i z n v r q h e g = number-leads s w at c read (putZone i w) n v r e (subst (λ (k : ℕ). Reads s v r (setsInto (k + 1) (set w k n) (drop (at + 4) s))) (start-is i z q h) g)
 
 -- the zones' section, after its count
 module _ (s w : List ℕ) (c : Number) (read : NumberRead s 0 (readNumber 4 (drop 0 s)) c) where
@@ -135,6 +139,9 @@ module _ (s w : List ℕ) (c : Number) (read : NumberRead s 0 (readNumber 4 (dro
     pub zones-lead : (v : List ℕ) (r : Section) → not b ≡ false → Reads s v r (times zoneInto n 0 (set w 0 n) (drop 4 s)) → Reads s v r (zonesInto w s)
     unfolding zonesInto putZones
     zones-lead = counted-leads s w 0 c read (putZones w) 0 mostZones n b e t
+
+    pub zones-few : not b ≡ false → n ≤ mostZones
+    zones-few g = count-most s 0 c read 0 mostZones n b e t g
 
     pub zones-room : not b ≡ false → tableWords ≤ length w → zoneBase n ≤ length (set w 0 n)
     zones-room g h = omega (arith, length-set w 0 n, count-most s 0 c read 0 mostZones n b e t g)
@@ -184,5 +191,5 @@ loop-starts f n w b = let e : n - 0 ≡ n = omega arith in ap (λ (m : ℕ). tim
 
 -- an answer's offset lies among the bytes
 pub within-end : (s v : List ℕ) (r : Section) (S : Step) (a : ℕ) → Reads s v r S → r ≡ End a → a ≤ length s
-unfolding placeOf
+unfolding sectionPlace
 within-end s v r S a q e = rw e at (q .within)

@@ -14,7 +14,7 @@ use Rattle.rules.specs.Requests.{standing}
 use Rattle.rules.specs.declared.Outcome.{Outcome}
 use Rattle.zones.specs.Run.{RanIn}
 use Rattle.zones.specs.View.{storedConfig, storedTable}
-use Rattle.plan.specs.Applying.{turnedAway, baseNumber, ran, ranPlan, applyRead}
+use Rattle.plan.specs.Applying.{turnedAway, baseNumber, ran, ranPlan, applyBase}
 use Rattle.plan.specs.declared.applying.Applied.{Applied}
 use Rattle.plan.specs.declared.applying.State.{State}
 use Rattle.plan.specs.declared.read.Read.{Read}
@@ -69,12 +69,12 @@ module _ (s : State) (b : List ℕ) (o : Outcome) (u : List ℕ) (made : RanIn (
 
 -- ---- after the base's number n
 module _ (s : State) (r : Read) (b : List ℕ) (n : ℕ) (v : Applied) (e : n ≡ baseNumber s r) where
-  pub read-away : (n ≡ 0 → ⊥) → v ≡ turnedAway s n 0 → v ≡ applyRead s r b
-  unfolding applyRead
+  pub read-away : (n ≡ 0 → ⊥) → v ≡ turnedAway s n 0 → v ≡ applyBase s r b
+  unfolding applyBase
   read-away ne h = h ∙ ap (λ (k : ℕ). turnedAway s k 0) e ∙ sym (ap (λ (t : Bool). cond t (ranPlan s b) (turnedAway s (baseNumber s r) 0)) (ne-eqb _ 0 (λ z. ne (e ∙ z))))
 
-  pub read-run : n ≡ 0 → v ≡ ranPlan s b → v ≡ applyRead s r b
-  unfolding applyRead
+  pub read-run : n ≡ 0 → v ≡ ranPlan s b → v ≡ applyBase s r b
+  unfolding applyBase
   read-run z h = h ∙ sym (ap (λ (t : Bool). cond t (ranPlan s b) (turnedAway s (baseNumber s r) 0)) (eq-eqb _ 0 (sym e ∙ z)))
 
 -- no base number: the edition is not the last

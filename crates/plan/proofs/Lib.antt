@@ -5,7 +5,6 @@ pub mod Agreeing
 pub mod Storing
 pub mod Answers
 pub mod Whole
-pub mod Comparing
 pub mod Judging
 pub mod Bases
 pub mod Outcomes

@@ -24,7 +24,7 @@ use Rattle.zones.specs.Layout.{configWords, tableWords}
 use Rattle.zones.specs.Run.{runWords}
 use Rattle.zones.specs.View.{storedTable, configIn}
 use Rattle.zones.specs.Words.{wordsOfConfig, wordsOf}
-use Rattle.plan.specs.Applying.{terminalIn, stateFor, inWords, applied, turnedAway, baseNumber, ran, ranPlan, applyRead}
+use Rattle.plan.specs.Applying.{terminalIn, stateFor, inWords, applied, turnedAway, baseNumber, ran, ranPlan, applyBase}
 use Rattle.plan.specs.Read.{stretchOf, readAnswer}
 use Rattle.plan.specs.declared.applying.Applied.{Applied}
 use Rattle.plan.specs.declared.applying.State.{State}
@@ -136,14 +136,14 @@ module _ (s : State) (b : List ℕ) (p : Plan) (t : List ℕ) (e : readPlan limi
         back = let (ok, sound) = stands-well limits (terminalIn s .config) (terminalIn s .table) z in table-back limits (configOf (terminalIn s .config)) (done .table) (run-from-keeps limits (configOf (terminalIn s .config)) 0 (tableOf (terminalIn s .table)) (requestsOf p) sound)
 
     -- by the number of the base
-    sound-is : applyRead s says stretch ≡ inWords s (rules.applied limits (terminalIn s) (judged (terminalIn s) p done) done)
-    unfolding applyRead rules.applied
+    sound-is : applyBase s says stretch ≡ inWords s (rules.applied limits (terminalIn s) (judged (terminalIn s) p done) done)
+    unfolding applyBase rules.applied
     sound-is = by (eqb (baseNumber s says) 0) refl
       where
         answer : Bool → Applied
         answer x = inWords s (rules.applied limits (terminalIn s) (cond x (ended done) (plain (baseNumber s says) 0)) done)
 
-        by : (x : Bool) → eqb (baseNumber s says) 0 ≡ x → applyRead s says stretch ≡ inWords s (rules.applied limits (terminalIn s) (judged (terminalIn s) p done) done)
+        by : (x : Bool) → eqb (baseNumber s says) 0 ≡ x → applyBase s says stretch ≡ inWords s (rules.applied limits (terminalIn s) (judged (terminalIn s) p done) done)
         by true h = ap (λ (x : Bool). cond x (ranPlan s stretch) (turnedAway s (baseNumber s says) 0)) h ∙ run-is ∙ sym (ap answer h) ∙ sym (ap (λ (o : Outcome). inWords s (rules.applied limits (terminalIn s) o done)) judged-is)
         by false h =
             let ne : baseNumber s says ≡ 0 → ⊥ = eqb-false _ _ h in
@@ -154,8 +154,8 @@ module _ (s : State) (b : List ℕ) (p : Plan) (t : List ℕ) (e : readPlan limi
             ∙ sym (ap answer h) ∙ sym (ap (λ (o : Outcome). inWords s (rules.applied limits (terminalIn s) o done)) judged-is)
 
   -- an unsound state: the run answers what turning away answers
-  unsound-is : (own s ≡ 0 → ⊥) → applyRead s says stretch ≡ record { outcome = plain (own s) 0; state = s }
-  unfolding applyRead runAnswer
+  unsound-is : (own s ≡ 0 → ⊥) → applyBase s says stretch ≡ record { outcome = plain (own s) 0; state = s }
+  unfolding applyBase runAnswer
   unsound-is ne = by (eqb (baseNumber s says) 0)
     where
       ran-unsound : ranPlan s stretch ≡ record { outcome = plain (own s) 0; state = s }
@@ -167,26 +167,26 @@ module _ (s : State) (b : List ℕ) (p : Plan) (t : List ℕ) (e : readPlan limi
       by true = ran-unsound
       by false = away-unsound s (baseNumber s says) 0 ne
 
-  pub applied-is : applyRead s says stretch ≡ applied s b
+  pub applied-is : applyBase s says stretch ≡ applied s b
   unfolding applied rules.applyRead
   applied-is = by (eqb (own s) 0) refl
     where
-      by : (x : Bool) → eqb (own s) 0 ≡ x → applyRead s says stretch ≡ applied s b
+      by : (x : Bool) → eqb (own s) 0 ≡ x → applyBase s says stretch ≡ applied s b
       by true h = let z : own s ≡ 0 = eqb-true _ _ h in sound-is z ∙ sym (ap (inWords s) (sound-reads s b z ∙ ap (rules.applyRead limits (terminalIn s) b) e))
       by false h = let ne : own s ≡ 0 → ⊥ = eqb-false _ _ h in unsound-is ne ∙ sym (unsound s b ne)
 
 -- ---- what the code does with what it read: r is that
 module _ (b : List ℕ) (r : Read) (er : r ≡ readAnswer (length b) (readPlan limits b)) where
   -- a refusal
-  module _ (k a : ℕ) (f : r .section ≡ Bad k a) where
+  module _ (k a : ℕ) (f : r .requests ≡ Bad k a) where
     refusal-read : (t : List ℕ) × (readPlan limits b ≡ bad k t) × (a ≡ length b - length t)
     unfolding readAnswer
     refusal-read = by (readPlan limits b) refl
       where
         by : (o : Out Plan) → readPlan limits b ≡ o → (t : List ℕ) × (readPlan limits b ≡ bad k t) × (a ≡ length b - length t)
-        by (got p t) e = absurd (let q : End (length b - length (p .asked) * requestBytes) ≡ Bad k a = sym (ap (λ (x : Read). x .section) (er ∙ ap (readAnswer (length b)) e)) ∙ f in let z : _≡_ {A = ℕ} 0 1 = cc in omega arith)
+        by (got p t) e = absurd (let q : End (length b - length (p .asked) * requestBytes) ≡ Bad k a = sym (ap (λ (x : Read). x .requests) (er ∙ ap (readAnswer (length b)) e)) ∙ f in let z : _≡_ {A = ℕ} 0 1 = cc in omega arith)
         by (bad j t) e =
-            let q : Bad j (length b - length t) ≡ Bad k a = sym (ap (λ (x : Read). x .section) (er ∙ ap (readAnswer (length b)) e)) ∙ f in
+            let q : Bad j (length b - length t) ≡ Bad k a = sym (ap (λ (x : Read). x .requests) (er ∙ ap (readAnswer (length b)) e)) ∙ f in
             let m : j ≡ k = cc in
             let n : a ≡ length b - length t = cc in
             (t, e ∙ ap (λ (i : ℕ). bad i t) m, n)
@@ -199,20 +199,20 @@ module _ (b : List ℕ) (r : Read) (er : r ≡ readAnswer (length b) (readPlan l
     alone-away = let (t, e, n) = refusal-read in ap (plain k) n ∙ sym (ap (answerRead limits b) e)
 
   -- a plan that reads whole
-  module _ (a : ℕ) (f : r .section ≡ End a) where
+  module _ (a : ℕ) (f : r .requests ≡ End a) where
     plan-read : (p : Plan) × (t : List ℕ) × (readPlan limits b ≡ got p t) × (a ≡ length b - length (p .asked) * requestBytes)
     unfolding readAnswer
     plan-read = by (readPlan limits b) refl
       where
         by : (o : Out Plan) → readPlan limits b ≡ o → (p : Plan) × (t : List ℕ) × (readPlan limits b ≡ got p t) × (a ≡ length b - length (p .asked) * requestBytes)
-        by (got p t) e = let q : End (length b - length (p .asked) * requestBytes) ≡ End a = sym (ap (λ (x : Read). x .section) (er ∙ ap (readAnswer (length b)) e)) ∙ f in (p, t, e, (cc))
-        by (bad j t) e = absurd (let q : Bad j (length b - length t) ≡ End a = sym (ap (λ (x : Read). x .section) (er ∙ ap (readAnswer (length b)) e)) ∙ f in let z : _≡_ {A = ℕ} 0 1 = cc in omega arith)
+        by (got p t) e = let q : End (length b - length (p .asked) * requestBytes) ≡ End a = sym (ap (λ (x : Read). x .requests) (er ∙ ap (readAnswer (length b)) e)) ∙ f in (p, t, e, (cc))
+        by (bad j t) e = absurd (let q : Bad j (length b - length t) ≡ End a = sym (ap (λ (x : Read). x .requests) (er ∙ ap (readAnswer (length b)) e)) ∙ f in let z : _≡_ {A = ℕ} 0 1 = cc in omega arith)
 
-    pub apply-reads : (s : State) (q : List ℕ) (v : Applied) → length (s .config .words) ≡ configWords → length (s .table .words) ≡ tableWords → q ≡ stretchOf (r .section) b → v ≡ applyRead s r q → v ≡ applied s b
+    pub apply-reads : (s : State) (q : List ℕ) (v : Applied) → length (s .config .words) ≡ configWords → length (s .table .words) ≡ tableWords → q ≡ stretchOf (r .requests) b → v ≡ applyBase s r q → v ≡ applied s b
     unfolding stretchOf
     apply-reads s q v lc lt g h =
         let (p, t, e, n) = plan-read in
-        h ∙ ap (applyRead s r) (g ∙ ap (λ (x : Section). stretchOf x b) f ∙ ap (λ (i : ℕ). drop i b) n) ∙ ap (λ (x : Read). applyRead s x (drop (length b - length (p .asked) * requestBytes) b)) (er ∙ ap (readAnswer (length b)) e)
+        h ∙ ap (applyBase s r) (g ∙ ap (λ (x : Section). stretchOf x b) f ∙ ap (λ (i : ℕ). drop i b) n) ∙ ap (λ (x : Read). applyBase s x (drop (length b - length (p .asked) * requestBytes) b)) (er ∙ ap (readAnswer (length b)) e)
         ∙ applied-is s b p t e lc lt
 
     -- the plan's own base
@@ -226,7 +226,7 @@ module _ (b : List ℕ) (r : Read) (er : r ≡ readAnswer (length b) (readPlan l
         ap (λ (x : Read). terminalIn (record { config = x .config; table = x .table; edition = x .edition })) q
         ∙ (λ i. record { config = config-view (record { regions = p .regions; gic = p .marks .gic }) i; table = table-view (p .zones) i; edition = p .marks .edition })
 
-    pub alone-reads : (q : List ℕ) (v : Applied) → length (r .config .words) ≡ configWords → length (r .table .words) ≡ tableWords → q ≡ stretchOf (r .section) b → v ≡ applyRead (record { config = r .config; table = r .table; edition = r .edition }) r q → v .outcome ≡ answerAlone limits b
+    pub alone-reads : (q : List ℕ) (v : Applied) → length (r .config .words) ≡ configWords → length (r .table .words) ≡ tableWords → q ≡ stretchOf (r .requests) b → v ≡ applyBase (record { config = r .config; table = r .table; edition = r .edition }) r q → v .outcome ≡ answerAlone limits b
     unfolding answerAlone answerRead applied inWords
     alone-reads q v lc lt g h =
         let (p, t, e, n) = plan-read in

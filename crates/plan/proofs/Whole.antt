@@ -23,7 +23,7 @@ use Rattle.rules.specs.declared.Region.{Region}
 use Rattle.rules.proofs.Plan.{lawful-regions, lawful-zones, lawful-requests}
 use Rattle.zones.specs.declared.config.Config.{Config}
 use Rattle.zones.specs.declared.table.Table.{Table}
-use Rattle.plan.specs.Read.{stretchOf, refusedRead, readAnswer, leading, afterRequests, requestsRead, afterZones, zonesRead, afterRegions, regionsRead, afterMarks, marksRead}
+use Rattle.plan.specs.Read.{recordsIn, stretchOf, refusedRead, readAnswer, leading, afterRequests, requestsRead, afterZones, zonesRead, afterRegions, regionsRead, afterMarks, marksRead}
 use Rattle.plan.specs.Sections.{marksAnswer, sectionAnswer, configFor, tableFor, configAnswer, tableAnswer, regionsAnswer, zonesAnswer}
 use Rattle.plan.specs.declared.read.Read.{Read}
 use Rattle.plan.specs.declared.sections.Marks.{Marks as MarksAre}
@@ -242,14 +242,14 @@ module _ (s : List ℕ) (base edition : ℕ) (c : Config) (t : Table) (r : Secti
         by qs [] m = absurd (omega arith)
         by qs (x ∷ u) m = let place : base + e ≡ base + length s - length (x ∷ u) = omega arith in ap (refusedRead 22) place
 
-    pub requests-whole : length s ≤ e → _≡_ {A = Read} (record { section = End (base + 4); edition = edition; config = c; table = t }) (requestsRead edition c t (base + length s) s)
+    pub requests-whole : length s ≤ e → _≡_ {A = Read} (record { requests = End (base + 4); edition = edition; config = c; table = t }) (requestsRead edition c t (base + length s) s)
     unfolding readFile then atEnd leading afterRequests
     requests-whole h =
         let (qs, o, l) = found in
         by qs (drop e s) (length-drop e s) l ∙ sym (ap (λ (x : Out (List Asked)). leading (afterRequests edition c t (base + length s)) (base + length s) (then x atEnd)) o)
       where
-        by : (qs : List Asked) (u : List ℕ) → length u ≡ length s - e → 4 + length qs * requestBytes + length u ≡ length s → _≡_ {A = Read} (record { section = End (base + 4); edition = edition; config = c; table = t }) (leading (afterRequests edition c t (base + length s)) (base + length s) (atEnd qs u))
-        by qs [] m l = let place : base + 4 ≡ base + length s - length qs * requestBytes = omega arith in ap (λ (x : ℕ). record { section = End x; edition = edition; config = c; table = t }) place
+        by : (qs : List Asked) (u : List ℕ) → length u ≡ length s - e → 4 + length qs * requestBytes + length u ≡ length s → _≡_ {A = Read} (record { requests = End (base + 4); edition = edition; config = c; table = t }) (leading (afterRequests edition c t (base + length s)) (base + length s) (atEnd qs u))
+        by qs [] m l = let place : base + 4 ≡ base + length s - length qs * requestBytes = omega arith in ap (λ (x : ℕ). record { requests = End x; edition = edition; config = c; table = t }) place
         by qs (x ∷ u) m l = absurd (omega arith)
 
 -- ---- the marks, and the whole
@@ -332,3 +332,7 @@ module _ (s : List ℕ) (m : MarksAre) (em : m ≡ marksAnswer (length s) (marks
         let n : 12 + length (drop 12 s) ≡ length s = omega (arith, length-drop 12 s) in
         h ∙ ap (λ (b : List ℕ). regionsRead gic edition (12 + length b) b) (rest-of s 12) ∙ ap (λ (k : ℕ). regionsRead gic edition k (drop 12 s)) n
         ∙ sym (ap (leading (afterMarks (length s)) (length s)) marks-are) ∙ whole-plan (length s) s
+
+-- the requests' stretch, from what reading answered
+pub found-requests : (b q : List ℕ) (r : Read) → r ≡ readAnswer (length b) (readPlan limits b) → q ≡ stretchOf (r .requests) b → q ≡ recordsIn b
+found-requests b q r e h = h ∙ ap (λ (x : Read). stretchOf (x .requests) b) e

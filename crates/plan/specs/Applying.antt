@@ -58,5 +58,5 @@ ran s o u = cond (eqb (o .number) 0) (record { outcome = o; state = record { con
 abbrev pub ranPlan : State → List ℕ → Applied
 ranPlan s b = ran s (runAnswer limits (terminalIn s .config) (terminalIn s .table) (requestsIn b)) (runWords (s .config .words) (s .table .words) b)
 
-unfoldable pub applyRead : State → Read → List ℕ → Applied
-applyRead s r b = cond (eqb (baseNumber s r) 0) (ranPlan s b) (turnedAway s (baseNumber s r) 0)
+unfoldable pub applyBase : State → Read → List ℕ → Applied
+applyBase s r b = cond (eqb (baseNumber s r) 0) (ranPlan s b) (turnedAway s (baseNumber s r) 0)

@@ -72,10 +72,10 @@ unfoldable pub stepOf : List ℕ → List ℕ → Section → Step
 stepOf s v (End e) = on v (drop e s)
 stepOf s v (Bad k at) = stop v k (drop at s)
 
-unfoldable pub placeOf : Section → ℕ
-placeOf (End e) = e
-placeOf (Bad k at) = at
+unfoldable pub sectionPlace : Section → ℕ
+sectionPlace (End e) = e
+sectionPlace (Bad k at) = at
 
 pub record Reads (s v : List ℕ) (r : Section) (S : Step) : Type 0 where
   pub step : S ≡ stepOf s v r
-  pub within : placeOf r ≤ length s
+  pub within : sectionPlace r ≤ length s

@@ -4,7 +4,7 @@ use mathlib.Core.List.{List, []}
 use lib.ListN.{length, drop}
 use Rattle.formats.specs.Formats.{Out, got, bad, readFile}
 use Rattle.rules.specs.Limits.{limits}
-use Rattle.rules.specs.Plan.{marksSection, regionsSection, zonesSection, requestsSection, Asked, Marks, Plan}
+use Rattle.rules.specs.Plan.{marksSection, regionsSection, zonesSection, requestsSection, readPlan, Asked, Marks, Plan}
 use Rattle.rules.specs.Run.{requestBytes}
 use Rattle.rules.specs.Tables.{Zone}
 use Rattle.rules.specs.declared.Region.{Region}
@@ -17,17 +17,21 @@ use Rattle.plan.specs.declared.words.Section.the-variants.{End, Bad}
 
 -- a refusal gives zeros
 abbrev pub refusedRead : ℕ → ℕ → Read
-refusedRead k at = record { section = Bad k at; edition = 0; config = noConfig; table = noTable }
+refusedRead k at = record { requests = Bad k at; edition = 0; config = noConfig; table = noTable }
 
 -- a plan that reads whole: its requests are the last of its bytes
 unfoldable pub readAnswer : ℕ → Out Plan → Read
-readAnswer n (got p left) = record { section = End (n - length (p .asked) * requestBytes); edition = p .marks .edition; config = configFor (p .marks .gic) (p .regions); table = tableFor (p .zones) }
+readAnswer n (got p left) = record { requests = End (n - length (p .asked) * requestBytes); edition = p .marks .edition; config = configFor (p .marks .gic) (p .regions); table = tableFor (p .zones) }
 readAnswer n (bad k left) = refusedRead k (n - length left)
 
 -- the stretch of the plan's bytes that holds its requests: none where it was refused
 unfoldable pub stretchOf : Section → List ℕ → List ℕ
 stretchOf (End at) b = drop at b
 stretchOf (Bad k at) b = []
+
+-- those of a plan: empty where it does not read whole
+abbrev pub recordsIn : List ℕ → List ℕ
+recordsIn b = stretchOf (readAnswer (length b) (readPlan limits b) .requests) b
 
 -- ---- the same, section by section
 -- what a section leads to, where it reads; n is the number of the plan's bytes
@@ -36,7 +40,7 @@ leading f n (got x left) = f x left
 leading f n (bad k left) = refusedRead k (n - length left)
 
 unfoldable pub afterRequests : ℕ → Config → Table → ℕ → List Asked → List ℕ → Read
-afterRequests e c t n asked left = record { section = End (n - length asked * requestBytes); edition = e; config = c; table = t }
+afterRequests e c t n asked left = record { requests = End (n - length asked * requestBytes); edition = e; config = c; table = t }
 
 abbrev pub requestsRead : ℕ → Config → Table → ℕ → List ℕ → Read
 requestsRead e c t n b = leading (afterRequests e c t n) n (readFile (requestsSection limits) b)

@@ -11,14 +11,14 @@ use rules::numbers::OTHER_ZONES;
 use zones::Config;
 use zones::Table;
 use zones::run_in;
+use zones::same_words;
 use zones::standing;
 ghost use mathlib.Core.Path.{_≡_};
-ghost use lib.Dec.{eqb};
 ghost use lib.ListN.{length};
 ghost use Rattle.rules.specs.Limits.{limits};
-ghost use Rattle.rules.specs.Applying.{lastEdition, sameList, answerAlone};
+ghost use Rattle.rules.specs.Applying.{lastEdition, answerAlone};
 ghost use Rattle.zones.specs.Layout.{configWords, tableWords};
-ghost use Rattle.plan.specs.Applying.{turnedAway, ranPlan, baseNumber, applyRead, applied};
+ghost use Rattle.plan.specs.Applying.{turnedAway, ranPlan, baseNumber, applyBase, applied};
 
 const LAST_EDITION: u32 = u32::MAX;
 
@@ -42,7 +42,7 @@ pub fn apply(state: State, plan: &[u8]) -> Applied
     ensures { λ r. ⌜ r ≡ applied state (now (plan .entry)) ⌝ }
 {
     let read = read_plan(plan);
-    let section = read.section;
+    let section = read.requests;
     match section {
         Section::Bad { number, at } => turned_away(state, number, at),
         Section::End(_) => apply_read(state, read, request_records(plan, section)),
@@ -51,7 +51,7 @@ pub fn apply(state: State, plan: &[u8]) -> Applied
 
 // A plan that reads whole, and the bytes of its requests.
 fn apply_read(state: State, read: Read, requests: &[u8]) -> Applied
-    ensures { λ r. ⌜ r ≡ applyRead state read (now (requests .entry)) ⌝ }
+    ensures { λ r. ⌜ r ≡ applyBase state read (now (requests .entry)) ⌝ }
     ensures { λ r. ⌜ (length (state .config .words) ≡ configWords) × (length (state .table .words) ≡ tableWords) ⌝ }
 {
     let number = base_number(state, read);
@@ -83,23 +83,6 @@ fn base_number(state: State, read: Read) -> u32
         return OTHER_ZONES;
     }
     0
-}
-
-fn same_words(a: &[u64], b: &[u64]) -> bool
-    ensures { λ t. ⌜ t ≡ sameList eqb (now (a .entry)) (now (b .entry)) ⌝ }
-{
-    if a.len() != b.len() {
-        return false;
-    }
-    let n = a.len();
-    let mut k = 0;
-    while k < n {
-        if a[k] != b[k] {
-            return false;
-        }
-        k += 1;
-    }
-    true
 }
 
 // A number that the plan has earned, unless the terminal's own state is unsound.
@@ -157,7 +140,7 @@ pub fn apply_alone(plan: &[u8]) -> Outcome
     ensures { λ r. ⌜ r ≡ answerAlone limits (now (plan .entry)) ⌝ }
 {
     let read = read_plan(plan);
-    let section = read.section;
+    let section = read.requests;
     match section {
         Section::Bad { number, at } => Outcome {
             number,

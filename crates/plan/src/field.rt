@@ -48,7 +48,7 @@ pub fn is_within(lo: u32, hi: u32, count: u32) -> bool
     count <= hi
 }
 
-pub fn region_at(s: &[u8], at: usize) -> RegionField
+pub fn region_field_at(s: &[u8], at: usize) -> RegionField
     requires { ⌜ at ≤ length (now s) ⌝ }
     ensures { λ r. ⌜ RegionRead (now (s .entry)) at (regionField .read (drop at (now (s .entry)))) r ⌝ }
 {

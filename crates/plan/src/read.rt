@@ -1,9 +1,9 @@
 // A whole plan: its four sections one after another, each lent the bytes from its count on.
 use crate::field::NUMBER_BYTES;
 use crate::sections::Marks;
-use crate::sections::find_requests;
 use crate::sections::read_marks;
 use crate::sections::read_regions;
+use crate::sections::read_requests;
 use crate::sections::read_zones;
 use crate::words::Section;
 use rules::numbers::TRAILING;
@@ -16,14 +16,14 @@ ghost use mathlib.Core.Path.{_≡_};
 ghost use lib.ListN.{length};
 ghost use Rattle.rules.specs.Limits.{limits};
 ghost use Rattle.rules.specs.Plan.{readPlan};
-ghost use Rattle.plan.specs.Read.{stretchOf, refusedRead, requestsRead, zonesRead, regionsRead, readAnswer};
+ghost use Rattle.plan.specs.Read.{recordsIn, stretchOf, refusedRead, requestsRead, zonesRead, regionsRead, readAnswer};
 
 // The marks' count and the two marks.
 pub const MARKS_BYTES: usize = 12;
 
 // What a plan says: its configuration, edition and zones, and where the first request begins; or a refusal and its offset, and zeros.
 pub struct Read {
-    pub section: Section,
+    pub requests: Section,
     pub edition: u32,
     pub config: Config,
     pub table: Table,
@@ -42,7 +42,16 @@ pub fn read_plan(plan: &[u8]) -> Read
     }
 }
 
-// The requests of a plan, of which `section` is what reading it answered: that stretch of the caller's own bytes, their count left out;
+// The requests of a plan: that stretch of the caller's own bytes, their count left out; empty where the plan does not read whole.
+pub fn find_requests(plan: &[u8]) -> &[u8]
+    ensures { λ r. ⌜ now r ≡ recordsIn (now (plan .entry)) ⌝ }
+{
+    let read = read_plan(plan);
+    let requests = read.requests;
+    request_records(plan, requests)
+}
+
+// The same where the plan has been read, of which `section` is what was answered: that stretch of the caller's own bytes, their count left out;
 // empty where the plan was refused.
 pub fn request_records(plan: &[u8], section: Section) -> &[u8]
     ensures { λ r. ⌜ now r ≡ stretchOf section (now (plan .entry)) ⌝ }
@@ -85,7 +94,7 @@ fn from_requests(s: &[u8], base: usize, edition: u32, config: Config, table: Tab
     requires { ⌜ base + length (now s) < 2 ^ 64 ⌝ }
     ensures { λ r. ⌜ r ≡ requestsRead edition config table (base + length (now (s .entry))) (now (s .entry)) ⌝ }
 {
-    let section = find_requests(s);
+    let section = read_requests(s);
     match section {
         Section::Bad { number, at } => refused(number, base + at),
         Section::End(end) => {
@@ -93,7 +102,7 @@ fn from_requests(s: &[u8], base: usize, edition: u32, config: Config, table: Tab
                 return refused(TRAILING, base + end);
             }
             Read {
-                section: Section::End(base + NUMBER_BYTES),
+                requests: Section::End(base + NUMBER_BYTES),
                 edition,
                 config,
                 table,
@@ -106,7 +115,7 @@ fn refused(number: u32, at: usize) -> Read
     ensures { λ r. ⌜ r ≡ refusedRead number at ⌝ }
 {
     Read {
-        section: Section::Bad { number, at },
+        requests: Section::Bad { number, at },
         edition: 0,
         config: Config {
             words: [0u64; CONFIG_WORDS],

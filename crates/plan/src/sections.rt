@@ -118,7 +118,7 @@ pub fn read_zones(s: &[u8]) -> Zones
 }
 
 // Requests: only where the section ends. All have one width, so none is looked at.
-pub fn find_requests(s: &[u8]) -> Section
+pub fn read_requests(s: &[u8]) -> Section
     ensures { λ r. ⌜ r ≡ sectionAnswer (length (now (s .entry))) (requestsSection limits .read (now (s .entry))) ⌝ }
 {
     let Number::Is(n) = number_at(s, 0) else {

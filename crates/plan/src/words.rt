@@ -5,16 +5,18 @@ use crate::field::REGION_BYTES;
 use crate::field::RegionField;
 use crate::field::is_within;
 use crate::field::number_at;
-use crate::field::region_at;
+use crate::field::region_field_at;
 use rules::limits::MOST_IN_SET;
 use rules::limits::MOST_ZONES;
 use rules::numbers::COUNT;
 use rules::numbers::CUT;
 use zones::REGION_WORDS;
 use zones::SET_WORDS;
-use zones::ZONE_WORDS;
+use zones::put_region;
+use zones::zone_start;
 ghost use Prim.Native.Nat.{_+_, _*_, _≤_, _<_};
 ghost use lib.ListN.{length, drop};
+ghost use Rattle.rules.specs.Limits.{mostZones};
 ghost use Rattle.zones.specs.Layout.{regionWords, setWords, tableWords, zoneBase};
 ghost use Rattle.plan.specs.Into.{Reads, recordInto, setInto, setsInto, zoneInto, zonesInto, times};
 
@@ -29,13 +31,10 @@ fn read_record(s: &[u8], at: usize, w: &mut [u64], a: usize, i: usize) -> Sectio
     requires { ⌜ (at ≤ length (now s)) × (a + (i + 1) * regionWords ≤ length (now w)) ⌝ }
     ensures { λ r. ⌜ Reads (now (s .entry)) (now (w .exit)) r (recordInto a i (now (w .entry)) (drop at (now (s .entry)))) ⌝ }
 {
-    let RegionField::Is(r) = region_at(s, at) else {
+    let RegionField::Is(r) = region_field_at(s, at) else {
         return Section::Bad { number: CUT, at };
     };
-    let k = a + i * REGION_WORDS;
-    w[k] = r.v.0;
-    w[k + 1] = r.p.0;
-    w[k + 2] = r.size;
+    put_region(w, a + i * REGION_WORDS, r);
     Section::End(at + REGION_BYTES)
 }
 
@@ -101,7 +100,7 @@ fn read_sets(s: &[u8], start: usize, w: &mut [u64], k: usize) -> Section
 
 // The zone at byte `start`, into the words of zone i.
 fn read_zone(s: &[u8], start: usize, w: &mut [u64], i: usize) -> Section
-    requires { ⌜ (start ≤ length (now s)) × (zoneBase (i + 1) ≤ length (now w)) ⌝ }
+    requires { ⌜ ((start ≤ length (now s)) × (i < mostZones)) × (zoneBase (i + 1) ≤ length (now w)) ⌝ }
     ensures { λ r. ⌜ Reads (now (s .entry)) (now (w .exit)) r (zoneInto i (now (w .entry)) (drop start (now (s .entry)))) ⌝ }
 {
     let Number::Is(id) = number_at(s, start) else {
@@ -110,14 +109,14 @@ fn read_zone(s: &[u8], start: usize, w: &mut [u64], i: usize) -> Section
             at: start,
         };
     };
-    let z = 1 + i * ZONE_WORDS;
+    let z = zone_start(i);
     w[z] = id as u64;
     read_sets(s, start + NUMBER_BYTES, w, z + 1)
 }
 
 // The n zones from byte `start` on, into those of a table's words.
 fn read_zone_list(s: &[u8], start: usize, n: usize, w: &mut [u64]) -> Section
-    requires { ⌜ (start ≤ length (now s)) × (zoneBase n ≤ length (now w)) ⌝ }
+    requires { ⌜ ((start ≤ length (now s)) × (n ≤ mostZones)) × (zoneBase n ≤ length (now w)) ⌝ }
     ensures { λ r. ⌜ Reads (now (s .entry)) (now (w .exit)) r (times zoneInto n 0 (now (w .entry)) (drop start (now (s .entry)))) ⌝ }
 {
     let mut at = start;

@@ -7,7 +7,7 @@ use Rattle.rules.specs.Changes.{setAt, added, pushed, cut, dropped}
 use Rattle.rules.specs.Limits.{mostZones, mostInSet}
 use Rattle.rules.specs.declared.Region.{Region}
 use Rattle.rules.specs.declared.Side.{Side}
-use Rattle.zones.specs.Decide.{applied, Allowed}
+use Rattle.zones.specs.Decide.{changed, Allowed}
 use Rattle.zones.specs.View.{setIn, zonesIn}
 use Rattle.zones.specs.Words.{wordsOf, Packed}
 use Rattle.zones.specs.declared.decide.Change.{Change}
@@ -44,23 +44,23 @@ module _ (w : List ℕ) (ch : Change) where
     pub cut-within : (z : ℕ) (s : Side) (i : ℕ) → ch ≡ Cut z s i → i < length (setIn w z s)
     cut-within z s i e = rw (set-in w z s (cut-place z s i e)) at (cut-both z s i e .1)
 
-  pub refuse-done : (n : ℕ) → ch ≡ Refuse n → Packed w → w ≡ wordsOf (applied ch (zonesIn w))
-  unfolding applied
+  pub refuse-done : (n : ℕ) → ch ≡ Refuse n → Packed w → w ≡ wordsOf (changed ch (zonesIn w))
+  unfolding changed
   refuse-done n e p = rw e (p .words)
 
   module _ (u : List ℕ) where
-    pub add-done : (id : ℕ) → ch ≡ Add id → u ≡ wordsOf (added id (zonesIn w)) → u ≡ wordsOf (applied ch (zonesIn w))
-    unfolding applied
+    pub add-done : (id : ℕ) → ch ≡ Add id → u ≡ wordsOf (added id (zonesIn w)) → u ≡ wordsOf (changed ch (zonesIn w))
+    unfolding changed
     add-done id e h = rw e h
 
-    pub drop-done : (z : ℕ) → ch ≡ Drop z → u ≡ wordsOf (dropped z (zonesIn w)) → u ≡ wordsOf (applied ch (zonesIn w))
-    unfolding applied
+    pub drop-done : (z : ℕ) → ch ≡ Drop z → u ≡ wordsOf (dropped z (zonesIn w)) → u ≡ wordsOf (changed ch (zonesIn w))
+    unfolding changed
     drop-done z e h = rw e h
 
-    pub push-done : (z : ℕ) (s : Side) (r : Region) → ch ≡ Push z s r → u ≡ wordsOf (pushed z s r (zonesIn w)) → u ≡ wordsOf (applied ch (zonesIn w))
-    unfolding applied
+    pub push-done : (z : ℕ) (s : Side) (r : Region) → ch ≡ Push z s r → u ≡ wordsOf (pushed z s r (zonesIn w)) → u ≡ wordsOf (changed ch (zonesIn w))
+    unfolding changed
     push-done z s r e h = rw e h
 
-    pub cut-done : (z : ℕ) (s : Side) (i : ℕ) → ch ≡ Cut z s i → u ≡ wordsOf (cut z s i (zonesIn w)) → u ≡ wordsOf (applied ch (zonesIn w))
-    unfolding applied
+    pub cut-done : (z : ℕ) (s : Side) (i : ℕ) → ch ≡ Cut z s i → u ≡ wordsOf (cut z s i (zonesIn w)) → u ≡ wordsOf (changed ch (zonesIn w))
+    unfolding changed
     cut-done z s i e h = rw e h

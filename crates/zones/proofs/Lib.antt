@@ -18,3 +18,4 @@ pub mod Running
 pub mod Spelling
 pub mod Kept
 pub mod Translating
+pub mod Comparing

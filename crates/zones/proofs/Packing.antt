@@ -36,8 +36,8 @@ module _ (w : List ℕ) where
   pub free-records : (b : ℕ) (r : Bool) → getD w b 0 ≤ mostInSet → r ≡ zeros w (recordBase b (getD w b 0)) (b + setWords - recordBase b (getD w b 0)) → r ≡ zeros w (recordBase b (getD w b 0)) ((mostInSet - getD w b 0) * regionWords)
   free-records b r h e = let f : b + setWords - recordBase b (getD w b 0) ≡ (mostInSet - getD w b 0) * regionWords = omega arith in e ∙ ap (zeros w (recordBase b (getD w b 0))) f
 
-  pub free-zones : (r : Bool) → getD w 0 0 ≤ mostZones → r ≡ zeros w (zoneBase (getD w 0 0)) (tableWords - zoneBase (getD w 0 0)) → r ≡ zeros w (zoneBase (getD w 0 0)) ((mostZones - getD w 0 0) * zoneWords)
-  free-zones r h e = let f : tableWords - zoneBase (getD w 0 0) ≡ (mostZones - getD w 0 0) * zoneWords = omega arith in e ∙ ap (zeros w (zoneBase (getD w 0 0))) f
+  pub free-zones : (b : ℕ) (r : Bool) → b ≡ zoneBase (getD w 0 0) → getD w 0 0 ≤ mostZones → r ≡ zeros w b (tableWords - b) → r ≡ zeros w (zoneBase (getD w 0 0)) ((mostZones - getD w 0 0) * zoneWords)
+  free-zones b r q h e = let f : tableWords - zoneBase (getD w 0 0) ≡ (mostZones - getD w 0 0) * zoneWords = omega arith in e ∙ ap (λ (k : ℕ). zeros w k (tableWords - k)) q ∙ ap (zeros w (zoneBase (getD w 0 0))) f
 
   -- a set that a call looked at, by where it starts
   pub packed-at : (z b : ℕ) (s : Side) (t : Bool) → b ≡ setBase z s → t ≡ setPacked w b → t ≡ setPacked w (setBase z s)

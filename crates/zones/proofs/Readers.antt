@@ -4,7 +4,7 @@ use native.Mathlib.Omega.{arith}
 use mathlib.Core.Bool.{Bool, true, false}
 use mathlib.Core.List.{List}
 use mathlib.Core.Path.{_≡_, refl, sym, ap, ap₂, _∙_}
-use borrow.Author.Tests.{eq-eqb, ne-eqb}
+use borrow.Author.Tests.{eq-eqb, ne-eqb, lt-ltb, le-ltb}
 use lib.ListN.{length, getD}
 use Rattle.lists.specs.First.{firstIndex, firstFrom}
 use Rattle.lists.proofs.Places.{length-tab, first-hit, first-on, first-end}
@@ -13,26 +13,39 @@ use Rattle.rules.specs.Tables.{hasId}
 use Rattle.rules.specs.declared.Region.{Region}
 use Rattle.rules.specs.declared.Side.{Side}
 use Rattle.rules.specs.declared.Side.the-variants.{Cpu, Iommu}
-use Rattle.zones.specs.Layout.{setWords, zoneWords, tableWords, zoneBase, setBase, recordBase}
+use Rattle.zones.specs.Layout.{setWords, zoneWords, tableWords, zoneBase, zoneStart, setBase, recordBase}
 use Rattle.zones.specs.Records.{regionAt, recordAt, recordsAt}
 use Rattle.zones.specs.View.{recordIn, setIn, zoneIn, zonesIn}
 
-pub base-cpu : (z : ℕ) (s : Side) → z < mostZones → s ≡ Cpu → (1 + z * zoneWords + 1 ≡ setBase z s) × (1 + z * zoneWords + 1 + setWords ≤ tableWords)
+pub base-cpu : (z b : ℕ) (s : Side) → b ≡ zoneBase z → z < mostZones → s ≡ Cpu → (b + 1 ≡ setBase z s) × (b + 1 + setWords ≤ tableWords)
 unfolding setBase
-base-cpu z s h e = rw e (refl, omega arith)
+base-cpu z b s q h e = rw e (omega arith, omega arith)
 
-pub base-iommu : (z : ℕ) (s : Side) → z < mostZones → s ≡ Iommu → (1 + z * zoneWords + 1 + setWords ≡ setBase z s) × (1 + z * zoneWords + 1 + setWords + setWords ≤ tableWords)
+pub base-iommu : (z b : ℕ) (s : Side) → b ≡ zoneBase z → z < mostZones → s ≡ Iommu → (b + 1 + setWords ≡ setBase z s) × (b + 1 + setWords + setWords ≤ tableWords)
 unfolding setBase
-base-iommu z s h e = rw e (omega arith, omega arith)
+base-iommu z b s q h e = rw e (omega arith, omega arith)
+
+-- where a zone begins, for any number
+pub start-within : (z b : ℕ) → z < mostZones → b ≡ zoneBase z → b ≡ zoneStart z
+unfolding zoneStart
+start-within z b h e = rw (lt-ltb _ _ h) e
+
+pub start-is : (z b : ℕ) → b ≡ zoneStart z → z < mostZones → b ≡ zoneBase z
+unfolding zoneStart
+start-is z b e h = rw (lt-ltb _ _ h) at e
+
+pub start-past : (z : ℕ) → mostZones ≤ z → tableWords ≡ zoneStart z
+unfolding zoneStart
+start-past z h = rw (le-ltb _ _ h)
 
 module _ (w : List ℕ) where
   pub count-word : getD w 0 0 ≡ length (zonesIn w)
   unfolding zonesIn
   count-word = sym (length-tab (getD w 0 0) (zoneIn w))
 
-  pub id-word : (z : ℕ) → getD w (zoneBase z) 0 ≡ zoneIn w z .id
+  pub id-word : (z b : ℕ) → b ≡ zoneBase z → getD w b 0 ≡ zoneIn w z .id
   unfolding zoneIn
-  id-word z = refl
+  id-word z b e = ap (λ (k : ℕ). getD w k 0) e
 
   pub len-word : (z : ℕ) (s : Side) (b : ℕ) → b ≡ setBase z s → getD w b 0 ≡ length (setIn w z s)
   unfolding setIn recordsAt

@@ -6,6 +6,7 @@ use mathlib.Core.List.{List, _∷_, _++_}
 use mathlib.Core.Path.{_≡_, refl, sym, ap, ap₂, _∙_}
 use lib.ListN.{length, getD, set, replicate}
 use lib.Seq.{getD-append-add, getD-at, sets}
+use borrow.Author.Tests.{le-leb, lt-leb}
 use Rattle.lists.specs.First.{firstFrom}
 use Rattle.lists.specs.Words.{part}
 use Rattle.lists.proofs.Places.{first-hit, first-on, first-end}
@@ -14,7 +15,7 @@ use Rattle.rules.specs.Regions.{noRegion}
 use Rattle.rules.specs.declared.Region.{Region}
 use Rattle.zones.specs.Alike.{alikeBy}
 use Rattle.zones.specs.Layout.{regionWords}
-use Rattle.zones.specs.Records.{regionAt, wordsOfRegion, recordAt, recordsAt}
+use Rattle.zones.specs.Records.{regionAt, wordsOfRegion, recordAt, recordsAt, placed}
 use Rattle.zones.specs.declared.words.By.{By}
 
 pub read-record : (w : List ℕ) (k : ℕ) → _≡_ {A = Region} (record { v = record { 0 = getD w k 0 }; p = record { 0 = getD w (k + 1) 0 }; size = getD w (k + 2) 0 }) (regionAt w k)
@@ -74,3 +75,13 @@ unfolding wordsOfRegion regionAt
 region-part w k h =
     let f : k + 1 + 1 ≡ k + 2 = omega arith in
     part-cons k 2 w 0 (omega arith) ∙ ap (λ (l : List ℕ). getD w k 0 ∷ l) (part-cons (k + 1) 1 w 0 (omega arith) ∙ ap (λ (l : List ℕ). getD w (k + 1) 0 ∷ l) (part-cons (k + 1 + 1) 0 w 0 (omega arith) ∙ ap₂ (λ (x : ℕ) (l : List ℕ). x ∷ l) (ap (λ (j : ℕ). getD w j 0) f) (part-none (k + 1 + 1 + 1) w)))
+
+-- a record is placed exactly where it has room
+module _ (w : List ℕ) (k : ℕ) (r : Region) where
+  pub no-room : (v : List ℕ) → length w < k + regionWords → v ≡ w → v ≡ placed w k r
+  unfolding placed
+  no-room v h e = rw (lt-leb _ _ h) e
+
+  pub has-room : (v : List ℕ) → k + regionWords ≤ length w → v ≡ sets w k (wordsOfRegion r) → v ≡ placed w k r
+  unfolding placed
+  has-room v h e = rw (le-leb _ _ h) e

@@ -27,7 +27,7 @@ use Rattle.rules.specs.declared.Request.{Request}
 use Rattle.rules.proofs.Configuration.{sound-answer}
 use Rattle.rules.proofs.Keeps.{sound-parts, set-sound}
 use Rattle.rules.proofs.Requests.{none-applies}
-use Rattle.zones.specs.Decide.{refusing, decidedAdd, decidedDrop, decidedInsert, decidedCut, decidedKind, decided, applied, numberOf, Allowed, Ready}
+use Rattle.zones.specs.Decide.{refusing, decidedAdd, decidedDrop, decidedInsert, decidedCut, decidedKind, decided, changed, changeNumber, Allowed, Ready}
 use Rattle.zones.specs.Layout.{tableWords}
 use Rattle.zones.specs.Step.{afterwards, Stepped}
 use Rattle.zones.specs.View.{storedConfig, configIn, storedTable, zonesIn}
@@ -47,8 +47,8 @@ refused-or-made ((n, false) ∷ rs) ch z = refused-or-made rs ch (both-true (ltb
 
 -- what is to be shown of an outcome: its number, the table that it leaves, and that it can be done
 pub record Comes (c : Configuration) (t : List Zone) (k : Kind) (id : ℕ) (d : Change) : Type 0 where
-  pub number : numberOf d ≡ firstRule (requestRules limits c k id t) 0
-  pub leaves : applied d t ≡ cond (eqb (firstRule (requestRules limits c k id t) 0) 0) (after k id t) t
+  pub number : changeNumber d ≡ firstRule (requestRules limits c k id t) 0
+  pub leaves : changed d t ≡ cond (eqb (firstRule (requestRules limits c k id t) 0) 0) (after k id t) t
   pub can : Allowed d t
 
 module _ (c : Configuration) (t : List Zone) (k : Kind) (id : ℕ) where
@@ -56,18 +56,18 @@ module _ (c : Configuration) (t : List Zone) (k : Kind) (id : ℕ) where
   n = firstRule (requestRules limits c k id t) 0
 
   refused : (d : Change) → (n ≡ 0 → ⊥) → d ≡ Refuse n → Comes c t k id d
-  unfolding n applied Allowed
+  unfolding n changed Allowed
   refused d ne e = record {
-    number = ap numberOf e;
-    leaves = ap (λ (x : Change). applied x t) e ∙ sym (ap (λ (b : Bool). cond b (after k id t) t) (ne-eqb (firstRule (requestRules limits c k id t) 0) 0 ne));
+    number = ap changeNumber e;
+    leaves = ap (λ (x : Change). changed x t) e ∙ sym (ap (λ (b : Bool). cond b (after k id t) t) (ne-eqb (firstRule (requestRules limits c k id t) 0) 0 ne));
     can = subst (λ (x : Change). Allowed x t) (sym e) tt;
   }
 
-  made : (d ch : Change) → n ≡ 0 → d ≡ ch → numberOf ch ≡ 0 → applied ch t ≡ after k id t → Allowed ch t → Comes c t k id d
+  made : (d ch : Change) → n ≡ 0 → d ≡ ch → changeNumber ch ≡ 0 → changed ch t ≡ after k id t → Allowed ch t → Comes c t k id d
   unfolding n
   made d ch z e m a l = record {
-    number = ap numberOf e ∙ m ∙ sym z;
-    leaves = ap (λ (x : Change). applied x t) e ∙ a ∙ sym (ap (λ (b : Bool). cond b (after k id t) t) (eq-eqb (firstRule (requestRules limits c k id t) 0) 0 z));
+    number = ap changeNumber e ∙ m ∙ sym z;
+    leaves = ap (λ (x : Change). changed x t) e ∙ a ∙ sym (ap (λ (b : Bool). cond b (after k id t) t) (eq-eqb (firstRule (requestRules limits c k id t) 0) 0 z));
     can = subst (λ (x : Change). Allowed x t) (sym e) l;
   }
 
@@ -75,7 +75,7 @@ found : (id : ℕ) (t : List Zone) → present id t ≡ true → find id t < len
 found id t e = ltb-true _ _ (sym (any-first (hasId id) t) ∙ e)
 
 kind-comes : (c : Configuration) (t : List Zone) (k : Kind) (id : ℕ) → Comes c t k id (decidedKind c k id t)
-unfolding n decidedKind decidedAdd decidedDrop decidedInsert decidedCut requestRules kindRules addRules removeZoneRules insertRules regionRules setRules removeRules noRequest after applied Allowed aboveZero all firstRule testOf
+unfolding n decidedKind decidedAdd decidedDrop decidedInsert decidedCut requestRules kindRules addRules removeZoneRules insertRules regionRules setRules removeRules noRequest after changed Allowed aboveZero all firstRule testOf
 kind-comes c t AddZone id =
     ⊎-elim (λ (ne, e). refused c t AddZone id _ ne e) (λ (z, e). made c t AddZone id _ (Add id) z e refl refl (leb-false _ _ (none-applies limits c AddZone id t z 7)))
     (refused-or-made (4 when ltb highestId id ∷ addRules limits id t) (Add id) refl)
@@ -103,11 +103,11 @@ module _ (c : Configuration) (t : List Zone) (q : Request) (d : Change) (e : d �
   pub decided-allowed : Allowed d t
   decided-allowed = comes .can
 
-  pub decided-number : (m : ℕ) → m ≡ numberOf d → m ≡ refusal limits c t q
+  pub decided-number : (m : ℕ) → m ≡ changeNumber d → m ≡ refusal limits c t q
   unfolding refusal
   decided-number m h = h ∙ comes .number
 
-  pub decided-table : (u : List ℕ) → u ≡ wordsOf (applied d t) → u ≡ wordsOf (next limits c t q)
+  pub decided-table : (u : List ℕ) → u ≡ wordsOf (changed d t) → u ≡ wordsOf (next limits c t q)
   unfolding next refusal
   decided-table u h = h ∙ ap wordsOf (comes .leaves)
 

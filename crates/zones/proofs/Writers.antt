@@ -16,7 +16,7 @@ use Rattle.rules.specs.Tables.{noZone, sideOf, Zone}
 use Rattle.rules.specs.declared.Region.{Region}
 use Rattle.rules.specs.declared.Side.{Side}
 use Rattle.rules.specs.declared.Side.the-variants.{Cpu, Iommu}
-use Rattle.zones.specs.Layout.{regionWords, setWords, zoneWords, tableWords, setBase}
+use Rattle.zones.specs.Layout.{regionWords, setWords, zoneWords, zoneBase, tableWords, setBase}
 use Rattle.zones.specs.Records.{wordsOfRegion}
 use Rattle.zones.specs.View.{setIn, zoneIn, zonesIn}
 use Rattle.zones.specs.Words.{wordsOfSet, wordsOfZone, wordsOf, Packed}
@@ -80,24 +80,24 @@ unfolding wordsOf
 whole m = sym (append-nil (counted mostZones noZone wordsOfZone m))
 
 module _ (w u : List ℕ) (p : Packed w) (n : ℕ) (en : n ≡ length (zonesIn w)) where
-  pub remove-words : (z : ℕ) → z < length (zonesIn w) → u ≡ closed w (1 + z * zoneWords) zoneWords tableWords → set u 0 (n - 1) ≡ wordsOf (dropped z (zonesIn w))
+  pub remove-words : (z b : ℕ) → b ≡ zoneBase z → z < length (zonesIn w) → u ≡ closed w b zoneWords tableWords → set u 0 (n - 1) ≡ wordsOf (dropped z (zonesIn w))
   unfolding dropped
-  remove-words z h e =
+  remove-words z b q h e =
       let m : List Zone = zonesIn w in
-      ap (λ (l : List ℕ). set l 0 (n - 1)) e
+      ap (λ (l : List ℕ). set l 0 (n - 1)) (e ∙ ap (λ (k : ℕ). closed w k zoneWords tableWords) q)
       ∙ ap₂ (λ (l : List ℕ) (c : ℕ). set (closed l (1 + z * zoneWords) zoneWords tableWords) 0 (c - 1)) (p .words ∙ whole m) en
       ∙ cut-counted mostZones noZone wordsOfZone zoneWords zone-wide [] [] 0 refl m z h (p .within .zones) zero-zone
       ∙ sym (whole (removeAt z m))
 
-  pub add-words : (id : ℕ) → length (zonesIn w) < mostZones → u ≡ set w (1 + n * zoneWords) id → set u 0 (n + 1) ≡ wordsOf (added id (zonesIn w))
+  pub add-words : (id b : ℕ) → b ≡ zoneBase n → length (zonesIn w) < mostZones → u ≡ set w b id → set u 0 (n + 1) ≡ wordsOf (added id (zonesIn w))
   unfolding added
-  add-words id h e =
+  add-words id b q h e =
       let m : List Zone = zonesIn w in
       let y : Zone = record { id = id; cpu = []; iommu = [] } in
       let a : List ℕ = free-before mostZones noZone wordsOfZone zoneWords zone-wide [] [] 0 refl m in
       let c : List ℕ = free-after mostZones noZone wordsOfZone zoneWords zone-wide [] [] 0 refl m in
       let f : w ≡ a ++ (wordsOfZone noZone ++ c) = p .words ∙ whole m ∙ free-at mostZones noZone wordsOfZone zoneWords zone-wide [] [] 0 refl m h in
-      ap (λ (l : List ℕ). set l 0 (n + 1)) e
+      ap (λ (l : List ℕ). set l 0 (n + 1)) (e ∙ ap (λ (k : ℕ). set w k id) q)
       ∙ ap₂ (λ (l : List ℕ) (k : ℕ). set (set l (1 + k * zoneWords) id) 0 (k + 1)) f en
       ∙ ap (λ (l : List ℕ). set l 0 (length m + 1)) (named a c id (1 + length m * zoneWords) (length-free mostZones noZone wordsOfZone zoneWords zone-wide [] [] 0 refl m))
       ∙ fill-free mostZones noZone wordsOfZone zoneWords zone-wide [] [] 0 refl m y h

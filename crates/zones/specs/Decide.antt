@@ -61,19 +61,19 @@ unfoldable pub sharedElsewhere : Configuration → ℕ → Region → List Zone 
 sharedElsewhere c k r t = not (regionEq r (gicOf c)) && any (holds r) (others k t)
 
 -- ---- the change made, and its number
-unfoldable pub applied : Change → List Zone → List Zone
-applied (Refuse n) t = t
-applied (Add id) t = added id t
-applied (Drop z) t = dropped z t
-applied (Push z s r) t = pushed z s r t
-applied (Cut z s i) t = cut z s i t
+unfoldable pub changed : Change → List Zone → List Zone
+changed (Refuse n) t = t
+changed (Add id) t = added id t
+changed (Drop z) t = dropped z t
+changed (Push z s r) t = pushed z s r t
+changed (Cut z s i) t = cut z s i t
 
-abbrev pub numberOf : Change → ℕ
-numberOf (Refuse n) = n
-numberOf (Add id) = 0
-numberOf (Drop z) = 0
-numberOf (Push z s r) = 0
-numberOf (Cut z s i) = 0
+abbrev pub changeNumber : Change → ℕ
+changeNumber (Refuse n) = n
+changeNumber (Add id) = 0
+changeNumber (Drop z) = 0
+changeNumber (Push z s r) = 0
+changeNumber (Cut z s i) = 0
 
 -- what a change asks of the table
 unfoldable pub Allowed : Change → List Zone → Type 0

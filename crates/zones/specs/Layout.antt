@@ -1,5 +1,7 @@
 -- Where things stand among words: the numbers of src/layout.rt.
 use Prim.Native.Nat.{ℕ, _+_, _*_}
+use mathlib.Core.Bool.{cond}
+use lib.Dec.{ltb}
 use Rattle.rules.specs.declared.Side.{Side}
 use Rattle.rules.specs.declared.Side.the-variants.{Cpu, Iommu}
 use Rattle.rules.specs.Limits.{mostRegions, mostZones, mostInSet}
@@ -34,6 +36,10 @@ tableWords = 1 + mostZones * zoneWords
 -- the first word of zone z, which is its id; that of a set, which is its count; that of record i of the set at b
 abbrev pub zoneBase : ℕ → ℕ
 zoneBase z = 1 + z * zoneWords
+
+-- the same for any number: past the last zone, the end of the words
+unfoldable pub zoneStart : ℕ → ℕ
+zoneStart z = cond (ltb z mostZones) (zoneBase z) tableWords
 
 abbrev pub sideWords : Side → ℕ
 sideWords Cpu = 1

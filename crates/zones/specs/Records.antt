@@ -1,7 +1,10 @@
 -- Records of a region each, end to end among words. A word is read by `getD w k 0`.
 use Prim.Native.Nat.{ℕ, _+_, _*_}
+use mathlib.Core.Bool.{cond}
 use mathlib.Core.List.{List, [], _∷_}
-use lib.ListN.{getD}
+use lib.Dec.{leb}
+use lib.ListN.{length, getD}
+use lib.Seq.{sets}
 use Rattle.lists.specs.Places.{tab}
 use Rattle.rules.specs.declared.Region.{Region}
 use Rattle.zones.specs.Layout.{regionWords}
@@ -20,3 +23,7 @@ recordAt w b i = regionAt w (b + i * regionWords)
 
 unfoldable pub recordsAt : List ℕ → ℕ → ℕ → List Region
 recordsAt w b n = tab n (recordAt w b)
+
+-- the record at word k is r's, where there is room for it
+unfoldable pub placed : List ℕ → ℕ → Region → List ℕ
+placed w k r = cond (leb (k + regionWords) (length w)) (sets w k (wordsOfRegion r)) w

@@ -6,13 +6,13 @@ use crate::table::cut_region;
 use crate::table::push_region;
 use crate::table::remove_zone;
 ghost use mathlib.Core.Path.{_≡_};
-ghost use Rattle.zones.specs.Decide.{applied, Allowed, numberOf};
+ghost use Rattle.zones.specs.Decide.{changed, Allowed, changeNumber};
 ghost use Rattle.zones.specs.View.{zonesIn};
 ghost use Rattle.zones.specs.Words.{wordsOf, Packed};
 
 pub fn commit(t: &mut [u64; TABLE_WORDS], change: Change)
     requires { ⌜ Packed (now t) × Allowed change (zonesIn (now t)) ⌝ }
-    ensures { λ r. ⌜ now (t .exit) ≡ wordsOf (applied change (zonesIn (now (t .entry)))) ⌝ }
+    ensures { λ r. ⌜ now (t .exit) ≡ wordsOf (changed change (zonesIn (now (t .entry)))) ⌝ }
 {
     match change {
         Change::Refuse(_) => {}
@@ -25,7 +25,7 @@ pub fn commit(t: &mut [u64; TABLE_WORDS], change: Change)
 
 // The number that goes with a change: 0 where one is made.
 pub fn number(change: Change) -> u32
-    ensures { λ n. ⌜ n ≡ numberOf change ⌝ }
+    ensures { λ n. ⌜ n ≡ changeNumber change ⌝ }
 {
     match change {
         Change::Refuse(n) => n,

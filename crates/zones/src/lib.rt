@@ -32,5 +32,8 @@ pub use steps::Answer;
 pub use steps::step;
 pub use steps::step_in;
 pub use table::Table;
+pub use table::zone_start;
 pub use translation::translate;
 pub use translation::translate_in;
+pub use words::put_region;
+pub use words::same_words;

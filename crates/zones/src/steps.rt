@@ -47,7 +47,8 @@ pub fn step_in(c: &[u64; CONFIG_WORDS], t: &mut [u64; TABLE_WORDS], q: Request) 
     step_ready(c, t, q)
 }
 
-// The number of lent words: an array that is lent as a slice tells its length.
+// The number of lent words. An array behind `&mut` does not tell the proof its length, and one that is lent as a slice does; so who goes
+// on to write asks once. The compiler knows the answer, so nothing is counted.
 pub fn count_words(s: &[u64]) -> usize
     ensures { λ n. ⌜ n ≡ length (now (s .entry)) ⌝ }
 {

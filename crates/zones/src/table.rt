@@ -21,7 +21,7 @@ ghost use Rattle.lists.specs.Places.{places};
 ghost use Rattle.rules.specs.Limits.{mostZones, mostInSet};
 ghost use Rattle.rules.specs.Tables.{hasId};
 ghost use Rattle.rules.specs.Changes.{pushed, cut, added, dropped};
-ghost use Rattle.zones.specs.Layout.{setWords, tableWords, setBase};
+ghost use Rattle.zones.specs.Layout.{setWords, tableWords, zoneBase, zoneStart, setBase};
 ghost use Rattle.zones.specs.Alike.{alikeBy};
 ghost use Rattle.zones.specs.Packing.{setPacked, zonePacked, packed};
 ghost use Rattle.zones.specs.View.{recordIn, setIn, zoneIn, zonesIn};
@@ -34,14 +34,32 @@ pub struct Table {
 
 // ---- where things stand
 
+// The word where zone z begins, which holds its id; for a number of zones, where the unused ones begin.
+fn zone_base(z: usize) -> usize
+    requires { ⌜ z ≤ mostZones ⌝ }
+    ensures { λ b. ⌜ b ≡ zoneBase z ⌝ }
+{
+    1 + z * ZONE_WORDS
+}
+
+// The same for any number; past the last zone, where the words end.
+pub fn zone_start(z: usize) -> usize
+    ensures { λ b. ⌜ b ≡ zoneStart z ⌝ }
+{
+    if z < MOST_ZONES {
+        return zone_base(z);
+    }
+    TABLE_WORDS
+}
+
 // The word that holds the count of a set.
 pub fn set_base(z: usize, side: Side) -> usize
     requires { ⌜ z < mostZones ⌝ }
     ensures { λ b. ⌜ (b ≡ setBase z side) × (b + setWords ≤ tableWords) ⌝ }
 {
     match side {
-        Side::Cpu => 1 + z * ZONE_WORDS + 1,
-        Side::Iommu => 1 + z * ZONE_WORDS + 1 + SET_WORDS,
+        Side::Cpu => zone_base(z) + 1,
+        Side::Iommu => zone_base(z) + 1 + SET_WORDS,
     }
 }
 
@@ -57,7 +75,7 @@ pub fn id_at(t: &[u64; TABLE_WORDS], z: usize) -> u64
     requires { ⌜ z < mostZones ⌝ }
     ensures { λ n. ⌜ n ≡ zoneIn (now (t .entry)) z .id ⌝ }
 {
-    t[1 + z * ZONE_WORDS]
+    t[zone_base(z)]
 }
 
 pub fn set_len(t: &[u64; TABLE_WORDS], z: usize, side: Side) -> usize
@@ -129,7 +147,7 @@ pub fn add_zone(t: &mut [u64; TABLE_WORDS], id: u64)
     ensures { λ r. ⌜ now (t .exit) ≡ wordsOf (added id (zonesIn (now (t .entry)))) ⌝ }
 {
     let n = zone_count(t);
-    t[1 + n * ZONE_WORDS] = id;
+    t[zone_base(n)] = id;
     t[0] = n as u64 + 1;
 }
 
@@ -138,7 +156,7 @@ pub fn remove_zone(t: &mut [u64; TABLE_WORDS], z: usize)
     ensures { λ r. ⌜ now (t .exit) ≡ wordsOf (dropped z (zonesIn (now (t .entry)))) ⌝ }
 {
     let n = zone_count(t);
-    close_gap(t, 1 + z * ZONE_WORDS, ZONE_WORDS, TABLE_WORDS);
+    close_gap(t, zone_base(z), ZONE_WORDS, TABLE_WORDS);
     t[0] = n as u64 - 1;
 }
 
@@ -191,5 +209,5 @@ pub fn is_packed(t: &[u64; TABLE_WORDS]) -> bool
     if !zones_packed(t, n) {
         return false;
     }
-    zeros_in(t, 1 + n * ZONE_WORDS, TABLE_WORDS)
+    zeros_in(t, zone_base(n), TABLE_WORDS)
 }

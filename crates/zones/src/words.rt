@@ -8,15 +8,17 @@ use rules::Phys;
 use rules::Region;
 ghost use Prim.Native.Nat.{_+_, _-_, _*_, _≤_};
 ghost use mathlib.Core.Path.{_≡_};
+ghost use lib.Dec.{eqb};
 ghost use lib.ListN.{length, drop};
 ghost use lib.Seq.{sets, paste};
 ghost use Rattle.lists.specs.First.{firstIndex};
 ghost use Rattle.lists.specs.Words.{closed, cleared};
+ghost use Rattle.rules.specs.Applying.{sameList};
 ghost use Rattle.rules.specs.Regions.{used};
 ghost use Rattle.zones.specs.Layout.{regionWords};
 ghost use Rattle.zones.specs.Packing.{zeros};
 ghost use Rattle.zones.specs.Alike.{alikeBy};
-ghost use Rattle.zones.specs.Records.{regionAt, recordsAt, wordsOfRegion};
+ghost use Rattle.zones.specs.Records.{regionAt, recordsAt, wordsOfRegion, placed};
 
 // How a region is looked for among records: by equality, or by overlap in physical or in guest addresses.
 pub enum By {
@@ -84,6 +86,19 @@ pub fn write_region(s: &mut [u64], k: usize, r: Region)
     s[k + 2] = r.size;
 }
 
+// The same at any word; where the record has no room, nothing is written.
+pub fn put_region(s: &mut [u64], k: usize, r: Region)
+    ensures { λ r0. ⌜ now (s .exit) ≡ placed (now (s .entry)) k r ⌝ }
+{
+    if s.len() < REGION_WORDS {
+        return;
+    }
+    if s.len() - REGION_WORDS < k {
+        return;
+    }
+    write_region(s, k, r);
+}
+
 // Whether the words from a up to e are zero.
 pub fn zeros_in(s: &[u64], a: usize, e: usize) -> bool
     requires { ⌜ (a ≤ e) × (e ≤ length (now s)) ⌝ }
@@ -92,6 +107,24 @@ pub fn zeros_in(s: &[u64], a: usize, e: usize) -> bool
     let mut k = a;
     while k < e {
         if s[k] != 0 {
+            return false;
+        }
+        k += 1;
+    }
+    true
+}
+
+// Whether two stretches of words are the same, word by word.
+pub fn same_words(a: &[u64], b: &[u64]) -> bool
+    ensures { λ t. ⌜ t ≡ sameList eqb (now (a .entry)) (now (b .entry)) ⌝ }
+{
+    if a.len() != b.len() {
+        return false;
+    }
+    let n = a.len();
+    let mut k = 0;
+    while k < n {
+        if a[k] != b[k] {
             return false;
         }
         k += 1;

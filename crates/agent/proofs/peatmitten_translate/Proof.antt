@@ -5,12 +5,12 @@ use Rattle.agent.proofs.peatmitten_translate.Tie as tie
 use Rattle.agent.proofs.peatmitten_translate.Reads as reads
 use Rattle.agent.proofs.peatmitten_translate.Lts as lts
 use Rattle.agent.proofs.put_one.Reads as put-one-reads
-use Rattle.agent.proofs.side_of.Reads as side-of-reads
+use Rattle.agent.proofs.side_asked.Reads as side-asked-reads
 use Rattle.zones.proofs.translate_in.Reads as translate-in-reads
 
 -- src/lib.rt:95:9
-side-of-requires : tie.Need-side-of-requires
-side-of-requires c κs = search needs
+side-asked-requires : tie.Need-side-asked-requires
+side-asked-requires c κs = search needs
 
 -- src/lib.rt:96:9
 translate-in-requires : tie.Need-translate-in-requires
@@ -26,4 +26,4 @@ returns c = (search (translation-number, needs), search (translation-address, ne
 
 pub peatmitten-translate-spec : {M : Type 1} → statement M
 peatmitten-translate-spec =
-    tie.close (tie.spec side-of-requires translate-in-requires put-one-requires returns)
+    tie.close (tie.spec side-asked-requires translate-in-requires put-one-requires returns)

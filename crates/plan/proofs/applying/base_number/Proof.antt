@@ -4,7 +4,6 @@ use Rattle.plan.proofs.applying.base_number.Statement.{statement}
 use Rattle.plan.proofs.applying.base_number.Tie as tie
 use Rattle.plan.proofs.applying.base_number.Reads as reads
 use Rattle.plan.proofs.applying.base_number.Lts as lts
-use Rattle.plan.proofs.applying.same_words.Reads as same-words-reads
 
 -- src/applying.rt:74:20
 slice-aggregate-same-words : tie.Need-slice-aggregate-same-words

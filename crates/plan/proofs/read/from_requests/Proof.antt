@@ -5,11 +5,11 @@ use Rattle.plan.proofs.read.from_requests.Tie as tie
 use Rattle.plan.proofs.read.from_requests.Reads as reads
 use Rattle.plan.proofs.read.from_requests.Lts as lts
 use Rattle.plan.proofs.read.refused.Reads as refused-reads
-use Rattle.plan.proofs.sections.find_requests.Reads as find-requests-reads
+use Rattle.plan.proofs.sections.read_requests.Reads as read-requests-reads
 
 -- src/read.rt:77:9
-find-requests-requires : tie.Need-find-requests-requires
-find-requests-requires c κs = search needs
+read-requests-requires : tie.Need-read-requests-requires
+read-requests-requires c κs = search needs
 
 -- src/read.rt:79:24
 enum-known-section : tie.Need-enum-known-section
@@ -55,7 +55,7 @@ pub from-requests-spec : {M : Type 1} → statement M
 from-requests-spec =
     tie.close
     (tie.spec
-    find-requests-requires
+    read-requests-requires
     enum-known-section
     add-refused
     refused-requires

@@ -1,4 +1,4 @@
-use Rattle.plan.proofs.Into.{kept-after, zones-stop, zones-out, zones-lead, zones-room}
+use Rattle.plan.proofs.Into.{kept-after, zones-stop, zones-out, zones-lead, zones-room, zones-few}
 use Rattle.plan.proofs.Answers.{first-there}
 use borrow.Author.Needs.{needs}
 use Rattle.plan.proofs.words.read_table.Statement.{statement}
@@ -51,7 +51,7 @@ cast-read-zone-list c = search needs
 
 -- src/words.rt:157:5
 read-zone-list-requires : tie.Need-read-zone-list-requires
-read-zone-list-requires c κs = (search (first-there, needs), search (zones-room, needs))
+read-zone-list-requires c κs = ((search (first-there, needs), search (zones-few, needs)), search (zones-room, needs))
 
 -- src/words.rt:140:1
 same-length : tie.Need-same-length

@@ -1,3 +1,4 @@
+-- The id goes to the first unused zone, whose words are zero.
 use borrow.Author.Needs.{needs}
 use Rattle.zones.proofs.Writers.{add-words}
 use Rattle.zones.proofs.table.add_zone.Statement.{statement}
@@ -6,20 +7,17 @@ use Rattle.zones.proofs.table.add_zone.Tie as tie
 zone-count-requires : tie.Need-zone-count-requires
 zone-count-requires c κs = search needs
 
+zone-base-requires : tie.Need-zone-base-requires
+zone-base-requires c κs = search needs
+
 mul-t : tie.Need-mul-t
 mul-t c = search needs
-
-add-t : tie.Need-add-t
-add-t c = search needs
-
-mul-t-2 : tie.Need-mul-t-2
-mul-t-2 c = search needs
 
 element-write-t : tie.Need-element-write-t
 element-write-t c = search needs
 
-add-t-2 : tie.Need-add-t-2
-add-t-2 c = search needs
+add-t : tie.Need-add-t
+add-t c = search needs
 
 element-write-t-2 : tie.Need-element-write-t-2
 element-write-t-2 c = search needs
@@ -32,10 +30,9 @@ add-zone-spec =
     tie.close
     (tie.spec
     zone-count-requires
+    zone-base-requires
     mul-t
-    add-t
-    mul-t-2
     element-write-t
-    add-t-2
+    add-t
     element-write-t-2
     returns)

@@ -1,16 +1,14 @@
+-- A zone's id is its first word.
 use borrow.Author.Needs.{needs}
 use Rattle.zones.proofs.Readers.{id-word}
 use Rattle.zones.proofs.table.id_at.Statement.{statement}
 use Rattle.zones.proofs.table.id_at.Tie as tie
 
+zone-base-requires : tie.Need-zone-base-requires
+zone-base-requires c κs = search needs
+
 mul-result : tie.Need-mul-result
 mul-result c = search needs
-
-add-result : tie.Need-add-result
-add-result c = search needs
-
-mul-result-2 : tie.Need-mul-result-2
-mul-result-2 c = search needs
 
 element-copy-out-result : tie.Need-element-copy-out-result
 element-copy-out-result c = search needs
@@ -19,5 +17,4 @@ returns : tie.Need-returns
 returns c = search (id-word, needs)
 
 pub id-at-spec : {M : Type 1} → statement M
-id-at-spec =
-    tie.close (tie.spec mul-result add-result mul-result-2 element-copy-out-result returns)
+id-at-spec = tie.close (tie.spec zone-base-requires mul-result element-copy-out-result returns)

@@ -1,3 +1,4 @@
+-- The tests stand in the order of the definition.
 use borrow.Author.Needs.{needs}
 use Rattle.lists.proofs.Tests.{conjunction}
 use Rattle.zones.specs.Packing.{packed}
@@ -19,11 +20,8 @@ returns-2 : tie.Need-returns-2
 unfolding packed
 returns-2 c = search conjunction depth 12
 
-mul-zeros-in : tie.Need-mul-zeros-in
-mul-zeros-in c = search needs
-
-add-zeros-in : tie.Need-add-zeros-in
-add-zeros-in c = search needs
+zone-base-requires : tie.Need-zone-base-requires
+zone-base-requires c κs = search needs
 
 zeros-in-requires : tie.Need-zeros-in-requires
 zeros-in-requires c κs = search needs
@@ -40,7 +38,6 @@ is-packed-spec =
     returns
     zones-packed-requires
     returns-2
-    mul-zeros-in
-    add-zeros-in
+    zone-base-requires
     zeros-in-requires
     returns-3)

@@ -1,3 +1,4 @@
+-- The gap is closed over whole zones, and zeros come in at the end.
 use borrow.Author.Needs.{needs}
 use Rattle.zones.proofs.Writers.{packed-long, remove-words}
 use Rattle.zones.proofs.table.remove_zone.Statement.{statement}
@@ -6,11 +7,8 @@ use Rattle.zones.proofs.table.remove_zone.Tie as tie
 zone-count-requires : tie.Need-zone-count-requires
 zone-count-requires c κs = search needs
 
-mul-close-gap : tie.Need-mul-close-gap
-mul-close-gap c = search needs
-
-add-close-gap : tie.Need-add-close-gap
-add-close-gap c = search needs
+zone-base-requires : tie.Need-zone-base-requires
+zone-base-requires c κs = search needs
 
 close-gap-requires : tie.Need-close-gap-requires
 close-gap-requires c κs = (search needs, search (packed-long, needs))
@@ -29,8 +27,7 @@ remove-zone-spec =
     tie.close
     (tie.spec
     zone-count-requires
-    mul-close-gap
-    add-close-gap
+    zone-base-requires
     close-gap-requires
     sub-t
     element-write-t

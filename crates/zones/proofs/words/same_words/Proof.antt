@@ -4,11 +4,9 @@ use mathlib.Core.Path.{_≡_}
 use lib.Dec.{eqb}
 use lib.ListN.{length, drop}
 use Rattle.rules.specs.Applying.{sameList}
-use Rattle.plan.proofs.Comparing.{not-as-many, words-differ, words-agree, words-end}
-use Rattle.plan.proofs.applying.same_words.Statement.{statement}
-use Rattle.plan.proofs.applying.same_words.Tie as tie
-use Rattle.plan.proofs.applying.same_words.Reads as reads
-use Rattle.plan.proofs.applying.same_words.Lts as lts
+use Rattle.zones.proofs.Comparing.{not-as-many, words-differ, words-agree, words-end}
+use Rattle.zones.proofs.words.same_words.Statement.{statement}
+use Rattle.zones.proofs.words.same_words.Tie as tie
 
 abbrev Inv-loop : tie.InvT-loop
 Inv-loop a b n k₀ k = ((k ≤ length a) × (length a ≡ length b)) × (sameList eqb (drop k a) (drop k b) ≡ sameList eqb a b)
@@ -16,47 +14,36 @@ Inv-loop a b n k₀ k = ((k ≤ length a) × (length a ≡ length b)) × (sameLi
 abbrev μ-loop : tie.MeasureT-loop
 μ-loop a b n k₀ k = length a - k
 
--- src/applying.rt:93:9
 returns : tie.Need-returns Inv-loop μ-loop
 returns c = search (not-as-many, needs)
 
--- src/applying.rt:97:5
 loop-holds : tie.Need-loop-holds Inv-loop μ-loop
 loop-holds c = search needs
 
--- src/applying.rt:98:12
 mul-if2 : tie.Need-mul-if2 Inv-loop μ-loop
 mul-if2 c = search needs
 
--- src/applying.rt:98:12
 shared-slice-read-if2 : tie.Need-shared-slice-read-if2 Inv-loop μ-loop
 shared-slice-read-if2 c = search needs
 
--- src/applying.rt:98:20
 mul-if2-2 : tie.Need-mul-if2-2 Inv-loop μ-loop
 mul-if2-2 c = search needs
 
--- src/applying.rt:98:20
 shared-slice-read-if2-2 : tie.Need-shared-slice-read-if2-2 Inv-loop μ-loop
 shared-slice-read-if2-2 c = search needs
 
--- src/applying.rt:99:13
 returns-2 : tie.Need-returns-2 Inv-loop μ-loop
 returns-2 c = search (words-differ, needs)
 
--- src/applying.rt:101:9
 add-k : tie.Need-add-k Inv-loop μ-loop
 add-k c = search needs
 
--- src/applying.rt:97:5
 loop-less : tie.Need-loop-less Inv-loop μ-loop
 loop-less c = search needs
 
--- src/applying.rt:97:5
 loop-again : tie.Need-loop-again Inv-loop μ-loop
 loop-again c = ((search needs, search needs), search (words-agree, needs))
 
--- src/applying.rt:89:1
 returns-3 : tie.Need-returns-3 Inv-loop μ-loop
 returns-3 c = search (words-end, needs)
 

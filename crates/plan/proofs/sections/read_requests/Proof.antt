@@ -1,9 +1,9 @@
 use Rattle.plan.proofs.Answers.{first-there, requests-none, requests-out, requests-cut, requests-end}
 use borrow.Author.Needs.{needs}
-use Rattle.plan.proofs.sections.find_requests.Statement.{statement}
-use Rattle.plan.proofs.sections.find_requests.Tie as tie
-use Rattle.plan.proofs.sections.find_requests.Reads as reads
-use Rattle.plan.proofs.sections.find_requests.Lts as lts
+use Rattle.plan.proofs.sections.read_requests.Statement.{statement}
+use Rattle.plan.proofs.sections.read_requests.Tie as tie
+use Rattle.plan.proofs.sections.read_requests.Reads as reads
+use Rattle.plan.proofs.sections.read_requests.Lts as lts
 use Rattle.plan.proofs.field.is_within.Reads as is-within-reads
 use Rattle.plan.proofs.field.number_at.Reads as number-at-reads
 
@@ -63,8 +63,8 @@ add-t8 c = search needs
 returns-4 : tie.Need-returns-4
 returns-4 c = search (requests-end, needs)
 
-pub find-requests-spec : {M : Type 1} → statement M
-find-requests-spec =
+pub read-requests-spec : {M : Type 1} → statement M
+read-requests-spec =
     tie.close
     (tie.spec
     number-at-requires

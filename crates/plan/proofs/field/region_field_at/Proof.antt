@@ -1,9 +1,9 @@
 use Rattle.plan.proofs.Fields.{region-missing, region-is}
 use borrow.Author.Needs.{needs}
-use Rattle.plan.proofs.field.region_at.Statement.{statement}
-use Rattle.plan.proofs.field.region_at.Tie as tie
-use Rattle.plan.proofs.field.region_at.Reads as reads
-use Rattle.plan.proofs.field.region_at.Lts as lts
+use Rattle.plan.proofs.field.region_field_at.Statement.{statement}
+use Rattle.plan.proofs.field.region_field_at.Tie as tie
+use Rattle.plan.proofs.field.region_field_at.Reads as reads
+use Rattle.plan.proofs.field.region_field_at.Lts as lts
 use Rattle.fields.proofs.u64_at.Reads as u64-at-reads
 
 -- src/field.rt:70:8
@@ -38,8 +38,8 @@ u64-at-requires-3 c κs = search needs
 returns-2 : tie.Need-returns-2
 returns-2 c = search (region-is, needs)
 
-pub region-at-spec : {M : Type 1} → statement M
-region-at-spec =
+pub region-field-at-spec : {M : Type 1} → statement M
+region-field-at-spec =
     tie.close
     (tie.spec
     sub-if1

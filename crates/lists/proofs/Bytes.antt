@@ -1,11 +1,10 @@
--- Numbers as bytes: both round trips, stated over the width.
+-- Numbers as bytes: both round trips, by induction on the width, one byte taken off at a time.
 use Prim.Native.Nat.{ℕ, zero, suc, _+_, _*_, _/_, _%_, _^_, _<_}
 use native.Mathlib.Decide.{decLt}
 use native.Mathlib.Omega.{arith}
 use mathlib.Core.List.{List, [], _∷_, _++_}
 use mathlib.Core.Path.{_≡_, refl, sym, ap, ap₂, _∙_}
-use lib.ListN.{length, getD, take, drop, List·getD-eq-default}
-use lib.Seq.{getD-drop}
+use lib.ListN.{length, getD, take, List·getD-eq-default}
 use Rattle.lists.specs.Bytes.{little, bytesOf, Bytes}
 use Rattle.lists.specs.Words.{part}
 use Rattle.lists.proofs.Words.{part-cons, part-none, part-past}
@@ -13,9 +12,6 @@ use Rattle.lists.proofs.Words.{part-cons, part-none, part-past}
 -- (omega reads `256 ^ suc k`, and not `256 ^ length (x ∷ xs)`)
 one-more : (k : ℕ) → 256 ^ suc k ≡ 256 * 256 ^ k
 one-more k = omega arith
-
-pub bytes-drop : (k : ℕ) (b : List ℕ) → Bytes b → Bytes (drop k b)
-bytes-drop k b h i = rw (getD-drop k b i 0) (h (k + i))
 
 pub bytes-take : (k : ℕ) (b : List ℕ) → Bytes b → Bytes (take k b)
 bytes-take zero b h i = omega arith
@@ -66,7 +62,9 @@ little-part k n b =
     elim (decLt k (length b)) [
       | yes h ↦ ap little (part-cons k n b 0 h)
       | no h ↦
-          ap little (part-past k (suc n) b (omega arith)) ∙ sym (ap₂ (λ (x y : ℕ). x + 256 * y) (List·getD-eq-default b 0 (omega arith)) (ap little (part-past (k + 1) n b (omega arith))))
+          ap little (part-past k (suc n) b (omega arith))
+          ∙ sym (ap₂ (λ (x y : ℕ). x + 256 * y) (List·getD-eq-default b 0 (omega arith))
+          (ap little (part-past (k + 1) n b (omega arith))))
     ]
 
 pub little-none : (k : ℕ) (b : List ℕ) → little (part k 0 b) ≡ 0

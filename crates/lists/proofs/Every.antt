@@ -1,4 +1,5 @@
--- Every element passes, or some one does; also after an element is appended, put in another's place, or taken out.
+-- Every element passes, or some one does: said of each index, so that after an element is appended, put in another's
+-- place or taken out only that one is asked about.
 use Prim.Native.Nat.{ℕ, zero, suc, _+_, _-_, _≤_, _<_, suc-le-suc}
 use native.Mathlib.Decide.{decLt}
 use native.Mathlib.Omega.{arith}
@@ -23,28 +24,36 @@ module _ {A : Type 0} (p : A → Bool) where
   pub all-make : (xs : List A) (d : A) → ((i : ℕ) → i < length xs → p (getD xs i d) ≡ true) → all p xs ≡ true
   unfolding all
   all-make [] d f = refl
-  all-make (x ∷ xs) d f = true-both (p x) (all p xs) (f 0 (omega arith)) (all-make xs d (λ i h. f (suc i) (suc-le-suc h)))
+  all-make (x ∷ xs) d f =
+      true-both (p x) (all p xs) (f 0 (omega arith)) (all-make xs d (λ i h. f (suc i) (suc-le-suc h)))
 
   -- the elements below n, and those from n on, where what stands past the end passes too
-  pub all-below : (xs : List A) (d : A) (n : ℕ) → p d ≡ true → all p (take n xs) ≡ true → (i : ℕ) → i < n → p (getD xs i d) ≡ true
+  pub all-below : (xs : List A) (d : A) (n : ℕ) → p d ≡ true → all p (take n xs) ≡ true → (i : ℕ) → i < n
+      → p (getD xs i d) ≡ true
   all-below xs d n past e i h =
       elim (decLt i (length xs)) [
         | yes l ↦ ap p (sym (getD-take n xs i d h)) ∙ all-at (take n xs) d e i (omega (arith, length-take n xs))
         | no l ↦ ap p (List·getD-eq-default xs d (omega arith)) ∙ past
       ]
 
-  pub all-below-make : (xs : List A) (d : A) (n : ℕ) → ((i : ℕ) → i < n → p (getD xs i d) ≡ true) → all p (take n xs) ≡ true
-  all-below-make xs d n f = all-make (take n xs) d (λ i h. let l : i < n = omega (arith, length-take n xs) in ap p (getD-take n xs i d l) ∙ f i l)
+  pub all-below-make : (xs : List A) (d : A) (n : ℕ) → ((i : ℕ) → i < n → p (getD xs i d) ≡ true)
+      → all p (take n xs) ≡ true
+  all-below-make xs d n f =
+      all-make (take n xs) d
+      (λ i h. let l : i < n = omega (arith, length-take n xs) in ap p (getD-take n xs i d l) ∙ f i l)
 
-  pub all-beyond : (xs : List A) (d : A) (n : ℕ) → p d ≡ true → all p (drop n xs) ≡ true → (i : ℕ) → n ≤ i → p (getD xs i d) ≡ true
+  pub all-beyond : (xs : List A) (d : A) (n : ℕ) → p d ≡ true → all p (drop n xs) ≡ true → (i : ℕ) → n ≤ i
+      → p (getD xs i d) ≡ true
   all-beyond xs d n past e i h =
       let k : n + (i - n) ≡ i = omega arith in
       elim (decLt i (length xs)) [
-        | yes l ↦ ap (λ (j : ℕ). p (getD xs j d)) (sym k) ∙ ap p (sym (getD-drop n xs (i - n) d)) ∙ all-at (drop n xs) d e (i - n) (omega (arith, length-drop n xs))
+        | yes l ↦ ap (λ (j : ℕ). p (getD xs j d)) (sym k) ∙ ap p (sym (getD-drop n xs (i - n) d))
+            ∙ all-at (drop n xs) d e (i - n) (omega (arith, length-drop n xs))
         | no l ↦ ap p (List·getD-eq-default xs d (omega arith)) ∙ past
       ]
 
-  pub all-beyond-make : (xs : List A) (d : A) (n : ℕ) → ((i : ℕ) → n ≤ i → p (getD xs i d) ≡ true) → all p (drop n xs) ≡ true
+  pub all-beyond-make : (xs : List A) (d : A) (n : ℕ) → ((i : ℕ) → n ≤ i → p (getD xs i d) ≡ true)
+      → all p (drop n xs) ≡ true
   all-beyond-make xs d n f = all-make (drop n xs) d (λ i h. ap p (getD-drop n xs i d) ∙ f (n + i) (omega arith))
 
   pub all-one : (x : A) → p x ≡ true → all p (x ∷ []) ≡ true
@@ -62,7 +71,8 @@ module _ {A : Type 0} (p : A → Bool) where
   all-both [] ys = refl
   all-both (x ∷ xs) ys = by (p x) (all-both xs ys)
     where
-      by : (t : Bool) → all p (xs ++ ys) ≡ (all p xs && all p ys) → (t && all p (xs ++ ys)) ≡ ((t && all p xs) && all p ys)
+      by : (t : Bool) → all p (xs ++ ys) ≡ (all p xs && all p ys)
+          → (t && all p (xs ++ ys)) ≡ ((t && all p xs) && all p ys)
       by true e = e
       by false e = refl
 
@@ -101,7 +111,8 @@ module _ {A : Type 0} (p : A → Bool) where
   any-at [] d e = absurd (true≢false (sym e))
   any-at (x ∷ xs) d e = ⊎-elim (λ a. (0, omega arith, a)) (λ b. later (any-at xs d b)) (one-true (p x) (any p xs) e)
     where
-      later : ((i : ℕ) × (i < length xs) × (p (getD xs i d) ≡ true)) → (i : ℕ) × (i < length (x ∷ xs)) × (p (getD (x ∷ xs) i d) ≡ true)
+      later : ((i : ℕ) × (i < length xs) × (p (getD xs i d) ≡ true))
+          → (i : ℕ) × (i < length (x ∷ xs)) × (p (getD (x ∷ xs) i d) ≡ true)
       later (i, h, q) = (suc i, suc-le-suc h, q)
 
   pub none-at : (xs : List A) (d : A) → any p xs ≡ false → (i : ℕ) → i < length xs → p (getD xs i d) ≡ false
@@ -113,30 +124,37 @@ module _ {A : Type 0} (p : A → Bool) where
   pub none-make : (xs : List A) (d : A) → ((i : ℕ) → i < length xs → p (getD xs i d) ≡ false) → any p xs ≡ false
   unfolding any
   none-make [] d f = refl
-  none-make (x ∷ xs) d f = false-both (p x) (any p xs) (f 0 (omega arith)) (none-make xs d (λ i h. f (suc i) (suc-le-suc h)))
+  none-make (x ∷ xs) d f =
+      false-both (p x) (any p xs) (f 0 (omega arith)) (none-make xs d (λ i h. f (suc i) (suc-le-suc h)))
 
   -- none but element k passes: each other one fails
-  pub none-others : (xs : List A) (k : ℕ) (d : A) → any p (removeAt k xs) ≡ false → (j : ℕ) → j < length xs → (j ≡ k → ⊥) → p (getD xs j d) ≡ false
+  pub none-others : (xs : List A) (k : ℕ) (d : A) → any p (removeAt k xs) ≡ false → (j : ℕ) → j < length xs
+      → (j ≡ k → ⊥) → p (getD xs j d) ≡ false
   unfolding any removeAt
   none-others [] k d e j h ne = absurd (omega arith)
   none-others (x ∷ xs) zero d e zero h ne = absurd (ne refl)
   none-others (x ∷ xs) zero d e (suc j) h ne = none-at xs d e j (omega arith)
   none-others (x ∷ xs) (suc k) d e zero h ne = both-false (p x) (any p (removeAt k xs)) e .0
-  none-others (x ∷ xs) (suc k) d e (suc j) h ne = none-others xs k d (both-false (p x) (any p (removeAt k xs)) e .1) j (omega arith) (λ q. ne (ap suc q))
+  none-others (x ∷ xs) (suc k) d e (suc j) h ne =
+      none-others xs k d (both-false (p x) (any p (removeAt k xs)) e .1) j (omega arith) (λ q. ne (ap suc q))
 
-  pub none-others-make : (xs : List A) (k : ℕ) (d : A) → ((j : ℕ) → j < length xs → (j ≡ k → ⊥) → p (getD xs j d) ≡ false) → any p (removeAt k xs) ≡ false
+  pub none-others-make : (xs : List A) (k : ℕ) (d : A)
+      → ((j : ℕ) → j < length xs → (j ≡ k → ⊥) → p (getD xs j d) ≡ false) → any p (removeAt k xs) ≡ false
   unfolding any removeAt
   none-others-make [] zero d f = refl
   none-others-make [] (suc k) d f = refl
   none-others-make (x ∷ xs) zero d f = none-make xs d (λ i h. f (suc i) (suc-le-suc h) (λ e. omega arith))
-  none-others-make (x ∷ xs) (suc k) d f = false-both (p x) (any p (removeAt k xs)) (f 0 (omega arith) (λ e. omega arith)) (none-others-make xs k d (λ j h ne. f (suc j) (suc-le-suc h) (λ e. ne (omega arith))))
+  none-others-make (x ∷ xs) (suc k) d f =
+      false-both (p x) (any p (removeAt k xs)) (f 0 (omega arith) (λ e. omega arith))
+      (none-others-make xs k d (λ j h ne. f (suc j) (suc-le-suc h) (λ e. ne (omega arith))))
 
   pub any-append : (xs ys : List A) → any p (xs ++ ys) ≡ (any p xs || any p ys)
   unfolding any
   any-append [] ys = refl
   any-append (x ∷ xs) ys = by (p x) (any-append xs ys)
     where
-      by : (t : Bool) → any p (xs ++ ys) ≡ (any p xs || any p ys) → (t || any p (xs ++ ys)) ≡ ((t || any p xs) || any p ys)
+      by : (t : Bool) → any p (xs ++ ys) ≡ (any p xs || any p ys)
+          → (t || any p (xs ++ ys)) ≡ ((t || any p xs) || any p ys)
       by true e = refl
       by false e = e
 
@@ -146,7 +164,8 @@ module _ {A : Type 0} (p : A → Bool) where
   none-all [] = refl
   none-all (x ∷ xs) = by (p x) (none-all xs)
     where
-      by : (t : Bool) → not (any p xs) ≡ all (λ (y : A). not (p y)) xs → not (t || any p xs) ≡ (not t && all (λ (y : A). not (p y)) xs)
+      by : (t : Bool) → not (any p xs) ≡ all (λ (y : A). not (p y)) xs
+          → not (t || any p xs) ≡ (not t && all (λ (y : A). not (p y)) xs)
       by true e = refl
       by false e = e
 
@@ -169,7 +188,8 @@ any-and false p [] = refl
 any-and false p (x ∷ xs) = any-and false p xs
 
 -- two tests that agree at every element that passes a third
-pub any-under : {A : Type 0} (c p q : A → Bool) → ((x : A) → c x ≡ true → p x ≡ q x) → (xs : List A) → all c xs ≡ true → any p xs ≡ any q xs
+pub any-under : {A : Type 0} (c p q : A → Bool) → ((x : A) → c x ≡ true → p x ≡ q x) → (xs : List A) → all c xs ≡ true
+    → any p xs ≡ any q xs
 unfolding any all
 any-under c p q f [] e = refl
 any-under c p q f (x ∷ xs) e =
@@ -177,11 +197,14 @@ any-under c p q f (x ∷ xs) e =
     ap (λ (t : Bool). t || any p xs) (f x (b .0)) ∙ ap (λ (t : Bool). q x || t) (any-under c p q f xs (b .1))
 
 -- element k, or one of the others
-pub any-split : {A : Type 0} (p : A → Bool) (xs : List A) (k : ℕ) (d : A) → k < length xs → any p xs ≡ (p (getD xs k d) || any p (removeAt k xs))
+pub any-split : {A : Type 0} (p : A → Bool) (xs : List A) (k : ℕ) (d : A) → k < length xs
+    → any p xs ≡ (p (getD xs k d) || any p (removeAt k xs))
 unfolding any removeAt
 any-split p [] k d h = absurd (omega arith)
 any-split p (x ∷ xs) zero d h = refl
-any-split p (x ∷ xs) (suc k) d h = ap (λ (t : Bool). p x || t) (any-split p xs k d (omega arith)) ∙ swap (p x) (p (getD xs k d)) (any p (removeAt k xs))
+any-split p (x ∷ xs) (suc k) d h =
+    ap (λ (t : Bool). p x || t) (any-split p xs k d (omega arith))
+    ∙ swap (p x) (p (getD xs k d)) (any p (removeAt k xs))
   where
     swap : (a b c : Bool) → (a || (b || c)) ≡ (b || (a || c))
     swap true true c = refl
@@ -190,7 +213,8 @@ any-split p (x ∷ xs) (suc k) d h = ap (λ (t : Bool). p x || t) (any-split p x
     swap false false c = refl
 
 -- what follows at each element from two tests that every element passes
-pub all-from : {A : Type 0} (p q w : A → Bool) → ((x : A) → p x ≡ true → q x ≡ true → w x ≡ true) → (xs : List A) → all p xs ≡ true → all q xs ≡ true → all w xs ≡ true
+pub all-from : {A : Type 0} (p q w : A → Bool) → ((x : A) → p x ≡ true → q x ≡ true → w x ≡ true) → (xs : List A)
+    → all p xs ≡ true → all q xs ≡ true → all w xs ≡ true
 unfolding all
 all-from p q w f [] d e = refl
 all-from p q w f (x ∷ xs) d e =
@@ -212,10 +236,12 @@ all-map f p (x ∷ xs) = ap (λ (t : Bool). p (f x) && t) (all-map f p xs)
 
 -- as many of one
 pub all-replicate : {A : Type 0} (p : A → Bool) (n : ℕ) (x : A) → p x ≡ true → all p (replicate n x) ≡ true
-all-replicate p n x e = all-make p (replicate n x) x (λ i h. ap p (getD-replicate n i x x (omega (arith, length-replicate n x))) ∙ e)
+all-replicate p n x e =
+    all-make p (replicate n x) x (λ i h. ap p (getD-replicate n i x x (omega (arith, length-replicate n x))) ∙ e)
 
 -- an image that is read back
-pub map-back : {A B : Type 0} (p : A → Bool) (f : A → B) (g : B → A) → ((x : A) → p x ≡ true → g (f x) ≡ x) → (xs : List A) → all p xs ≡ true → map g (map f xs) ≡ xs
+pub map-back : {A B : Type 0} (p : A → Bool) (f : A → B) (g : B → A) → ((x : A) → p x ≡ true → g (f x) ≡ x)
+    → (xs : List A) → all p xs ≡ true → map g (map f xs) ≡ xs
 unfolding all
 map-back p f g back [] e = refl
 map-back {A = A} p f g back (x ∷ xs) e = let h = both-true (p x) (all p xs) e in ap₂ (λ (y : A) (ys : List A). y ∷ ys) (back x (h .0)) (map-back p f g back xs (h .1))

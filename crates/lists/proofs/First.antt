@@ -1,4 +1,5 @@
--- The first element that passes a test.
+-- The first element that passes a test: it passes and none before it does. Where a search stands, the answer from there
+-- on is the whole answer, as none before has passed.
 use Prim.Native.Nat.{ℕ, zero, suc, _+_, _-_, _≤_, _<_}
 use native.Mathlib.Decide.{decLt}
 use native.Mathlib.Nat.{add-zero}
@@ -40,7 +41,9 @@ module _ {A : Type 0} (p : A → Bool) where
   first-passes [] d h = absurd (omega arith)
   first-passes (x ∷ xs) d h = by (p x) refl h (first-passes xs d)
     where
-      by : (t : Bool) → p x ≡ t → cond t 0 (suc (firstIndex p xs)) < suc (length xs) → (firstIndex p xs < length xs → p (getD xs (firstIndex p xs) d) ≡ true) → p (getD (x ∷ xs) (cond t 0 (suc (firstIndex p xs))) d) ≡ true
+      by : (t : Bool) → p x ≡ t → cond t 0 (suc (firstIndex p xs)) < suc (length xs)
+          → (firstIndex p xs < length xs → p (getD xs (firstIndex p xs) d) ≡ true)
+          → p (getD (x ∷ xs) (cond t 0 (suc (firstIndex p xs))) d) ≡ true
       by true e h later = e
       by false e h later = later (omega arith)
 
@@ -49,23 +52,30 @@ module _ {A : Type 0} (p : A → Bool) where
   before-fails [] d i h = absurd (omega arith)
   before-fails (x ∷ xs) d i h = by (p x) refl i h (before-fails xs d)
     where
-      by : (t : Bool) → p x ≡ t → (i : ℕ) → i < cond t 0 (suc (firstIndex p xs)) → ((j : ℕ) → j < firstIndex p xs → p (getD xs j d) ≡ false) → p (getD (x ∷ xs) i d) ≡ false
+      by : (t : Bool) → p x ≡ t → (i : ℕ) → i < cond t 0 (suc (firstIndex p xs))
+          → ((j : ℕ) → j < firstIndex p xs → p (getD xs j d) ≡ false) → p (getD (x ∷ xs) i d) ≡ false
       by true e i h later = absurd (omega arith)
       by false e zero h later = e
       by false e (suc i) h later = later i (omega arith)
 
   -- an element that passes while none before it does is the first
-  pub first-is : (xs : List A) (d : A) (k : ℕ) → k < length xs → p (getD xs k d) ≡ true → ((j : ℕ) → j < k → p (getD xs j d) ≡ false) → firstIndex p xs ≡ k
+  pub first-is : (xs : List A) (d : A) (k : ℕ) → k < length xs → p (getD xs k d) ≡ true
+      → ((j : ℕ) → j < k → p (getD xs j d) ≡ false) → firstIndex p xs ≡ k
   first-is xs d k h e f =
       let q : firstIndex p xs ≤ k = elim (decLt k (firstIndex p xs)) [ yes a ↦ absurd (true≢false (sym e ∙ before-fails xs d k a)) | no a ↦ omega arith ] in
-      elim (decLt (firstIndex p xs) k) [ yes a ↦ absurd (true≢false (sym (first-passes xs d (omega arith)) ∙ f (firstIndex p xs) a)) | no a ↦ omega arith ]
+      elim (decLt (firstIndex p xs) k) [
+        | yes a ↦ absurd
+            (true≢false (sym (first-passes xs d (omega arith)) ∙ f (firstIndex p xs) a))
+        | no a ↦ omega arith
+      ]
 
   -- ---- from an index on: what is left gives the whole answer
   pub from-zero : (xs : List A) → firstFrom p xs 0 ≡ firstIndex p xs
   unfolding firstFrom
   from-zero xs = omega arith
 
-  pub from-pass : (xs : List A) (i : ℕ) (d : A) → i < length xs → p (getD xs i d) ≡ false → firstFrom p xs i ≡ firstFrom p xs (i + 1)
+  pub from-pass : (xs : List A) (i : ℕ) (d : A) → i < length xs → p (getD xs i d) ≡ false
+      → firstFrom p xs i ≡ firstFrom p xs (i + 1)
   unfolding firstFrom firstIndex
   from-pass xs i d h e = rw (add-one i, drop-cons xs i d h, e) (omega arith)
 
@@ -81,7 +91,8 @@ module _ {A : Type 0} (p : A → Bool) where
   unfolding firstFrom
   any-from xs i h =
       any-first (drop i xs)
-      ∙ same-ltb (firstIndex p (drop i xs)) (length (drop i xs)) (i + firstIndex p (drop i xs)) (length xs) (λ a. omega (arith, length-drop i xs)) (λ a. omega (arith, length-drop i xs))
+      ∙ same-ltb (firstIndex p (drop i xs)) (length (drop i xs)) (i + firstIndex p (drop i xs)) (length xs)
+      (λ a. omega (arith, length-drop i xs)) (λ a. omega (arith, length-drop i xs))
 
   -- the first from index i on passes, none between does, and an element of which that is so is the first
   module _ (xs : List A) (d : A) (i : ℕ) where
@@ -92,7 +103,8 @@ module _ {A : Type 0} (p : A → Bool) where
     unfolding firstFrom
     from-passes h =
         let e : i + firstIndex p (drop i xs) - i ≡ firstIndex p (drop i xs) = omega arith in
-        ap p (sym (shifted (i + firstIndex p (drop i xs)) (omega arith)) ∙ ap (λ (k : ℕ). getD (drop i xs) k d) e) ∙ first-passes (drop i xs) d (omega (arith, length-drop i xs))
+        ap p (sym (shifted (i + firstIndex p (drop i xs)) (omega arith)) ∙ ap (λ (k : ℕ). getD (drop i xs) k d) e)
+        ∙ first-passes (drop i xs) d (omega (arith, length-drop i xs))
 
     pub between-fails : (j : ℕ) → i ≤ j → j < firstFrom p xs i → p (getD xs j d) ≡ false
     unfolding firstFrom
@@ -102,7 +114,8 @@ module _ {A : Type 0} (p : A → Bool) where
     unfolding firstFrom
     from-least = omega arith
 
-    pub from-is : (k : ℕ) → i ≤ k → k < length xs → p (getD xs k d) ≡ true → ((j : ℕ) → i ≤ j → j < k → p (getD xs j d) ≡ false) → firstFrom p xs i ≡ k
+    pub from-is : (k : ℕ) → i ≤ k → k < length xs → p (getD xs k d) ≡ true
+        → ((j : ℕ) → i ≤ j → j < k → p (getD xs j d) ≡ false) → firstFrom p xs i ≡ k
     unfolding firstFrom
     from-is k h l e f =
         let q : firstIndex p (drop i xs) ≡ k - i =

@@ -1,4 +1,4 @@
--- Rules that compute, and lines that say the same in plain words.
+-- Where each rule's test means its line's condition, the first rule that applies is the first line whose condition holds.
 use mathlib.Core.Bool.{Bool, true, false, cond, not, true≢false}
 use mathlib.Core.List.{List, [], _∷_, map}
 use mathlib.Core.Logic.{inl, inr, _↔_}
@@ -27,7 +27,8 @@ module _ {R : Type 0} where
   infixr 40 _and_
   pub data Matches : List (Rule R) → List (Line R) → Type 1 where
     all : Matches [] []
-    _and_ : {a : R} {t : Bool} {P : Type 0} {rs : List (Rule R)} {ks : List (Line R)} → Tells t P → Matches rs ks → Matches (a when t ∷ rs) (a given P ∷ ks)
+    _and_ : {a : R} {t : Bool} {P : Type 0} {rs : List (Rule R)} {ks : List (Line R)} → Tells t P → Matches rs ks
+        → Matches (a when t ∷ rs) (a given P ∷ ks)
 
   -- no condition holds
   abbrev pub NoneOf : List (Line R) → Type 0
@@ -51,17 +52,21 @@ module _ {R : Type 0} where
         by (inr (n', o)) = later .1 o
 
   -- the first rule that applies is the first line whose condition holds
-  pub first-of : {rs : List (Rule R)} {ks : List (Line R)} (other : R) (Rest : R → Type 0) → Matches rs ks → (NoneOf ks → Exactly other Rest) → Exactly (firstRule rs other) (FirstOf ks Rest)
+  pub first-of : {rs : List (Rule R)} {ks : List (Line R)} (other : R) (Rest : R → Type 0) → Matches rs ks
+      → (NoneOf ks → Exactly other Rest) → Exactly (firstRule rs other) (FirstOf ks Rest)
   unfolding firstRule
   first-of other Rest all g a = g tt a
-  first-of other Rest (_and_ {a = b} {t = t} {P = P} {rs = rs} {ks = ks} h m) g a = by t h (λ n. first-of other Rest m (λ none. g (n, none)) a)
+  first-of other Rest (_and_ {a = b} {t = t} {P = P} {rs = rs} {ks = ks} h m) g a =
+      by t h (λ n. first-of other Rest m (λ none. g (n, none)) a)
     where
-      by : (c : Bool) → Tells c P → ((P → ⊥) → (firstRule rs other ≡ a) ↔ FirstOf ks Rest a) → (cond c b (firstRule rs other) ≡ a) ↔ FirstOf (b given P ∷ ks) Rest a
+      by : (c : Bool) → Tells c P → ((P → ⊥) → (firstRule rs other ≡ a) ↔ FirstOf ks Rest a)
+          → (cond c b (firstRule rs other) ≡ a) ↔ FirstOf (b given P ∷ ks) Rest a
       by true f later = line-hit (b given P) ks Rest b a (f .0 refl) refl
       by false f later = let n : P → ⊥ = λ p. true≢false (sym (f .1 p)) in line-miss (b given P) ks Rest (firstRule rs other) a n (later n)
 
   -- what is made of the first answer is the first of what is made of each
-  pub first-map : {S : Type 0} (f : R → S) (rs : List (Rule R)) (other : R) → f (firstRule rs other) ≡ firstRule (map (λ (r : Rule R). (f (r .0), r .1)) rs) (f other)
+  pub first-map : {S : Type 0} (f : R → S) (rs : List (Rule R)) (other : R)
+      → f (firstRule rs other) ≡ firstRule (map (λ (r : Rule R). (f (r .0), r .1)) rs) (f other)
   unfolding firstRule
   first-map f [] other = refl
   first-map f ((b, true) ∷ rs) other = refl

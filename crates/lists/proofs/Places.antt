@@ -1,5 +1,5 @@
--- Numbers in a row, lists made of a function, and the loops that go through them: at a place k the invariant says that what is left
--- gives the whole answer r, and t is what the call of the test at k returned.
+-- Numbers in a row, lists made of a function, and the loops that go through them: at a place k the invariant says that
+-- what is left gives the whole answer r, and t is what the call of the test at k returned.
 use Prim.Native.Nat.{ℕ, zero, suc, _+_, _-_, _*_, _≤_, _<_}
 use native.Mathlib.Decide.{decLt}
 use native.Mathlib.Nat.{zero-mul, suc-mul, add-zero}
@@ -57,19 +57,25 @@ unfolding places
 places-up k zero = refl
 places-up k (suc n) = ap (λ (l : List ℕ). suc k ∷ l) (places-up (suc k) n)
 
--- ---- a test at every place, or at some one
+-- ---- a test at every place
 module _ (p : ℕ → Bool) where
   pub every-at : (k n : ℕ) → all p (places k n) ≡ true → (i : ℕ) → k ≤ i → i < k + n → p i ≡ true
   unfolding all places
   every-at k zero e i h l = absurd (omega arith)
   every-at k (suc n) e i h l =
       let b = both-true (p k) (all p (places (suc k) n)) e in
-      elim (decLt k i) [ yes a ↦ every-at (suc k) n (b .1) i a (omega arith) | no a ↦ (let j : i ≡ k = omega arith in ap p j ∙ b .0) ]
+      elim (decLt k i) [
+        | yes a ↦ every-at (suc k) n (b .1) i a (omega arith)
+        | no a ↦
+            (let j : i ≡ k = omega arith in ap p j ∙ b .0)
+      ]
 
   pub every-make : (k n : ℕ) → ((i : ℕ) → k ≤ i → i < k + n → p i ≡ true) → all p (places k n) ≡ true
   unfolding all places
   every-make k zero f = refl
-  every-make k (suc n) f = true-both (p k) (all p (places (suc k) n)) (f k (omega arith) (omega arith)) (every-make (suc k) n (λ i h l. f i (omega arith) (omega arith)))
+  every-make k (suc n) f =
+      true-both (p k) (all p (places (suc k) n)) (f k (omega arith) (omega arith))
+      (every-make (suc k) n (λ i h l. f i (omega arith) (omega arith)))
 
   pub one-place : (k : ℕ) → all p (places k 1) ≡ (p k && true)
   unfolding all places
@@ -85,15 +91,6 @@ module _ (p : ℕ → Bool) where
     unfolding all
     every-on inv h g f = sym (rw (places-step k e h, ← g, f)) ∙ inv
 
-    -- a loop that returns whether some place passes
-    pub some-stop : any p (places k (e - k)) ≡ r → k < e → t ≡ p k → t ≡ true → true ≡ r
-    unfolding any
-    some-stop inv h g f = sym (rw (places-step k e h, ← g, f)) ∙ inv
-
-    pub some-on : any p (places k (e - k)) ≡ r → k < e → t ≡ p k → t ≡ false → any p (places (k + 1) (e - (k + 1))) ≡ r
-    unfolding any
-    some-on inv h g f = sym (rw (places-step k e h, ← g, f)) ∙ inv
-
   -- the same for a test that is no call
   module _ (k e : ℕ) (r : Bool) where
     pub every-stop-here : all p (places k (e - k)) ≡ r → k < e → p k ≡ false → false ≡ r
@@ -105,10 +102,6 @@ module _ (p : ℕ → Bool) where
   pub every-end : (k e : ℕ) (r : Bool) → all p (places k (e - k)) ≡ r → e ≤ k → true ≡ r
   unfolding all
   every-end k e r inv h = sym (rw (places-end k e h)) ∙ inv
-
-  pub some-end : (k e : ℕ) (r : Bool) → any p (places k (e - k)) ≡ r → e ≤ k → false ≡ r
-  unfolding any
-  some-end k e r inv h = sym (rw (places-end k e h)) ∙ inv
 
 -- two tests that agree below n
 pub same-at : (p q : ℕ → Bool) (n : ℕ) → ((i : ℕ) → i < n → p i ≡ q i) → all p (places 0 n) ≡ all q (places 0 n)
@@ -130,16 +123,21 @@ places-add k zero n = let a : zero + n ≡ n = omega arith in let b : k ≡ k + 
 places-add k (suc m) n =
     let a : suc m + n ≡ suc (m + n) = omega arith in
     let b : suc k + m ≡ k + suc m = omega arith in
-    ap (places k) a ∙ ap (λ (l : List ℕ). k ∷ l) (places-add (suc k) m n ∙ ap (λ (j : ℕ). places (suc k) m ++ places j n) b)
+    ap (places k) a
+    ∙ ap (λ (l : List ℕ). k ∷ l) (places-add (suc k) m n ∙ ap (λ (j : ℕ). places (suc k) m ++ places j n) b)
 
-pub every-block : (p : ℕ → Bool) (m k n : ℕ) → all p (places k (n * m)) ≡ all (λ i. all p (places (k + i * m) m)) (places 0 n)
+pub every-block : (p : ℕ → Bool) (m k n : ℕ)
+    → all p (places k (n * m)) ≡ all (λ i. all p (places (k + i * m) m)) (places 0 n)
 unfolding all places
 every-block p m k zero = ap (λ (j : ℕ). all p (places k j)) (zero-mul m)
 every-block p m k (suc n) =
     let a : suc n * m ≡ m + n * m = omega (arith, suc-mul n m) in
     let b : k ≡ k + 0 * m = omega (arith, zero-mul m) in
-    ap (λ (j : ℕ). all p (places k j)) a ∙ ap (all p) (places-add k m (n * m)) ∙ all-both p (places k m) (places (k + m) (n * m))
-    ∙ ap₂ (λ (x y : Bool). x && y) (ap (λ (j : ℕ). all p (places j m)) b) (every-block p m (k + m) n ∙ all-same _ _ next (places 0 n) ∙ sym (places-shift (λ i. all p (places (k + i * m) m)) 1 n))
+    ap (λ (j : ℕ). all p (places k j)) a ∙ ap (all p) (places-add k m (n * m))
+    ∙ all-both p (places k m) (places (k + m) (n * m))
+    ∙ ap₂ (λ (x y : Bool). x && y) (ap (λ (j : ℕ). all p (places j m)) b)
+    (every-block p m (k + m) n ∙ all-same _ _ next (places 0 n)
+    ∙ sym (places-shift (λ i. all p (places (k + i * m) m)) 1 n))
   where
     one-more : (i : ℕ) → 1 + i ≡ suc i
     one-more i = omega arith
@@ -148,18 +146,24 @@ every-block p m k (suc n) =
     next i = let e : k + m + i * m ≡ k + (1 + i) * m = omega (arith, ap (λ (j : ℕ). j * m) (one-more i), suc-mul i m) in ap (λ (j : ℕ). all p (places j m)) e
 
 -- a test holds at every number below n, or there is a first at which it fails
-pub first-failing : (p : ℕ → Bool) (n : ℕ) → ((i : ℕ) → i < n → p i ≡ true) ⊎ ((i : ℕ) × (i < n) × (p i ≡ false) × ((j : ℕ) → j < i → p j ≡ true))
+pub first-failing : (p : ℕ → Bool) (n : ℕ)
+    → ((i : ℕ) → i < n → p i ≡ true) ⊎ ((i : ℕ) × (i < n) × (p i ≡ false) × ((j : ℕ) → j < i → p j ≡ true))
 first-failing p zero = inl (λ i h. absurd (omega arith))
-first-failing p (suc n) = ⊎-elim (λ f. at-end f (holds-or-fails (p n))) (λ (i, h, e, f). inr (i, omega arith, e, f)) (first-failing p n)
+first-failing p (suc n) =
+    ⊎-elim (λ f. at-end f (holds-or-fails (p n))) (λ (i, h, e, f). inr (i, omega arith, e, f)) (first-failing p n)
   where
-    at-end : ((i : ℕ) → i < n → p i ≡ true) → (p n ≡ true) ⊎ (p n ≡ false) → ((i : ℕ) → i < suc n → p i ≡ true) ⊎ ((i : ℕ) × (i < suc n) × (p i ≡ false) × ((j : ℕ) → j < i → p j ≡ true))
-    at-end f (inl e) = inl (λ i h. elim (decLt i n) [ yes a ↦ f i a | no a ↦ (let q : i ≡ n = omega arith in ap p q ∙ e) ])
+    at-end : ((i : ℕ) → i < n → p i ≡ true) → (p n ≡ true) ⊎ (p n ≡ false)
+        → ((i : ℕ) → i < suc n → p i ≡ true) ⊎ ((i : ℕ) × (i < suc n) × (p i ≡ false) × ((j : ℕ) → j < i → p j ≡ true))
+    at-end f (inl e) =
+        inl (λ i h. elim (decLt i n) [ yes a ↦ f i a | no a ↦ (let q : i ≡ n = omega arith in ap p q ∙ e) ])
     at-end f (inr e) = inr (n, omega arith, e, f)
 
 -- an element other than the one at k that passes
 module _ {A : Type 0} (p : A → Bool) (xs : List A) (k : ℕ) (d : A) where
   pub other-at : any p (removeAt k xs) ≡ true → (j : ℕ) × (j < length xs) × (j ≡ k → ⊥) × (p (getD xs j d) ≡ true)
-  other-at e = ⊎-elim (λ f. absurd (true≢false (sym e ∙ none-others-make p xs k d (λ j h ne. fails j ne (f j h))))) (λ (j, h, q, f). let (ne, e) = passes j q in (j, h, ne, e)) (first-failing test (length xs))
+  other-at e =
+      ⊎-elim (λ f. absurd (true≢false (sym e ∙ none-others-make p xs k d (λ j h ne. fails j ne (f j h)))))
+      (λ (j, h, q, f). let (ne, e) = passes j q in (j, h, ne, e)) (first-failing test (length xs))
     where
       test : ℕ → Bool
       test j = eqb j k || not (p (getD xs j d))
@@ -208,7 +212,8 @@ module _ {A : Type 0} where
       ∙ sym (List·getD-map f (places i (n - i)) k 0 ∙ ap f (getD-places i (n - i) k 0 c)))
 
   -- a list is its elements
-  pub tab-list : (f : ℕ → A) (xs : List A) (d : A) → ((i : ℕ) → i < length xs → f i ≡ getD xs i d) → tab (length xs) f ≡ xs
+  pub tab-list : (f : ℕ → A) (xs : List A) (d : A) → ((i : ℕ) → i < length xs → f i ≡ getD xs i d)
+      → tab (length xs) f ≡ xs
   tab-list f xs d h =
       ext-getD d (tab (length xs) f) xs (length-tab (length xs) f)
       (λ i k. let l : i < length xs = omega (arith, length-tab (length xs) f) in getD-tab (length xs) f i d l ∙ h i l)
@@ -218,7 +223,8 @@ module _ {A : Type 0} where
   unfolding tab
   all-tab p n f = all-map f p (places 0 n)
 
-  pub pairs-tab : (r : A → A → Bool) (n : ℕ) (f : ℕ → A) → pairwise r (tab n f) ≡ all (λ i. all (λ j. r (f i) (f j)) (places (i + 1) (n - (i + 1)))) (places 0 n)
+  pub pairs-tab : (r : A → A → Bool) (n : ℕ) (f : ℕ → A)
+      → pairwise r (tab n f) ≡ all (λ i. all (λ j. r (f i) (f j)) (places (i + 1) (n - (i + 1)))) (places 0 n)
   pairs-tab r n f =
       same-test (pairwise r (tab n f)) (all (λ i. all (λ j. r (f i) (f j)) (places (i + 1) (n - (i + 1)))) (places 0 n))
       (λ e. every-make _ 0 n (λ i a b. every-make _ (i + 1) (n - (i + 1)) (λ j c d. ap₂ r (sym (getD-tab n f i (f 0) (omega arith))) (sym (getD-tab n f j (f 0) (omega arith))) ∙ pairs-at r (tab n f) (f 0) e i j (omega arith) (omega (arith, length-tab n f)))))
@@ -227,22 +233,23 @@ module _ {A : Type 0} where
       (λ i j h l.
       let m : j < n = omega (arith, length-tab n f) in
       ap₂ r (getD-tab n f i (f 0) (omega arith)) (getD-tab n f j (f 0) m)
-      ∙ every-at (λ k. r (f i) (f k)) (i + 1) (n - (i + 1)) (every-at (λ k. all (λ q. r (f k) (f q)) (places (k + 1) (n - (k + 1)))) 0 n e i (omega arith) (omega arith)) j (omega arith) (omega arith)))
+      ∙ every-at (λ k. r (f i) (f k)) (i + 1) (n - (i + 1))
+      (every-at (λ k. all (λ q. r (f k) (f q)) (places (k + 1) (n - (k + 1)))) 0 n e i (omega arith)
+      (omega arith)) j
+      (omega arith) (omega arith)))
 
   -- a loop that returns the index of the first element that passes
   module _ (p : A → Bool) (f : ℕ → A) (n i r : ℕ) where
     pub first-hit : (t : Bool) → firstFrom p (tab n f) i ≡ r → i < n → t ≡ p (f i) → t ≡ true → i ≡ r
-    first-hit t inv h e g = sym (from-hit p (tab n f) i (f i) (omega (arith, length-tab n f)) (ap p (getD-tab n f i (f i) h) ∙ sym e ∙ g)) ∙ inv
+    first-hit t inv h e g =
+        sym (from-hit p (tab n f) i (f i) (omega (arith, length-tab n f)) (ap p (getD-tab n f i (f i) h) ∙ sym e ∙ g))
+        ∙ inv
 
-    pub first-on : (t : Bool) → firstFrom p (tab n f) i ≡ r → i < n → t ≡ p (f i) → t ≡ false → firstFrom p (tab n f) (i + 1) ≡ r
-    first-on t inv h e g = sym (from-pass p (tab n f) i (f i) (omega (arith, length-tab n f)) (ap p (getD-tab n f i (f i) h) ∙ sym e ∙ g)) ∙ inv
+    pub first-on : (t : Bool) → firstFrom p (tab n f) i ≡ r → i < n → t ≡ p (f i) → t ≡ false
+        → firstFrom p (tab n f) (i + 1) ≡ r
+    first-on t inv h e g =
+        sym (from-pass p (tab n f) i (f i) (omega (arith, length-tab n f)) (ap p (getD-tab n f i (f i) h) ∙ sym e ∙ g))
+        ∙ inv
 
     pub first-end : firstFrom p (tab n f) i ≡ r → n ≤ i → i ≡ r
     first-end inv h = sym (from-end p (tab n f) i (omega (arith, length-tab n f))) ∙ inv
-
-    -- the same for a test that is no call
-    pub first-hit-here : firstFrom p (tab n f) i ≡ r → i < n → p (f i) ≡ true → i ≡ r
-    first-hit-here inv h g = first-hit (p (f i)) inv h refl g
-
-    pub first-on-here : firstFrom p (tab n f) i ≡ r → i < n → p (f i) ≡ false → firstFrom p (tab n f) (i + 1) ≡ r
-    first-on-here inv h g = first-on (p (f i)) inv h refl g

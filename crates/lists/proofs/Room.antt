@@ -1,4 +1,5 @@
--- A list in an array of n places, with one element more or one less; and a list with an element taken out.
+-- A list in an array of n places is the list, then zeros: one element more takes the place of a zero, and one less
+-- leaves a zero at the end. A list with an element taken out is what stands before it, then what stands after it.
 use Prim.Native.Nat.{ℕ, zero, suc, _+_, _-_, _≤_, _<_}
 use native.Mathlib.Decide.{decLt}
 use native.Mathlib.Omega.{arith}
@@ -20,25 +21,31 @@ use Rattle.lists.proofs.Tests.{or-right, true-of, same-test}
 module _ {A : Type 0} where
   pub length-removed : (xs : List A) (i : ℕ) → i < length xs → length (removeAt i xs) ≡ length xs - 1
   unfolding removeAt
-  length-removed xs i h = omega (arith, length-append (take i xs) (drop (suc i) xs), length-take i xs, length-drop (suc i) xs)
+  length-removed xs i h =
+      omega (arith, length-append (take i xs) (drop (suc i) xs), length-take i xs, length-drop (suc i) xs)
 
   -- the elements that are left, before the gap and from it on
   pub removed-low : (xs : List A) (k i : ℕ) (d : A) → k < length xs → i < k → getD (removeAt k xs) i d ≡ getD xs i d
   unfolding removeAt
-  removed-low xs k i d h l = List·getD-append (take k xs) (drop (suc k) xs) d i (omega (arith, length-take k xs)) ∙ getD-take k xs i d l
+  removed-low xs k i d h l =
+      List·getD-append (take k xs) (drop (suc k) xs) d i (omega (arith, length-take k xs)) ∙ getD-take k xs i d l
 
-  pub removed-high : (xs : List A) (k i : ℕ) (d : A) → k < length xs → k ≤ i → getD (removeAt k xs) i d ≡ getD xs (i + 1) d
+  pub removed-high : (xs : List A) (k i : ℕ) (d : A) → k < length xs → k ≤ i
+      → getD (removeAt k xs) i d ≡ getD xs (i + 1) d
   unfolding removeAt
   removed-high xs k i d h l =
       let len : length (take k xs) ≡ k = omega (arith, length-take k xs) in
       let e : i ≡ length (take k xs) + (i - k) = omega arith in
       let f : suc k + (i - k) ≡ i + 1 = omega arith in
-      ap (λ (j : ℕ). getD (take k xs ++ drop (suc k) xs) j d) e ∙ getD-append-add (take k xs) (drop (suc k) xs) (i - k) d ∙ getD-drop (suc k) xs (i - k) d ∙ ap (λ (j : ℕ). getD xs j d) f
+      ap (λ (j : ℕ). getD (take k xs ++ drop (suc k) xs) j d) e
+      ∙ getD-append-add (take k xs) (drop (suc k) xs) (i - k) d ∙ getD-drop (suc k) xs (i - k) d
+      ∙ ap (λ (j : ℕ). getD xs j d) f
 
   module _ (n : ℕ) (z : A) where
     pub length-room : (xs : List A) → length (room n z xs) ≡ n
     unfolding room
-    length-room xs = omega (arith, length-take n (xs ++ replicate n z), length-append xs (replicate n z), length-replicate n z)
+    length-room xs =
+        omega (arith, length-take n (xs ++ replicate n z), length-append xs (replicate n z), length-replicate n z)
 
     -- where the list fits, the places after it hold z
     pub room-rest : (xs : List A) → length xs ≤ n → room n z xs ≡ xs ++ replicate (n - length xs) z
@@ -49,7 +56,8 @@ module _ {A : Type 0} where
         let f : n ≡ k + length xs = omega arith in
         let s : replicate n z ≡ replicate k z ++ replicate (length xs) z = ap (λ (m : ℕ). replicate m z) f ∙ sym (replicate-append-replicate k (length xs) z) in
         ap (λ (m : ℕ). take m (xs ++ replicate n z)) e ∙ take-append-add xs (replicate n z) k
-        ∙ ap (λ (r : List A). xs ++ r) (ap (take k) s ∙ take-at (replicate k z) (replicate (length xs) z) k (length-replicate k z))
+        ∙ ap (λ (r : List A). xs ++ r)
+        (ap (take k) s ∙ take-at (replicate k z) (replicate (length xs) z) k (length-replicate k z))
 
     -- place by place: the list, and z past its end
     pub room-tab : (xs : List A) → room n z xs ≡ tab n (λ i. getD xs i z)
@@ -79,13 +87,16 @@ module _ {A : Type 0} where
     room-after xs h = ap (drop (length xs)) (room-rest xs h) ∙ drop-append-seam xs (replicate (n - length xs) z)
 
     pub room-at : (xs : List A) (k : ℕ) (d : A) → k < length xs → length xs ≤ n → getD (room n z xs) k d ≡ getD xs k d
-    room-at xs k d h b = ap (λ (l : List A). getD l k d) (room-rest xs b) ∙ List·getD-append xs (replicate (n - length xs) z) d k h
+    room-at xs k d h b =
+        ap (λ (l : List A). getD l k d) (room-rest xs b) ∙ List·getD-append xs (replicate (n - length xs) z) d k h
 
-    pub room-set : (xs : List A) (k : ℕ) (v : A) → k < length xs → length xs ≤ n → room n z (set xs k v) ≡ set (room n z xs) k v
+    pub room-set : (xs : List A) (k : ℕ) (v : A) → k < length xs → length xs ≤ n
+        → room n z (set xs k v) ≡ set (room n z xs) k v
     room-set xs k v h b =
         room-rest (set xs k v) (omega (arith, length-set xs k v))
         ∙ ap (λ (m : ℕ). set xs k v ++ replicate (n - m) z) (length-set xs k v)
-        ∙ sym (set-append-left xs (replicate (n - length xs) z) k v h) ∙ ap (λ (l : List A). set l k v) (sym (room-rest xs b))
+        ∙ sym (set-append-left xs (replicate (n - length xs) z) k v h)
+        ∙ ap (λ (l : List A). set l k v) (sym (room-rest xs b))
 
     -- the first free place, before and after one element more is put there
     pub room-free : (xs : List A) → length xs < n → room n z xs ≡ xs ++ (z ∷ replicate (n - suc (length xs)) z)
@@ -93,7 +104,8 @@ module _ {A : Type 0} where
         let e : n - length xs ≡ suc (n - suc (length xs)) = omega arith in
         room-rest xs (omega arith) ∙ ap (λ (m : ℕ). xs ++ replicate m z) e
 
-    pub room-push : (xs : List A) (x : A) → length xs < n → room n z (xs ++ x ∷ []) ≡ xs ++ (x ∷ replicate (n - suc (length xs)) z)
+    pub room-push : (xs : List A) (x : A) → length xs < n
+        → room n z (xs ++ x ∷ []) ≡ xs ++ (x ∷ replicate (n - suc (length xs)) z)
     room-push xs x h =
         let e : n - length (xs ++ x ∷ []) ≡ n - suc (length xs) = omega (arith, length-append xs (x ∷ [])) in
         room-rest (xs ++ x ∷ []) (omega (arith, length-append xs (x ∷ [])))
@@ -101,7 +113,8 @@ module _ {A : Type 0} where
         ∙ ap (λ (m : ℕ). xs ++ (x ∷ replicate m z)) e
 
     -- one element less: the later ones come down, and z fills the place that is left
-    pub room-cut : (xs : List A) (i : ℕ) → i < length xs → length xs ≤ n → room n z (removeAt i xs) ≡ take i (room n z xs) ++ (drop (suc i) (room n z xs) ++ (z ∷ []))
+    pub room-cut : (xs : List A) (i : ℕ) → i < length xs → length xs ≤ n
+        → room n z (removeAt i xs) ≡ take i (room n z xs) ++ (drop (suc i) (room n z xs) ++ (z ∷ []))
     unfolding removeAt
     room-cut xs i h b =
         let rest : List A = replicate (n - length xs) z in
@@ -110,7 +123,8 @@ module _ {A : Type 0} where
         let d : drop (suc i) (xs ++ rest) ≡ drop (suc i) xs ++ rest = drop-append-le (suc i) xs rest h in
         room-rest (removeAt i xs) (omega (arith, length-removed xs i h))
         ∙ ap (λ (m : ℕ). (take i xs ++ drop (suc i) xs) ++ replicate m z) e
-        ∙ ap (λ (l : List A). (take i xs ++ drop (suc i) xs) ++ l) (sym (replicate-append-replicate (n - length xs) 1 z))
+        ∙ ap (λ (l : List A). (take i xs ++ drop (suc i) xs) ++ l)
+        (sym (replicate-append-replicate (n - length xs) 1 z))
         ∙ append-assoc (take i xs) (drop (suc i) xs) (rest ++ (z ∷ []))
         ∙ ap (λ (l : List A). take i xs ++ l) (sym (append-assoc (drop (suc i) xs) rest (z ∷ [])))
         ∙ ap₂ (λ (x y : List A). x ++ (y ++ (z ∷ []))) (sym t) (sym d)
@@ -130,12 +144,14 @@ module _ {A : Type 0} (p : A → Bool) (xs : List A) (d : A) (k : ℕ) (h : k < 
       (λ e. true-of _ (λ none. true≢false (sym e ∙ none-make p (removeAt k xs) d (λ i l. none-there none i l))))
       (λ e. true-of _ (λ none. true≢false (sym (from-passes p xs d (k + 1) (ltb-true _ _ e)) ∙ none-others p xs k d none (firstFrom p xs (k + 1)) (ltb-true _ _ e) (λ q. let l : k + 1 ≤ firstFrom p xs (k + 1) = from-least p xs d (k + 1) in omega arith))))
     where
-      none-there : ltb (firstFrom p xs (k + 1)) (length xs) ≡ false → (i : ℕ) → i < length (removeAt k xs) → p (getD (removeAt k xs) i d) ≡ false
+      none-there : ltb (firstFrom p xs (k + 1)) (length xs) ≡ false → (i : ℕ) → i < length (removeAt k xs)
+          → p (getD (removeAt k xs) i d) ≡ false
       none-there none i l =
           let len : length (removeAt k xs) ≡ length xs - 1 = length-removed xs k h in
           let past : length xs ≤ firstFrom p xs (k + 1) = ltb-false _ _ none in
           elim (decLt i k) [
             | yes a ↦ ap p (removed-low xs k i d h a) ∙ before-fails p xs d i (omega arith)
             | no a ↦
-                ap p (removed-high xs k i d h (omega arith)) ∙ between-fails p xs d (k + 1) (i + 1) (omega arith) (omega arith)
+                ap p (removed-high xs k i d h (omega arith))
+                ∙ between-fails p xs d (k + 1) (i + 1) (omega arith) (omega arith)
           ]

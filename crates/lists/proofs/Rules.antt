@@ -1,4 +1,5 @@
--- The first rule that applies.
+-- The first rule that applies: a rule whose test fails may be left out, so where a chain, a stage or a loop of tests
+-- stands, the rules that are left give the whole answer.
 use Prim.Native.Nat.{ℕ, zero, suc, _+_, _-_, _≤_, _<_, suc-le-suc}
 use native.Mathlib.Decide.{decLt}
 use native.Mathlib.Nat.{sub-zero, le-of-suc-le-suc}
@@ -20,11 +21,13 @@ use Rattle.lists.proofs.Tests.{both-true}
 module _ {R : Type 0} where
   -- ---- what each return of a chain of rules answers
   -- the first rule applies; it does not, and the answer is that of the others; none is left
-  pub rule-hit : (a b other : R) (t : Bool) (rs : List (Rule R)) → t ≡ true → a ≡ b → a ≡ firstRule (b when t ∷ rs) other
+  pub rule-hit : (a b other : R) (t : Bool) (rs : List (Rule R)) → t ≡ true → a ≡ b
+      → a ≡ firstRule (b when t ∷ rs) other
   unfolding firstRule
   rule-hit a b other t rs e f = rw e f
 
-  pub rule-skip : (a b other : R) (t : Bool) (rs : List (Rule R)) → t ≡ false → a ≡ firstRule rs other → a ≡ firstRule (b when t ∷ rs) other
+  pub rule-skip : (a b other : R) (t : Bool) (rs : List (Rule R)) → t ≡ false → a ≡ firstRule rs other
+      → a ≡ firstRule (b when t ∷ rs) other
   unfolding firstRule
   rule-skip a b other t rs e f = rw e f
 
@@ -40,13 +43,15 @@ module _ {R : Type 0} where
   Telling [] other = Unit {0}
   Telling (r ∷ rs) other = (r .0 ≡ other → ⊥) × Telling rs other
 
-  pub stage-hit : (us vs : List (Rule R)) (v other : R) → v ≡ firstRule us other → (v ≡ other → ⊥) → v ≡ firstRule (us ++ vs) other
+  pub stage-hit : (us vs : List (Rule R)) (v other : R) → v ≡ firstRule us other → (v ≡ other → ⊥)
+      → v ≡ firstRule (us ++ vs) other
   unfolding firstRule
   stage-hit [] vs v other e f = absurd (f e)
   stage-hit ((a, true) ∷ us) vs v other e f = e
   stage-hit ((a, false) ∷ us) vs v other e f = stage-hit us vs v other e f
 
-  pub stage-skip : (us vs : List (Rule R)) (a v other : R) → Telling us other → v ≡ firstRule us other → v ≡ other → a ≡ firstRule vs other → a ≡ firstRule (us ++ vs) other
+  pub stage-skip : (us vs : List (Rule R)) (a v other : R) → Telling us other → v ≡ firstRule us other → v ≡ other
+      → a ≡ firstRule vs other → a ≡ firstRule (us ++ vs) other
   unfolding firstRule
   stage-skip [] vs a v other z e f g = g
   stage-skip ((b, true) ∷ us) vs a v other z e f g = absurd (z .0 (sym e ∙ f))
@@ -61,25 +66,33 @@ module _ {R : Type 0} where
     unfolding flatMap rest
     turn h = ap (flatMap g) (places-step k e h)
 
-    pub rules-stop : firstRule (flatMap g (places k (e - k))) other ≡ r → k < e → v ≡ firstRule (g k) other → (v ≡ other → ⊥) → v ≡ r
-    rules-stop inv h q f = stage-hit (g k) rest v other q f ∙ ap (λ (l : List (Rule R)). firstRule l other) (sym (turn h)) ∙ inv
+    pub rules-stop : firstRule (flatMap g (places k (e - k))) other ≡ r → k < e → v ≡ firstRule (g k) other
+        → (v ≡ other → ⊥) → v ≡ r
+    rules-stop inv h q f =
+        stage-hit (g k) rest v other q f ∙ ap (λ (l : List (Rule R)). firstRule l other) (sym (turn h)) ∙ inv
 
-    pub rules-on : firstRule (flatMap g (places k (e - k))) other ≡ r → k < e → v ≡ firstRule (g k) other → v ≡ other → Telling (g k) other → firstRule (flatMap g (places (k + 1) (e - (k + 1)))) other ≡ r
+    pub rules-on : firstRule (flatMap g (places k (e - k))) other ≡ r → k < e → v ≡ firstRule (g k) other → v ≡ other
+        → Telling (g k) other → firstRule (flatMap g (places (k + 1) (e - (k + 1)))) other ≡ r
     unfolding rest
-    rules-on inv h q f z = stage-skip (g k) rest (firstRule rest other) v other z q f refl ∙ ap (λ (l : List (Rule R)). firstRule l other) (sym (turn h)) ∙ inv
+    rules-on inv h q f z =
+        stage-skip (g k) rest (firstRule rest other) v other z q f refl
+        ∙ ap (λ (l : List (Rule R)). firstRule l other) (sym (turn h)) ∙ inv
 
-  pub rules-end : (g : ℕ → List (Rule R)) (k e : ℕ) (other r : R) → firstRule (flatMap g (places k (e - k))) other ≡ r → e ≤ k → other ≡ r
+  pub rules-end : (g : ℕ → List (Rule R)) (k e : ℕ) (other r : R) → firstRule (flatMap g (places k (e - k))) other ≡ r
+      → e ≤ k → other ≡ r
   unfolding firstRule flatMap
   rules-end g k e other r inv h = sym (rw (places-end k e h)) ∙ inv
 
   -- the rules at the places below i answer nothing: the answer is that of the places from i on
-  pub rules-past : (g : ℕ → List (Rule R)) (n : ℕ) (other : R) → ((j : ℕ) → Telling (g j) other) → (i : ℕ) → i ≤ n → ((j : ℕ) → j < i → firstRule (g j) other ≡ other)
+  pub rules-past : (g : ℕ → List (Rule R)) (n : ℕ) (other : R) → ((j : ℕ) → Telling (g j) other) → (i : ℕ) → i ≤ n
+      → ((j : ℕ) → j < i → firstRule (g j) other ≡ other)
       → firstRule (flatMap g (places i (n - i))) other ≡ firstRule (flatMap g (places 0 n)) other
   rules-past g n other z zero h f = rw sub-zero
   rules-past g n other z (suc i) h f =
       let e : suc i ≡ i + 1 = omega arith in
       ap (λ (k : ℕ). firstRule (flatMap g (places k (n - k))) other) e
-      ∙ rules-on g i n other other (firstRule (flatMap g (places 0 n)) other) (rules-past g n other z i (omega arith) (λ j l. f j (omega arith))) h (sym (f i (omega arith))) refl (z i)
+      ∙ rules-on g i n other other (firstRule (flatMap g (places 0 n)) other)
+      (rules-past g n other z i (omega arith) (λ j l. f j (omega arith))) h (sym (f i (omega arith))) refl (z i)
 
   -- ---- where the answer is `other`, and no rule gives that, no rule applies
   abbrev pub Quiet : List (Rule R) → Type 0
@@ -133,10 +146,12 @@ module _ {R : Type 0} where
   quiet-right (u ∷ us) vs q = quiet-right us vs (q .1)
 
   module _ (g : ℕ → List (Rule R)) where
-    pub telling-places : (other : R) → ((i : ℕ) → Telling (g i) other) → (k n : ℕ) → Telling (flatMap g (places k n)) other
+    pub telling-places : (other : R) → ((i : ℕ) → Telling (g i) other) → (k n : ℕ)
+        → Telling (flatMap g (places k n)) other
     unfolding flatMap places
     telling-places other z k zero = tt
-    telling-places other z k (suc n) = telling-append (g k) (flatMap g (places (suc k) n)) other (z k) (telling-places other z (suc k) n)
+    telling-places other z k (suc n) =
+        telling-append (g k) (flatMap g (places (suc k) n)) other (z k) (telling-places other z (suc k) n)
 
     pub quiet-places : (k n : ℕ) → Quiet (flatMap g (places k n)) → (i : ℕ) → k ≤ i → i < k + n → Quiet (g i)
     unfolding flatMap places
@@ -145,12 +160,16 @@ module _ {R : Type 0} where
         elim (decLt k i) [
           | yes a ↦ quiet-places (suc k) n (quiet-right (g k) (flatMap g (places (suc k) n)) q) i a (omega arith)
           | no a ↦
-              (let e : k ≡ i = omega arith in subst (λ (j : ℕ). Quiet (g j)) e (quiet-left (g k) (flatMap g (places (suc k) n)) q))
+              (let e : k
+              ≡ i = omega arith in subst (λ (j : ℕ). Quiet (g j)) e
+              (quiet-left (g k) (flatMap g (places (suc k) n)) q))
         ]
 
   -- ---- what the answer says
-  sooner : {b : R} {rs : List (Rule R)} {d : Rule R} {other a : R} → Given rs other d a → Given ((b, false) ∷ rs) other d a
-  sooner {b} {rs} {d} (inl (k, h, q)) = inl (suc k, record { there = suc-le-suc (h .there); holds = h .holds; earlier = past }, q)
+  sooner : {b : R} {rs : List (Rule R)} {d : Rule R} {other a : R} → Given rs other d a
+      → Given ((b, false) ∷ rs) other d a
+  sooner {b} {rs} {d} (inl (k, h, q)) =
+      inl (suc k, record { there = suc-le-suc (h .there); holds = h .holds; earlier = past }, q)
     where
       past : (j : ℕ) → j < suc k → getD ((b, false) ∷ rs) j d .1 ≡ false
       past zero l = refl
@@ -164,7 +183,8 @@ module _ {R : Type 0} where
   given : (rs : List (Rule R)) (other : R) (d : Rule R) (a : R) → firstRule rs other ≡ a → Given rs other d a
   unfolding firstRule
   given [] other d a e = inr (λ j h. absurd (omega arith), e)
-  given ((b, true) ∷ rs) other d a e = inl (0, record { there = omega arith; holds = refl; earlier = λ j h. absurd (omega arith) }, e)
+  given ((b, true) ∷ rs) other d a e =
+      inl (0, record { there = omega arith; holds = refl; earlier = λ j h. absurd (omega arith) }, e)
   given ((b, false) ∷ rs) other d a e = sooner (given rs other d a e)
 
   from-given : (rs : List (Rule R)) (other : R) (d : Rule R) (a : R) → Given rs other d a → firstRule rs other ≡ a
@@ -175,8 +195,15 @@ module _ {R : Type 0} where
   from-given ((b, true) ∷ rs) other d a (inl (suc k, h, q)) = absurd (true≢false (h .earlier 0 (omega arith)))
   from-given ((b, true) ∷ rs) other d a (inr (s, q)) = absurd (true≢false (s 0 (omega arith)))
   from-given ((b, false) ∷ rs) other d a (inl (zero, h, q)) = absurd (true≢false (sym (h .holds)))
-  from-given ((b, false) ∷ rs) other d a (inl (suc k, h, q)) = from-given rs other d a (inl (k, record { there = le-of-suc-le-suc (h .there); holds = h .holds; earlier = λ j l. h .earlier (suc j) (suc-le-suc l) }, q))
-  from-given ((b, false) ∷ rs) other d a (inr (s, q)) = from-given rs other d a (inr (λ j l. s (suc j) (suc-le-suc l), q))
+  from-given ((b, false) ∷ rs) other d a (inl (suc k, h, q)) =
+      from-given rs other d a
+      (inl (
+        k,
+        record { there = le-of-suc-le-suc (h .there); holds = h .holds; earlier = λ j l. h .earlier (suc j) (suc-le-suc l) },
+        q,
+      ))
+  from-given ((b, false) ∷ rs) other d a (inr (s, q)) =
+      from-given rs other d a (inr (λ j l. s (suc j) (suc-le-suc l), q))
 
   -- the answer is a exactly when a rule that gives a applies and no earlier one does, or none applies and a is `other`
   pub first-rule : (rs : List (Rule R)) (other : R) (d : Rule R) (a : R) → (firstRule rs other ≡ a) ↔ Given rs other d a
@@ -195,7 +222,8 @@ numbers-tell (r ∷ rs) e =
     ((λ z. let h : 0 < r .0 = ltb-true _ _ (b .0) in omega arith), numbers-tell rs (b .1))
 
 -- where the answer is 0, the rule of every number is silent
-pub silent-number : (rs : List (Rule ℕ)) → aboveZero rs ≡ true → firstRule rs 0 ≡ 0 → (n : ℕ) → testOf (λ m. m) n rs ≡ false
+pub silent-number : (rs : List (Rule ℕ)) → aboveZero rs ≡ true → firstRule rs 0 ≡ 0 → (n : ℕ)
+    → testOf (λ m. m) n rs ≡ false
 silent-number rs above e = silent (λ m. m) rs (quiet rs 0 (numbers-tell rs above) e)
 
 -- they differ from each other and from 0
@@ -207,7 +235,9 @@ module _ (rs : List (Rule ℕ)) (d : Rule ℕ) (apart : numbered rs ≡ true) wh
   unfolding answers numbered
   differ i j h l e =
       eqb-false (getD answers i 0) (getD answers j 0)
-      (not-true (eqb (getD answers i 0) (getD answers j 0)) (pairs-at (λ (m n : ℕ). not (eqb m n)) answers 0 apart i j h (omega (arith, length-map rs (λ (r : Rule ℕ). r .0))))) e
+      (not-true (eqb (getD answers i 0) (getD answers j 0))
+      (pairs-at (λ (m n : ℕ). not (eqb m n)) answers 0 apart i j h
+      (omega (arith, length-map rs (λ (r : Rule ℕ). r .0))))) e
 
   answer-at : (k : ℕ) → k < length rs → getD answers (suc k) 0 ≡ getD rs k d .0
   unfolding answers
@@ -221,7 +251,11 @@ module _ (rs : List (Rule ℕ)) (d : Rule ℕ) (apart : numbered rs ≡ true) wh
       elim (decLt j k) [
         | yes a ↦ absurd (differ (suc j) (suc k) (suc-le-suc a) (suc-le-suc hk) q)
         | no a ↦
-            elim (decLt k j) [ yes b ↦ absurd (differ (suc k) (suc j) (suc-le-suc b) (suc-le-suc hj) (sym q)) | no b ↦ omega arith ]
+            elim (decLt k j) [
+              | yes b ↦ absurd
+                  (differ (suc k) (suc j) (suc-le-suc b) (suc-le-suc hj) (sym q))
+              | no b ↦ omega arith
+            ]
       ]
 
   not-zero : (k : ℕ) → k < length rs → 0 ≡ getD rs k d .0 → ⊥

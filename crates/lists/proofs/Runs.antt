@@ -3,14 +3,16 @@ use mathlib.Core.List.{List, [], _∷_}
 use mathlib.Core.Path.{_≡_, refl, ap, ap₂, _∙_}
 use Rattle.lists.specs.Runs.{none, call, runs, told, InTurn}
 
-module _ {S Q : Type 0} (step : S → Q → S) (Kept : S → Type 0) (keeps : (s : S) (q : Q) → Kept s → Kept (step s q)) where
+module _ {S Q : Type 0} (step : S → Q → S) (Kept : S → Type 0)
+    (keeps : (s : S) (q : Q) → Kept s → Kept (step s q)) where
   pub run-keeps : (s : S) (qs : List Q) → Kept s → Kept (runs step s qs)
   unfolding runs
   run-keeps s [] h = h
   run-keeps s (q ∷ qs) h = run-keeps (step s q) qs (keeps s q h)
 
 -- ---- steps that, seen through `view`, are other steps: so are runs
-module _ {S T Q : Type 0} (view : S → T) (step : S → Q → S) (seen : T → Q → T) (same : (s : S) (q : Q) → view (step s q) ≡ seen (view s) q) where
+module _ {S T Q : Type 0} (view : S → T) (step : S → Q → S) (seen : T → Q → T)
+    (same : (s : S) (q : Q) → view (step s q) ≡ seen (view s) q) where
   pub runs-seen : (s : S) (qs : List Q) → view (runs step s qs) ≡ runs seen (view s) qs
   unfolding runs
   runs-seen s [] = refl
@@ -22,8 +24,11 @@ pub record Seen {S T Q A : Type 0} (view : S → T) (say : T → Q → A) (step 
   pub does : view t ≡ step (view s) q
   pub keeps : Kept t
 
-module _ {S T Q A : Type 0} (view : S → T) (say : T → Q → A) (step : T → Q → T) (Kept : S → Type 0) (Call : S → Q → A → S → Type 0) (one : (s : S) (q : Q) (a : A) (t : S) → Call s q a t → Kept s → Seen view say step Kept s q a t) where
-  pub in-turn : {s u : S} {qs : List Q} {os : List A} → InTurn Call s qs os u → Kept s → (os ≡ told say step (view s) qs) × (view u ≡ runs step (view s) qs) × Kept u
+module _ {S T Q A : Type 0} (view : S → T) (say : T → Q → A) (step : T → Q → T) (Kept : S → Type 0)
+    (Call : S → Q → A → S → Type 0)
+    (one : (s : S) (q : Q) (a : A) (t : S) → Call s q a t → Kept s → Seen view say step Kept s q a t) where
+  pub in-turn : {s u : S} {qs : List Q} {os : List A} → InTurn Call s qs os u → Kept s
+      → (os ≡ told say step (view s) qs) × (view u ≡ runs step (view s) qs) × Kept u
   unfolding runs told
   in-turn none h = (refl, refl, h)
   in-turn (call {s} {t} {u} {q} {qs} {a} {os} c cs) h =

@@ -1,4 +1,4 @@
--- Tests: taken apart, put together, and compared.
+-- Tests: taken apart, put together, and compared, by cases of true and false here, so that proofs above need none.
 use Prim.Native.Nat.{ℕ, _≤_, _<_}
 use native.Mathlib.Omega.{arith}
 use mathlib.Core.Bool.{Bool, true, false, not, _&&_, _||_, true≢false}
@@ -65,10 +65,12 @@ same-test false true f g = g refl
 same-test false false f g = refl
 
 pub same-leb : (a b c d : ℕ) → (a ≤ b → c ≤ d) → (c ≤ d → a ≤ b) → leb a b ≡ leb c d
-same-leb a b c d f g = same-test (leb a b) (leb c d) (λ e. le-leb c d (f (leb-true a b e))) (λ e. le-leb a b (g (leb-true c d e)))
+same-leb a b c d f g =
+    same-test (leb a b) (leb c d) (λ e. le-leb c d (f (leb-true a b e))) (λ e. le-leb a b (g (leb-true c d e)))
 
 pub same-ltb : (a b c d : ℕ) → (a < b → c < d) → (c < d → a < b) → ltb a b ≡ ltb c d
-same-ltb a b c d f g = same-test (ltb a b) (ltb c d) (λ e. lt-ltb c d (f (ltb-true a b e))) (λ e. lt-ltb a b (g (ltb-true c d e)))
+same-ltb a b c d f g =
+    same-test (ltb a b) (ltb c d) (λ e. lt-ltb c d (f (ltb-true a b e))) (λ e. lt-ltb a b (g (ltb-true c d e)))
 
 -- ---- a list of tests
 -- each of them holds: `parts _ e .1 .0` is the second
@@ -122,7 +124,8 @@ none-above n e = le-ltb 0 n (omega arith)
 pub some-above : (n : ℕ) → (n ≡ 0 → ⊥) → ltb 0 n ≡ true
 some-above n e = lt-ltb 0 n (omega arith)
 
-pub ruleset tests = (told, told-not, told-off, told-on, lt-ltb, le-ltb, le-leb, lt-leb, eq-eqb, ne-eqb, none-above, some-above)
+pub ruleset tests =
+    (told, told-not, told-off, told-on, lt-ltb, le-ltb, le-leb, lt-leb, eq-eqb, ne-eqb, none-above, some-above)
 
 pub ruleset alternatives = (or-left, or-right, false-both, tests)
 

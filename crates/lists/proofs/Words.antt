@@ -1,4 +1,5 @@
--- Words of memory: parts of them, a counted list of records among them, and the loops that move and clear words.
+-- Words of memory are written as what stands before a place, what stands there, and what stands after it: a store, a
+-- move and a clearing then change the middle alone, in a counted list of records as in any other words.
 use Prim.Native.Nat.{ℕ, zero, suc, _+_, _-_, _*_, _≤_, _<_}
 use native.Mathlib.Nat.{zero-mul, suc-mul, add-mul}
 use native.Mathlib.Numerals.{add-one}
@@ -19,7 +20,8 @@ use Rattle.lists.proofs.Room.{length-removed, length-room, room-rest, r
 -- ---- words between words
 module _ {X : Type 0} where
   -- vs are stored over old
-  pub sets-mid : (a old c vs : List X) (k : ℕ) → length a ≡ k → length old ≡ length vs → sets (a ++ (old ++ c)) k vs ≡ a ++ (vs ++ c)
+  pub sets-mid : (a old c vs : List X) (k : ℕ) → length a ≡ k → length old ≡ length vs
+      → sets (a ++ (old ++ c)) k vs ≡ a ++ (vs ++ c)
   sets-mid a old c vs k e f =
       let l : length (a ++ (old ++ c)) ≡ length a + (length old + length c) = length-append a (old ++ c) ∙ ap (λ (n : ℕ). length a + n) (length-append old c) in
       let t : take k (a ++ (old ++ c)) ≡ a = take-at a (old ++ c) k e in
@@ -28,7 +30,8 @@ module _ {X : Type 0} where
       ∙ ap₂ (λ (x y : List X). (x ++ vs) ++ y) t (ap (drop (k + length vs)) (sym (append-assoc a old c)) ∙ d)
       ∙ append-assoc a vs c
 
-pub closed-mid : (a g s c : List ℕ) (k m e : ℕ) → length a ≡ k → length g ≡ m → k + m + length s ≡ e → closed (a ++ (g ++ (s ++ c))) k m e ≡ a ++ (s ++ (replicate m 0 ++ c))
+pub closed-mid : (a g s c : List ℕ) (k m e : ℕ) → length a ≡ k → length g ≡ m → k + m + length s ≡ e
+    → closed (a ++ (g ++ (s ++ c))) k m e ≡ a ++ (s ++ (replicate m 0 ++ c))
 unfolding closed
 closed-mid a g s c k m e p q r =
     let l : List ℕ = a ++ (g ++ (s ++ c)) in
@@ -43,7 +46,8 @@ closed-mid a g s c k m e p q r =
 pub move-start : (d : List ℕ) (at m : ℕ) → d ≡ paste d at (drop (at + m) d) (at - at)
 move-start d at m = let e : 0 ≡ at - at = omega arith in paste-zero d at (drop (at + m) d) ∙ ap (paste d at (drop (at + m) d)) e
 
-pub move-on : (d t : List ℕ) (at m k : ℕ) → t ≡ paste d at (drop (at + m) d) (k - at) → at ≤ k → k + m < length d → set t k (getD t (k + m) 0) ≡ paste d at (drop (at + m) d) (k + 1 - at)
+pub move-on : (d t : List ℕ) (at m k : ℕ) → t ≡ paste d at (drop (at + m) d) (k - at) → at ≤ k → k + m < length d
+    → set t k (getD t (k + m) 0) ≡ paste d at (drop (at + m) d) (k + 1 - at)
 move-on d t at m k inv h b =
     let j : ℕ = k - at in
     let s : List ℕ = drop (at + m) d in
@@ -55,7 +59,8 @@ move-on d t at m k inv h b =
     let e2 : at + j + m ≡ at + m + j = omega arith in
     let e3 : suc j ≡ k + 1 - at = omega arith in
     let r : getD (paste d at s j) (k + m) 0 ≡ getD s j 0 =
-    ap (λ (i : ℕ). getD (paste d at s j) i 0) e1 ∙ getD-append-add p (drop (at + j) d) m 0 ∙ getD-drop (at + j) d m 0 ∙ ap (λ (i : ℕ). getD d i 0) e2 ∙ sym (getD-drop (at + m) d j 0) in
+    ap (λ (i : ℕ). getD (paste d at s j) i 0) e1 ∙ getD-append-add p (drop (at + j) d) m 0 ∙ getD-drop (at + j) d m 0
+    ∙ ap (λ (i : ℕ). getD d i 0) e2 ∙ sym (getD-drop (at + m) d j 0) in
     ap (λ (l : List ℕ). set l k (getD l (k + m) 0)) inv
     ∙ ap₂ (λ (i : ℕ) (x : ℕ). set (paste d at s j) i x) ek r
     ∙ paste-suc d at s j 0 (omega arith) (omega arith) ∙ ap (paste d at s) e3
@@ -74,11 +79,15 @@ clear-on d t at k inv h b =
     let w : take at d ++ (replicate n 0 ++ drop k d) ≡ p ++ (getD d k 0 ∷ drop (suc k) d) = ap (λ (l : List ℕ). take at d ++ (replicate n 0 ++ l)) (drop-cons d k 0 b) ∙ sym (append-assoc (take at d) (replicate n 0) (getD d k 0 ∷ drop (suc k) d)) in
     ap (λ (l : List ℕ). set l k 0) (inv ∙ w) ∙ set-at p (getD d k 0) (drop (suc k) d) 0 k lp
     ∙ append-assoc (take at d) (replicate n 0) (0 ∷ drop (suc k) d)
-    ∙ ap (λ (l : List ℕ). take at d ++ l) (sym (append-assoc (replicate n 0) (0 ∷ []) (drop (suc k) d)) ∙ ap (λ (l : List ℕ). l ++ drop (suc k) d) (replicate-append-replicate n 1 0 ∙ ap (λ (i : ℕ). replicate i 0) e))
+    ∙ ap (λ (l : List ℕ). take at d ++ l)
+    (sym (append-assoc (replicate n 0) (0 ∷ []) (drop (suc k) d))
+    ∙ ap (λ (l : List ℕ). l ++ drop (suc k) d)
+    (replicate-append-replicate n 1 0 ∙ ap (λ (i : ℕ). replicate i 0) e))
     ∙ ap (λ (i : ℕ). take at d ++ (replicate (k + 1 - at) 0 ++ drop i d)) (sym (add-one k))
 
 -- the two together close a gap
-pub move-clear : (d : List ℕ) (at m e : ℕ) → at + m ≤ e → e ≤ length d → cleared (paste d at (drop (at + m) d) (e - m - at)) (e - m) e ≡ closed d at m e
+pub move-clear : (d : List ℕ) (at m e : ℕ) → at + m ≤ e → e ≤ length d
+    → cleared (paste d at (drop (at + m) d) (e - m - at)) (e - m) e ≡ closed d at m e
 unfolding cleared closed
 move-clear d at m e h b =
     let n : ℕ = e - m - at in
@@ -100,13 +109,16 @@ module _ {A : Type 0} where
     pub flat-append : (xs ys : List A) → flatMap g (xs ++ ys) ≡ flatMap g xs ++ flatMap g ys
     unfolding flatMap
     flat-append [] ys = refl
-    flat-append (x ∷ xs) ys = ap (λ (l : List ℕ). g x ++ l) (flat-append xs ys) ∙ sym (append-assoc (g x) (flatMap g xs) (flatMap g ys))
+    flat-append (x ∷ xs) ys =
+        ap (λ (l : List ℕ). g x ++ l) (flat-append xs ys) ∙ sym (append-assoc (g x) (flatMap g xs) (flatMap g ys))
 
-    pub flat-split : (l : List A) (i : ℕ) (d : A) → i < length l → flatMap g l ≡ flatMap g (take i l) ++ (g (getD l i d) ++ flatMap g (drop (suc i) l))
+    pub flat-split : (l : List A) (i : ℕ) (d : A) → i < length l
+        → flatMap g l ≡ flatMap g (take i l) ++ (g (getD l i d) ++ flatMap g (drop (suc i) l))
     unfolding flatMap
     flat-split l i d h = ap (flatMap g) (split-at l i d h) ∙ flat-append (take i l) (getD l i d ∷ drop (suc i) l)
 
-    pub flat-set : (l : List A) (i : ℕ) (y : A) → i < length l → flatMap g (set l i y) ≡ flatMap g (take i l) ++ (g y ++ flatMap g (drop (suc i) l))
+    pub flat-set : (l : List A) (i : ℕ) (y : A) → i < length l
+        → flatMap g (set l i y) ≡ flatMap g (take i l) ++ (g y ++ flatMap g (drop (suc i) l))
     unfolding flatMap
     flat-set l i y h = ap (flatMap g) (set-split l i y h) ∙ flat-append (take i l) (y ∷ drop (suc i) l)
 
@@ -114,7 +126,8 @@ module _ {A : Type 0} where
       pub length-flat : (xs : List A) → length (flatMap g xs) ≡ length xs * m
       unfolding flatMap
       length-flat [] = sym (zero-mul m)
-      length-flat (x ∷ xs) = omega (arith, length-append (g x) (flatMap g xs), wide x, length-flat xs, suc-mul (length xs) m)
+      length-flat (x ∷ xs) =
+          omega (arith, length-append (g x) (flatMap g xs), wide x, length-flat xs, suc-mul (length xs) m)
 
       pub length-counted : (n : ℕ) (z : A) (xs : List A) → length (counted n z g xs) ≡ 1 + n * m
       unfolding counted
@@ -124,7 +137,8 @@ regroup : (a b c d : List ℕ) → (a ++ (b ++ c)) ++ d ≡ a ++ (b ++ (c ++ d))
 regroup a b c d = simp append-assoc
 
 -- ---- a counted list between other words
-module _ {A : Type 0} (n : ℕ) (z : A) (g : A → List ℕ) (m : ℕ) (wide : (x : A) → length (g x) ≡ m) (pre post : List ℕ) (b : ℕ) (at : length pre ≡ b) (xs : List A) where
+module _ {A : Type 0} (n : ℕ) (z : A) (g : A → List ℕ) (m : ℕ) (wide : (x : A) → length (g x) ≡ m) (pre post : List ℕ)
+    (b : ℕ) (at : length pre ≡ b) (xs : List A) where
   -- the words before element i, and those after it
   unfoldable pub front : ℕ → List ℕ
   front i = pre ++ (length xs ∷ flatMap g (take i (room n z xs)))
@@ -145,12 +159,14 @@ module _ {A : Type 0} (n : ℕ) (z : A) (g : A → List ℕ) (m : ℕ) (wide : (
   unfolding counted
   count-at d = getD-at pre (length xs) (flatMap g (room n z xs) ++ post) d b at
 
-  pub element-at : (i : ℕ) (d : A) → i < length xs → length xs ≤ n → pre ++ (counted n z g xs ++ post) ≡ front i ++ (g (getD xs i d) ++ rear i)
+  pub element-at : (i : ℕ) (d : A) → i < length xs → length xs ≤ n
+      → pre ++ (counted n z g xs ++ post) ≡ front i ++ (g (getD xs i d) ++ rear i)
   unfolding counted front rear
   element-at i d h k =
       let p : List A = room n z xs in
       let e : flatMap g p ≡ flatMap g (take i p) ++ (g (getD xs i d) ++ flatMap g (drop (suc i) p)) =
-      flat-split g p i d (omega (arith, length-room n z xs)) ∙ ap (λ (x : A). flatMap g (take i p) ++ (g x ++ flatMap g (drop (suc i) p))) (room-at n z xs i d h k) in
+      flat-split g p i d (omega (arith, length-room n z xs))
+      ∙ ap (λ (x : A). flatMap g (take i p) ++ (g x ++ flatMap g (drop (suc i) p))) (room-at n z xs i d h k) in
       ap (λ (l : List ℕ). pre ++ ((length xs ∷ l) ++ post)) e ∙ simp append-assoc
 
   -- the words before the first free place, and those after it
@@ -171,7 +187,8 @@ module _ {A : Type 0} (n : ℕ) (z : A) (g : A → List ℕ) (m : ℕ) (wide : (
       ap (λ (l : List ℕ). pre ++ ((length xs ∷ l) ++ post)) e ∙ simp append-assoc
 
   -- the words of one element more there, and the count
-  pub fill-free : (x : A) → length xs < n → set (free-before ++ (g x ++ free-after)) b (length xs + 1) ≡ pre ++ (counted n z g (xs ++ x ∷ []) ++ post)
+  pub fill-free : (x : A) → length xs < n
+      → set (free-before ++ (g x ++ free-after)) b (length xs + 1) ≡ pre ++ (counted n z g (xs ++ x ∷ []) ++ post)
   unfolding counted flatMap free-before free-after
   fill-free x h =
       let rest : List ℕ = flatMap g (replicate (n - suc (length xs)) z) in
@@ -181,13 +198,18 @@ module _ {A : Type 0} (n : ℕ) (z : A) (g : A → List ℕ) (m : ℕ) (wide : (
       ∙ set-at pre (length xs) (flatMap g xs ++ (g x ++ (rest ++ post))) (length xs + 1) b at
       ∙ rw (f, c) (simp append-assoc)
 
-  pub push-counted : (x : A) → length xs < n → set (sets (pre ++ (counted n z g xs ++ post)) (b + 1 + length xs * m) (g x)) b (length xs + 1) ≡ pre ++ (counted n z g (xs ++ x ∷ []) ++ post)
+  pub push-counted : (x : A) → length xs < n
+      → set (sets (pre ++ (counted n z g xs ++ post)) (b + 1 + length xs * m) (g x)) b (length xs + 1)
+      ≡ pre ++ (counted n z g (xs ++ x ∷ []) ++ post)
   push-counted x h =
       ap (λ (l : List ℕ). set (sets l (b + 1 + length xs * m) (g x)) b (length xs + 1)) (free-at h)
-      ∙ ap (λ (l : List ℕ). set l b (length xs + 1)) (sets-mid free-before (g z) free-after (g x) (b + 1 + length xs * m) length-free (wide z ∙ sym (wide x)))
+      ∙ ap (λ (l : List ℕ). set l b (length xs + 1))
+      (sets-mid free-before (g z) free-after (g x) (b + 1 + length xs * m) length-free (wide z ∙ sym (wide x)))
       ∙ fill-free x h
 
-  pub cut-counted : (i : ℕ) → i < length xs → length xs ≤ n → g z ≡ replicate m 0 → set (closed (pre ++ (counted n z g xs ++ post)) (b + 1 + i * m) m (b + 1 + n * m)) b (length xs - 1) ≡ pre ++ (counted n z g (removeAt i xs) ++ post)
+  pub cut-counted : (i : ℕ) → i < length xs → length xs ≤ n → g z ≡ replicate m 0
+      → set (closed (pre ++ (counted n z g xs ++ post)) (b + 1 + i * m) m (b + 1 + n * m)) b (length xs - 1)
+      ≡ pre ++ (counted n z g (removeAt i xs) ++ post)
   unfolding counted flatMap front rear
   cut-counted i h k zeros =
       let p : List A = room n z xs in
@@ -210,11 +232,17 @@ module _ {A : Type 0} (n : ℕ) (z : A) (g : A → List ℕ) (m : ℕ) (wide : (
         length-append s post,
       ) in
       let f : flatMap g (room n z (removeAt i xs)) ≡ t ++ (s ++ g z) =
-      ap (flatMap g) (room-cut n z xs i h k) ∙ flat-append g (take i p) (drop (suc i) p ++ (z ∷ [])) ∙ ap (λ (l : List ℕ). t ++ l) (flat-append g (drop (suc i) p) (z ∷ []) ∙ ap (λ (l : List ℕ). s ++ l) (append-nil (g z))) in
+      ap (flatMap g) (room-cut n z xs i h k) ∙ flat-append g (take i p) (drop (suc i) p ++ (z ∷ []))
+      ∙ ap (λ (l : List ℕ). t ++ l)
+      (flat-append g (drop (suc i) p) (z ∷ []) ∙ ap (λ (l : List ℕ). s ++ l) (append-nil (g z))) in
       ap (λ (l : List ℕ). set (closed l (b + 1 + i * m) m (b + 1 + n * m)) b (length xs - 1)) w
-      ∙ ap (λ (l : List ℕ). set l b (length xs - 1)) (closed-mid (pre ++ (length xs ∷ t)) (g (getD xs i z)) s post (b + 1 + i * m) m (b + 1 + n * m) len (wide (getD xs i z)) all ∙ append-assoc pre (length xs ∷ t) (s ++ (replicate m 0 ++ post)))
+      ∙ ap (λ (l : List ℕ). set l b (length xs - 1))
+      (closed-mid (pre ++ (length xs ∷ t)) (g (getD xs i z)) s post (b + 1 + i * m) m (b + 1 + n * m) len
+      (wide (getD xs i z)) all
+      ∙ append-assoc pre (length xs ∷ t) (s ++ (replicate m 0 ++ post)))
       ∙ set-at pre (length xs) (t ++ (s ++ (replicate m 0 ++ post))) (length xs - 1) b at
-      ∙ rw (f, zeros, length-removed xs i h) (ap (λ (l : List ℕ). pre ++ ((length xs - 1) ∷ l)) (sym (regroup t s (replicate m 0) post)))
+      ∙ rw (f, zeros, length-removed xs i h)
+      (ap (λ (l : List ℕ). pre ++ ((length xs - 1) ∷ l)) (sym (regroup t s (replicate m 0) post)))
 
 -- ---- a part
 module _ {A : Type 0} where
@@ -224,7 +252,8 @@ module _ {A : Type 0} where
 
   pub part-cons : (k n : ℕ) (l : List A) (d : A) → k < length l → part k (suc n) l ≡ getD l k d ∷ part (k + 1) n l
   unfolding part
-  part-cons k n l d h = ap (take (suc n)) (drop-cons l k d h) ∙ ap (λ (j : ℕ). getD l k d ∷ take n (drop j l)) (sym (add-one k))
+  part-cons k n l d h =
+      ap (take (suc n)) (drop-cons l k d h) ∙ ap (λ (j : ℕ). getD l k d ∷ take n (drop j l)) (sym (add-one k))
 
   pub part-none : (k : ℕ) (l : List A) → part k 0 l ≡ []
   unfolding part
@@ -248,14 +277,16 @@ module _ {A : Type 0} where
   part-mid a b c k n p q = ap (take n) (drop-at a (b ++ c) k p) ∙ take-at b c n q
 
 -- ---- zeros
-pub zeros-part : (w : List ℕ) (k n : ℕ) → all (isZeroAt w) (places k n) ≡ true → k + n ≤ length w → part k n w ≡ replicate n 0
+pub zeros-part : (w : List ℕ) (k n : ℕ) → all (isZeroAt w) (places k n) ≡ true → k + n ≤ length w
+    → part k n w ≡ replicate n 0
 zeros-part w k zero e h = part-none k w
 zeros-part w k (suc n) e h =
     let z : getD w k 0 ≡ 0 = eqb-true _ _ (every-at (isZeroAt w) k (suc n) e k (omega arith) (omega arith)) in
     let f : all (isZeroAt w) (places (k + 1) n) ≡ true = every-make (isZeroAt w) (k + 1) n (λ i a b. every-at (isZeroAt w) k (suc n) e i (omega arith) (omega arith)) in
     part-cons k n w 0 (omega arith) ∙ ap₂ (λ (x : ℕ) (l : List ℕ). x ∷ l) z (zeros-part w (k + 1) n f (omega arith))
 
-pub part-zeros : (w : List ℕ) (k n : ℕ) → part k n w ≡ replicate n 0 → k + n ≤ length w → all (isZeroAt w) (places k n) ≡ true
+pub part-zeros : (w : List ℕ) (k n : ℕ) → part k n w ≡ replicate n 0 → k + n ≤ length w
+    → all (isZeroAt w) (places k n) ≡ true
 unfolding part
 part-zeros w k n e h =
     every-make (isZeroAt w) k n
@@ -264,11 +295,13 @@ part-zeros w k n e h =
     let s : k + j ≡ i = omega arith in
     let g : getD (take n (drop k w)) j 0 ≡ getD (drop k w) j 0 = getD-take n (drop k w) j 0 (omega arith) in
     let r : getD (replicate n 0) j 0 ≡ 0 = getD-replicate n j 0 0 (omega arith) in
-    eq-eqb (getD w i 0) 0 (ap (λ (x : ℕ). getD w x 0) (sym s) ∙ sym (getD-drop k w j 0) ∙ sym g ∙ ap (λ (l : List ℕ). getD l j 0) e ∙ r))
+    eq-eqb (getD w i 0) 0
+    (ap (λ (x : ℕ). getD w x 0) (sym s) ∙ sym (getD-drop k w j 0) ∙ sym g ∙ ap (λ (l : List ℕ). getD l j 0) e ∙ r))
 
 -- ---- the parts of a counted list
 module _ {A : Type 0} (g : A → List ℕ) (m : ℕ) where
-  pub parts-flat : (w : List ℕ) (n : ℕ) (f : ℕ → A) (k : ℕ) → ((i : ℕ) → i < n → part (k + i * m) m w ≡ g (f i)) → part k (n * m) w ≡ flatMap g (tab n f)
+  pub parts-flat : (w : List ℕ) (n : ℕ) (f : ℕ → A) (k : ℕ) → ((i : ℕ) → i < n → part (k + i * m) m w ≡ g (f i))
+      → part k (n * m) w ≡ flatMap g (tab n f)
   unfolding flatMap tab places
   parts-flat w zero f k h = ap (λ (j : ℕ). part k j w) (zero-mul m) ∙ part-none k w
   parts-flat w (suc n) f k h =
@@ -276,7 +309,8 @@ module _ {A : Type 0} (g : A → List ℕ) (m : ℕ) where
       let e0 : k + 0 * m ≡ k = omega (arith, zero-mul m) in
       let first : part k m w ≡ g (f 0) = ap (λ (j : ℕ). part j m w) (sym e0) ∙ h 0 (omega arith) in
       let rest : part (k + m) (n * m) w ≡ flatMap g (tab n (λ i. f (suc i))) = parts-flat w n (λ i. f (suc i)) (k + m) (λ i a. next i ∙ h (suc i) (omega arith)) in
-      ap (λ (j : ℕ). part k j w) e ∙ part-add k m (n * m) w ∙ ap₂ (λ (x y : List ℕ). x ++ y) first rest ∙ sym (ap (flatMap g) (tab-cons n f))
+      ap (λ (j : ℕ). part k j w) e ∙ part-add k m (n * m) w ∙ ap₂ (λ (x y : List ℕ). x ++ y) first rest
+      ∙ sym (ap (flatMap g) (tab-cons n f))
     where
       next : (i : ℕ) → part (k + m + i * m) m w ≡ part (k + suc i * m) m w
       next i = let e : k + m + i * m ≡ k + suc i * m = omega (arith, suc-mul i m) in ap (λ (j : ℕ). part j m w) e
@@ -286,16 +320,24 @@ module _ {A : Type 0} (g : A → List ℕ) (m : ℕ) where
   flat-zeros z e zero = ap (λ (j : ℕ). replicate j 0) (sym (zero-mul m))
   flat-zeros z e (suc n) =
       let f : m + n * m ≡ suc n * m = omega (arith, suc-mul n m) in
-      ap₂ (λ (x y : List ℕ). x ++ y) e (flat-zeros z e n) ∙ replicate-append-replicate m (n * m) 0 ∙ ap (λ (j : ℕ). replicate j 0) f
+      ap₂ (λ (x y : List ℕ). x ++ y) e (flat-zeros z e n) ∙ replicate-append-replicate m (n * m) 0
+      ∙ ap (λ (j : ℕ). replicate j 0) f
 
   -- the words of a counted list: its count, its elements and zeros
-  pub counted-words : (n : ℕ) (z : A) → g z ≡ replicate m 0 → (xs : List A) → length xs ≤ n → counted n z g xs ≡ length xs ∷ (flatMap g xs ++ replicate ((n - length xs) * m) 0)
+  pub counted-words : (n : ℕ) (z : A) → g z ≡ replicate m 0 → (xs : List A) → length xs ≤ n
+      → counted n z g xs ≡ length xs ∷ (flatMap g xs ++ replicate ((n - length xs) * m) 0)
   unfolding counted
   counted-words n z e xs h =
-      ap (λ (l : List A). length xs ∷ flatMap g l) (room-rest n z xs h) ∙ ap (λ (l : List ℕ). length xs ∷ l) (flat-append g xs (replicate (n - length xs) z) ∙ ap (λ (l : List ℕ). flatMap g xs ++ l) (flat-zeros z e (n - length xs)))
+      ap (λ (l : List A). length xs ∷ flatMap g l) (room-rest n z xs h)
+      ∙ ap (λ (l : List ℕ). length xs ∷ l)
+      (flat-append g xs (replicate (n - length xs) z)
+      ∙ ap (λ (l : List ℕ). flatMap g xs ++ l) (flat-zeros z e (n - length xs)))
 
-  pub parts-counted : (w : List ℕ) (k n c : ℕ) (z : A) (f : ℕ → A) → g z ≡ replicate m 0 → getD w k 0 ≡ c → c ≤ n → k + (1 + n * m) ≤ length w
-      → ((i : ℕ) → i < c → part (k + 1 + i * m) m w ≡ g (f i)) → all (isZeroAt w) (places (k + 1 + c * m) ((n - c) * m)) ≡ true → part k (1 + n * m) w ≡ counted n z g (tab c f)
+  pub parts-counted : (w : List ℕ) (k n c : ℕ) (z : A) (f : ℕ → A) → g z ≡ replicate m 0 → getD w k 0 ≡ c → c ≤ n
+      → k + (1 + n * m) ≤ length w
+      → ((i : ℕ) → i < c → part (k + 1 + i * m) m w ≡ g (f i))
+      → all (isZeroAt w) (places (k + 1 + c * m) ((n - c) * m)) ≡ true
+      → part k (1 + n * m) w ≡ counted n z g (tab c f)
   parts-counted w k n c z f e q b len each zero-rest =
       let lt : length (tab c f) ≡ c = length-tab c f in
       let split : n * m ≡ c * m + (n - c) * m = (let d : n ≡ c + (n - c) = omega arith in ap (λ (j : ℕ). j * m) d ∙ add-mul c (n - c) m) in
@@ -303,5 +345,9 @@ module _ {A : Type 0} (g : A → List ℕ) (m : ℕ) where
       let d : (n - length (tab c f)) * m ≡ (n - c) * m = ap (λ (j : ℕ). (n - j) * m) lt in
       ap (λ (j : ℕ). part k j w) one
       ∙ part-cons k (c * m + (n - c) * m) w 0 (omega arith)
-      ∙ ap₂ (λ (x : ℕ) (l : List ℕ). x ∷ l) (q ∙ sym lt) (part-add (k + 1) (c * m) ((n - c) * m) w ∙ ap₂ (λ (x y : List ℕ). x ++ y) (parts-flat w c f (k + 1) each) (zeros-part w (k + 1 + c * m) ((n - c) * m) zero-rest (omega arith) ∙ ap (λ (j : ℕ). replicate j 0) (sym d)))
+      ∙ ap₂ (λ (x : ℕ) (l : List ℕ). x ∷ l) (q ∙ sym lt)
+      (part-add (k + 1) (c * m) ((n - c) * m) w
+      ∙ ap₂ (λ (x y : List ℕ). x ++ y) (parts-flat w c f (k + 1) each)
+      (zeros-part w (k + 1 + c * m) ((n - c) * m) zero-rest (omega arith)
+      ∙ ap (λ (j : ℕ). replicate j 0) (sym d)))
       ∙ sym (counted-words n z e (tab c f) (omega arith))

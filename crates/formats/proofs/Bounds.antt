@@ -1,5 +1,5 @@
--- A reader whose counts have bounds of its own, given what another wrote: it refuses with 21 the first count above its bound, where that count stands. A format
--- that is put together from formats has this from them.
+-- A reader whose counts have bounds of its own, given what another wrote, refuses with 21 the first count above its
+-- bound, where that count stands. A format that is put together from formats has this from them.
 use Prim.Native.Nat.{ℕ, zero, suc, _+_, _^_, _≤_, _<_}
 use native.Mathlib.Omega.{arith}
 use mathlib.Core.Bool.{Bool, true, false, cond}
@@ -12,7 +12,7 @@ use lib.Seq.{drop-drop, drop-at}
 use Rattle.lists.specs.Bytes.{bytesOf}
 use Rattle.lists.specs.Rules.{Silent, Rule, Applies}
 use Rattle.lists.proofs.Bytes.{length-bytes}
-use Rattle.lists.proofs.Tests.{parts, whole, false-of, Holds}
+use Rattle.lists.proofs.Tests.{parts, whole, false-of}
 use Rattle.formats.specs.Formats.{Out, got, bad, when, then, Format, readNumber, readBoth, both, readAs, as-type, readMany, writeMany, many, within, readCount, readHeaded, writeHeaded, listed, atEnd, readFile, All, ListFits}
 use Rattle.formats.specs.Sizes.{total, along}
 use Rattle.formats.proofs.Formats.{lawful-number, lawful-many, Lawful}
@@ -27,17 +27,21 @@ abbrev pub Judged : {A : Type 0} → Format A → List ℕ → A → ℕ → Lis
 Judged F w x at rs = (b t : List ℕ) → drop at b ≡ w ++ t → F .read (w ++ t) ≡ stopped b rs (got x t)
 
 -- ---- rules one after another, and what follows a reader
-stopped-append : {A : Type 0} (b : List ℕ) (rs qs : List (Rule ℕ)) (o : Out A) → stopped b (rs ++ qs) o ≡ stopped b rs (stopped b qs o)
+stopped-append : {A : Type 0} (b : List ℕ) (rs qs : List (Rule ℕ)) (o : Out A)
+    → stopped b (rs ++ qs) o ≡ stopped b rs (stopped b qs o)
 unfolding stopped
 stopped-append b [] qs o = refl
 stopped-append b (r ∷ rs) qs o = ap (cond (r .1) (bad 21 (drop (r .0) b))) (stopped-append b rs qs o)
 
-then-stopped : {A B : Type 0} (b : List ℕ) (rs : List (Rule ℕ)) (o : Out A) (f : A → List ℕ → Out B) → then (stopped b rs o) f ≡ stopped b rs (then o f)
+then-stopped : {A B : Type 0} (b : List ℕ) (rs : List (Rule ℕ)) (o : Out A) (f : A → List ℕ → Out B)
+    → then (stopped b rs o) f ≡ stopped b rs (then o f)
 unfolding stopped then
 then-stopped b [] o f = refl
 then-stopped {A} {B} b (r ∷ rs) o f = by (r .1) ∙ ap (cond (r .1) (bad 21 (drop (r .0) b))) (then-stopped b rs o f)
   where
-    by : (c : Bool) → then (cond c (bad 21 (drop (r .0) b)) (stopped b rs o)) f ≡ cond c (bad 21 (drop (r .0) b)) (then (stopped b rs o) f)
+    by : (c : Bool)
+        → then (cond c (bad 21 (drop (r .0) b)) (stopped b rs o)) f
+        ≡ cond c (bad 21 (drop (r .0) b)) (then (stopped b rs o) f)
     by true = refl
     by false = refl
 
@@ -46,13 +50,16 @@ next-place : (b u v t : List ℕ) (at n : ℕ) → length u ≡ n → drop at b 
 next-place b u v t at n l e = sym (drop-drop n at b) ∙ ap (drop n) (e ∙ append-assoc u v t) ∙ drop-at u (v ++ t) n l
 
 -- ---- a format without such counts
-pub judged-back : {A : Type 0} (F : Format A) (P : A → Type 0) → Lawful F P → (x : A) → P x → (at : ℕ) → Judged F (F .write x) x at []
+pub judged-back : {A : Type 0} (F : Format A) (P : A → Type 0) → Lawful F P → (x : A) → P x → (at : ℕ)
+    → Judged F (F .write x) x at []
 unfolding stopped
 judged-back F P f x h at b t e = f .back x t h
 
 -- ---- one after another
-module _ {A B : Type 0} (F : Format A) (G : Format B) (u v : List ℕ) (x : A) (y : B) (at n : ℕ) (rs qs : List (Rule ℕ)) where
-  pub judged-both : length u ≡ n → Judged F u x at rs → Judged G v y (at + n) qs → Judged (both F G) (u ++ v) (x, y) at (rs ++ qs)
+module _ {A B : Type 0} (F : Format A) (G : Format B) (u v : List ℕ) (x : A) (y : B) (at n : ℕ)
+    (rs qs : List (Rule ℕ)) where
+  pub judged-both : length u ≡ n → Judged F u x at rs → Judged G v y (at + n) qs
+      → Judged (both F G) (u ++ v) (x, y) at (rs ++ qs)
   unfolding readBoth then
   judged-both l f g b t e =
       let after : A → List ℕ → Out (A × B) = λ a s. then (G .read s) (λ c r. got (a, c) r) in
@@ -66,23 +73,32 @@ module _ {A B : Type 0} (F : Format A) (G : Format B) (u v : List ℕ) (x : A) (
       ∙ sym (stopped-append b rs qs (got (x, y) t))
 
 -- ---- seen as another type
-pub judged-as : {A B : Type 0} (F : Format A) (to : A → B) (from : B → A) (w : List ℕ) (x : A) (at : ℕ) (rs : List (Rule ℕ)) → Judged F w x at rs → Judged (as-type F to from) w (to x) at rs
+pub judged-as : {A B : Type 0} (F : Format A) (to : A → B) (from : B → A) (w : List ℕ) (x : A) (at : ℕ)
+    (rs : List (Rule ℕ))
+    → Judged F w x at rs → Judged (as-type F to from) w (to x) at rs
 unfolding readAs then
-judged-as {A} F to from w x at rs f b t e = ap (λ (o : Out A). then o (λ a s. got (to a) s)) (f b t e) ∙ then-stopped b rs (got x t) (λ a s. got (to a) s)
+judged-as {A} F to from w x at rs f b t e =
+    ap (λ (o : Out A). then o (λ a s. got (to a) s)) (f b t e) ∙ then-stopped b rs (got x t) (λ a s. got (to a) s)
 
 -- ---- n of one kind, written by another format
-module _ {A : Type 0} (F G : Format A) (P : A → Type 0) (size : A → ℕ) (give : ℕ → A → List (Rule ℕ)) (sized : (x : A) → length (G .write x) ≡ size x) (each : (x : A) (at : ℕ) → P x → Judged F (G .write x) x at (give at x)) where
-  pub judged-many : (xs : List A) (at : ℕ) → All P xs → Judged (many F (length xs)) (writeMany G xs) xs at (along size give at xs)
+module _ {A : Type 0} (F G : Format A) (P : A → Type 0) (size : A → ℕ) (give : ℕ → A → List (Rule ℕ))
+    (sized : (x : A) → length (G .write x) ≡ size x)
+    (each : (x : A) (at : ℕ) → P x → Judged F (G .write x) x at (give at x)) where
+  pub judged-many : (xs : List A) (at : ℕ) → All P xs
+      → Judged (many F (length xs)) (writeMany G xs) xs at (along size give at xs)
   unfolding readMany writeMany along stopped then
   judged-many [] at h b t e = refl
   judged-many (x ∷ xs) at h b t e =
       let rest : List (Rule ℕ) = along size give (at + size x) xs in
       let after : A → List ℕ → Out (List A) = λ a s. then (readMany F (length xs) s) (λ later r. got (a ∷ later) r) in
       let onward : after x (writeMany G xs ++ t) ≡ stopped b rest (got (x ∷ xs) t) =
-      ap (λ (o : Out (List A)). then o (λ later r. got (x ∷ later) r)) (judged-many xs (at + size x) (h .1) b t (next-place b (G .write x) (writeMany G xs) t at (size x) (sized x) e))
+      ap (λ (o : Out (List A)). then o (λ later r. got (x ∷ later) r))
+      (judged-many xs (at + size x) (h .1) b t
+      (next-place b (G .write x) (writeMany G xs) t at (size x) (sized x) e))
       ∙ then-stopped b rest (got xs t) (λ later r. got (x ∷ later) r) in
       ap (λ (s : List ℕ). then (F .read s) after) (append-assoc (G .write x) (writeMany G xs) t)
-      ∙ ap (λ (o : Out A). then o after) (each x at (h .0) b (writeMany G xs ++ t) (e ∙ append-assoc (G .write x) (writeMany G xs) t))
+      ∙ ap (λ (o : Out A). then o after)
+      (each x at (h .0) b (writeMany G xs ++ t) (e ∙ append-assoc (G .write x) (writeMany G xs) t))
       ∙ then-stopped b (give at x) (got x (writeMany G xs ++ t)) after
       ∙ ap (stopped b (give at x)) onward
       ∙ sym (stopped-append b (give at x) rest (got (x ∷ xs) t))
@@ -98,34 +114,46 @@ module _ {A : Type 0} (F : Format A) (w lo hi : ℕ) (xs : List A) (v : List ℕ
 
   few-enough : lo ≤ length xs → ltb hi (length xs) ≡ false → within lo hi (length xs) ≡ true
   unfolding within
-  few-enough a h = whole (leb lo (length xs) ∷ leb (length xs) hi ∷ []) (le-leb _ _ a, (le-leb _ _ (ltb-false hi (length xs) h), tt))
+  few-enough a h =
+      whole (leb lo (length xs) ∷ leb (length xs) hi ∷ []) (le-leb _ _ a, (le-leb _ _ (ltb-false hi (length xs) h), tt))
 
   -- a count that was read, judged: the refusal begins where it stands
   unfoldable judge : List ℕ → ℕ → List ℕ → Out ℕ
   judge s c r = when (within lo hi c) (got c r) (bad 21 s)
 
-  pub judged-listed : length xs < 256 ^ w → lo ≤ length xs → Judged (many F (length xs)) v xs (at + w) rs → Judged (listed w lo hi F) (bytesOf w (length xs) ++ v) xs at ((at, ltb hi (length xs)) ∷ rs)
+  pub judged-listed : length xs < 256 ^ w → lo ≤ length xs → Judged (many F (length xs)) v xs (at + w) rs
+      → Judged (listed w lo hi F) (bytesOf w (length xs) ++ v) xs at ((at, ltb hi (length xs)) ∷ rs)
   unfolding readHeaded readCount stopped then when judge
   judged-listed small least f b t e =
-      ap (λ (s : List ℕ). then (then (readNumber w s) (judge s)) (readMany F)) (append-assoc (bytesOf w (length xs)) v t)
-      ∙ ap (λ (o : Out ℕ). then (then o (judge (bytesOf w (length xs) ++ (v ++ t)))) (readMany F)) (lawful-number w .back (length xs) (v ++ t) small)
+      ap (λ (s : List ℕ). then (then (readNumber w s) (judge s)) (readMany F))
+      (append-assoc (bytesOf w (length xs)) v t)
+      ∙ ap (λ (o : Out ℕ). then (then o (judge (bytesOf w (length xs) ++ (v ++ t)))) (readMany F))
+      (lawful-number w .back (length xs) (v ++ t) small)
       ∙ by (ltb hi (length xs)) refl
     where
-      by : (c : Bool) → ltb hi (length xs) ≡ c → then (judge (bytesOf w (length xs) ++ (v ++ t)) (length xs) (v ++ t)) (readMany F) ≡ cond c (bad 21 (drop at b)) (stopped b rs (got xs t))
+      by : (c : Bool) → ltb hi (length xs) ≡ c
+          → then (judge (bytesOf w (length xs) ++ (v ++ t)) (length xs) (v ++ t)) (readMany F)
+          ≡ cond c (bad 21 (drop at b)) (stopped b rs (got xs t))
       by true h = rw (too-many h) (ap (bad 21) (sym (e ∙ append-assoc (bytesOf w (length xs)) v t)))
-      by false h = rw (few-enough least h) (f b t (next-place b (bytesOf w (length xs)) v t at w (length-bytes w (length xs)) e))
+      by false h =
+          rw (few-enough least h) (f b t (next-place b (bytesOf w (length xs)) v t at w (length-bytes w (length xs)) e))
 
 -- a list of elements that have no counts, written with another bound
 module _ {A : Type 0} (F : Format A) (P : A → Type 0) (f : Lawful F P) (w lo hi high : ℕ) (xs : List A) where
-  pub judged-fields : (at : ℕ) → ListFits w lo high P xs → Judged (listed w lo hi F) (listed w lo high F .write xs) xs at ((at, ltb hi (length xs)) ∷ [])
+  pub judged-fields : (at : ℕ) → ListFits w lo high P xs
+      → Judged (listed w lo hi F) (listed w lo high F .write xs) xs at ((at, ltb hi (length xs)) ∷ [])
   unfolding writeHeaded
-  judged-fields at h = judged-listed F w lo hi xs (writeMany F xs) at [] (h .said) (h .least) (judged-back (many F (length xs)) _ (lawful-many F P f (length xs)) xs (h .fits) (at + w))
+  judged-fields at h =
+      judged-listed F w lo hi xs (writeMany F xs) at [] (h .said) (h .least)
+      (judged-back (many F (length xs)) _ (lawful-many F P f (length xs)) xs (h .fits) (at + w))
 
 -- ---- the whole file
-pub judged-file : {A : Type 0} (F : Format A) (w : List ℕ) (x : A) (rs : List (Rule ℕ)) → Judged F w x 0 rs → readFile F w ≡ stopped w rs (got x [])
+pub judged-file : {A : Type 0} (F : Format A) (w : List ℕ) (x : A) (rs : List (Rule ℕ)) → Judged F w x 0 rs
+    → readFile F w ≡ stopped w rs (got x [])
 unfolding readFile atEnd then
 judged-file {A} F w x rs f =
-    ap (λ (s : List ℕ). then (F .read s) atEnd) (sym (append-nil w)) ∙ ap (λ (o : Out A). then o atEnd) (f w [] (sym (append-nil w))) ∙ then-stopped w rs (got x []) atEnd
+    ap (λ (s : List ℕ). then (F .read s) atEnd) (sym (append-nil w))
+    ∙ ap (λ (o : Out A). then o atEnd) (f w [] (sym (append-nil w))) ∙ then-stopped w rs (got x []) atEnd
 
 -- what comes out: a refusal where a rule applies, and nothing else where none does
 module _ {A : Type 0} (b : List ℕ) (d : Rule ℕ) (o : Out A) where
@@ -135,7 +163,9 @@ module _ {A : Type 0} (b : List ℕ) (d : Rule ℕ) (o : Out A) where
   stops-at (r ∷ rs) zero a = rw (a .holds)
   stops-at (r ∷ rs) (suc k) a =
       let h : suc k < length (r ∷ rs) = a .there in
-      rw (a .earlier 0 (omega arith)) (stops-at rs k (record { there = omega arith; holds = a .holds; earlier = λ j l. a .earlier (suc j) (omega arith) }))
+      rw (a .earlier 0 (omega arith))
+      (stops-at rs k
+      (record { there = omega arith; holds = a .holds; earlier = λ j l. a .earlier (suc j) (omega arith) }))
 
   pub stops-never : (rs : List (Rule ℕ)) → Silent rs d → stopped b rs o ≡ o
   unfolding stopped
@@ -152,8 +182,12 @@ all-one P [] d h i l = absurd (omega arith)
 all-one P (x ∷ xs) d h zero l = h .0
 all-one P (x ∷ xs) d h (suc i) l = all-one P xs d (h .1) i (omega arith)
 
-module _ {A : Type 0} (size : A → ℕ) (give : ℕ → A → List (Rule ℕ)) (m : ℕ) (each : (at : ℕ) (x : A) → at + size x ≤ m → All (λ (r : Rule ℕ). r .0 ≤ m) (give at x)) where
-  pub along-within : (at : ℕ) (xs : List A) → at + total size xs ≤ m → All (λ (r : Rule ℕ). r .0 ≤ m) (along size give at xs)
+module _ {A : Type 0} (size : A → ℕ) (give : ℕ → A → List (Rule ℕ)) (m : ℕ)
+    (each : (at : ℕ) (x : A) → at + size x ≤ m → All (λ (r : Rule ℕ). r .0 ≤ m) (give at x)) where
+  pub along-within : (at : ℕ) (xs : List A) → at + total size xs ≤ m
+      → All (λ (r : Rule ℕ). r .0 ≤ m) (along size give at xs)
   unfolding along total
   along-within at [] h = tt
-  along-within at (x ∷ xs) h = all-joined _ (give at x) (along size give (at + size x) xs) (each at x (omega arith)) (along-within (at + size x) xs (omega arith))
+  along-within at (x ∷ xs) h =
+      all-joined _ (give at x) (along size give (at + size x) xs) (each at x (omega arith))
+      (along-within (at + size x) xs (omega arith))

@@ -1,4 +1,5 @@
--- The laws of formats. A format that is put together from formats has its laws from theirs: none is proved again for a whole plan.
+-- The laws of formats. A format that is put together from formats has its
+-- laws from theirs: none is proved again for a whole plan.
 use Prim.Native.Nat.{ℕ, zero, suc, _+_, _^_, _≤_, _<_}
 use native.Mathlib.Omega.{arith}
 use mathlib.Core.Bool.{Bool, true, false}
@@ -38,15 +39,21 @@ pub record Lawful {A : Type 0} (F : Format A) (Fits : A → Type 0) : Type 0 whe
 
 -- what is left stands at a place
 pub part-at : (t b : List ℕ) → Part t b → (at : ℕ) × (at ≤ length b) × (t ≡ drop at b)
-part-at t b (w, e) = (length w, omega (arith, ap length e, length-append w t), sym (ap (drop (length w)) e ∙ drop-at w t (length w) refl))
+part-at t b (w, e) = (
+  length w,
+  omega (arith, ap length e, length-append w t),
+  sym (ap (drop (length w)) e ∙ drop-at w t (length w) refl),
+)
 
 -- ---- what every reader is made of
-then-part : {A B : Type 0} (o : Out A) (f : A → List ℕ → Out B) (b : List ℕ) → Part (left o) b → ((x : A) (t : List ℕ) → Part (left (f x t)) t) → Part (left (then o f)) b
+then-part : {A B : Type 0} (o : Out A) (f : A → List ℕ → Out B) (b : List ℕ) → Part (left o) b
+    → ((x : A) (t : List ℕ) → Part (left (f x t)) t) → Part (left (then o f)) b
 unfolding left then
 then-part (got x t) f b p h = part-trans (left (f x t)) t b (h x t) p
 then-part (bad k t) f b p h = p
 
-when-part : {A : Type 0} (c : Bool) (o : Out A) (k : ℕ) (t b : List ℕ) → Part (left o) b → Part t b → Part (left (when c o (bad k t))) b
+when-part : {A : Type 0} (c : Bool) (o : Out A) (k : ℕ) (t b : List ℕ) → Part (left o) b → Part t b
+    → Part (left (when c o (bad k t))) b
 unfolding left when
 when-part true o k t b p q = p
 when-part false o k t b p q = q
@@ -54,12 +61,14 @@ when-part false o k t b p q = q
 no-value : {A : Type 0} (k : ℕ) (s : List ℕ) (x : A) (t : List ℕ) → bad k s ≡ got x t → ⊥
 no-value k s x t e = let z : _≡_ {A = ℕ} 0 1 = cc in omega arith
 
-pub then-got : {A B : Type 0} (o : Out A) (f : A → List ℕ → Out B) (x : B) (t : List ℕ) → then o f ≡ got x t → (y : A) × (s : List ℕ) × (o ≡ got y s) × (f y s ≡ got x t)
+pub then-got : {A B : Type 0} (o : Out A) (f : A → List ℕ → Out B) (x : B) (t : List ℕ) → then o f ≡ got x t
+    → (y : A) × (s : List ℕ) × (o ≡ got y s) × (f y s ≡ got x t)
 unfolding then
 then-got (got y s) f x t e = (y, s, refl, e)
 then-got (bad k s) f x t e = absurd (no-value k s x t e)
 
-when-got : {A : Type 0} (c : Bool) (o : Out A) (k : ℕ) (s : List ℕ) (x : A) (t : List ℕ) → when c o (bad k s) ≡ got x t → (c ≡ true) × (o ≡ got x t)
+when-got : {A : Type 0} (c : Bool) (o : Out A) (k : ℕ) (s : List ℕ) (x : A) (t : List ℕ) → when c o (bad k s) ≡ got x t
+    → (c ≡ true) × (o ≡ got x t)
 unfolding when
 when-got true o k s x t e = (refl, e)
 when-got false o k s x t e = absurd (no-value k s x t e)
@@ -72,19 +81,23 @@ same-number : {A : Type 0} (j k : ℕ) (s t : List ℕ) → _≡_ {A = Out A} (b
 same-number j k s t e = cc
 
 -- (P is what is known of the number of each part's refusals)
-then-bad : {A B : Type 0} (o : Out A) (f : A → List ℕ → Out B) (P : ℕ → Type 0) → ((k : ℕ) (t : List ℕ) → o ≡ bad k t → P k) → ((x : A) (s : List ℕ) (k : ℕ) (t : List ℕ) → f x s ≡ bad k t → P k) → (k : ℕ) (t : List ℕ) → then o f ≡ bad k t → P k
+then-bad : {A B : Type 0} (o : Out A) (f : A → List ℕ → Out B) (P : ℕ → Type 0)
+    → ((k : ℕ) (t : List ℕ) → o ≡ bad k t → P k) → ((x : A) (s : List ℕ) (k : ℕ) (t : List ℕ) → f x s ≡ bad k t → P k)
+    → (k : ℕ) (t : List ℕ) → then o f ≡ bad k t → P k
 unfolding then
 then-bad (got x s) f P h g k t e = g x s k t e
 then-bad (bad j s) f P h g k t e = subst P (same-number j k s t e) (h j s refl)
 
-when-bad : {A : Type 0} (c : Bool) (o : Out A) (j : ℕ) (s : List ℕ) (P : ℕ → Type 0) → ((k : ℕ) (t : List ℕ) → o ≡ bad k t → P k) → P j → (k : ℕ) (t : List ℕ) → when c o (bad j s) ≡ bad k t → P k
+when-bad : {A : Type 0} (c : Bool) (o : Out A) (j : ℕ) (s : List ℕ) (P : ℕ → Type 0)
+    → ((k : ℕ) (t : List ℕ) → o ≡ bad k t → P k) → P j → (k : ℕ) (t : List ℕ) → when c o (bad j s) ≡ bad k t → P k
 unfolding when
 when-bad true o j s P h p k t e = h k t e
 when-bad false o j s P h p k t e = subst P (same-number j k s t e) p
 
 -- what is left of bytes is bytes
 left-bytes : (b w t : List ℕ) → b ≡ w ++ t → Bytes b → Bytes t
-left-bytes b w t e h i = rw (getD-append-add w t i 0) at (subst (λ (l : List ℕ). getD l (length w + i) 0 < 256) e (h (length w + i)))
+left-bytes b w t e h i =
+    rw (getD-append-add w t i 0) at (subst (λ (l : List ℕ). getD l (length w + i) 0 < 256) e (h (length w + i)))
 
 -- ---- a number of k bytes
 module _ (k : ℕ) where
@@ -92,9 +105,15 @@ module _ (k : ℕ) where
   unfolding readNumber when
   back-number n t h =
       let l : length (bytesOf k n) ≡ k = length-bytes k n in
-      rw (le-leb k (length (bytesOf k n ++ t)) (omega (arith, length-append (bytesOf k n) t)), take-at (bytesOf k n) t k l, drop-at (bytesOf k n) t k l, little-bytes k n h)
+      rw (
+        le-leb k (length (bytesOf k n ++ t)) (omega (arith, length-append (bytesOf k n) t)),
+        take-at (bytesOf k n) t k l,
+        drop-at (bytesOf k n) t k l,
+        little-bytes k n h,
+      )
 
-  tight-number : (b : List ℕ) (n : ℕ) (t : List ℕ) → Bytes b → readNumber k b ≡ got n t → (b ≡ bytesOf k n ++ t) × (n < 256 ^ k)
+  tight-number : (b : List ℕ) (n : ℕ) (t : List ℕ) → Bytes b → readNumber k b ≡ got n t
+      → (b ≡ bytesOf k n ++ t) × (n < 256 ^ k)
   unfolding readNumber
   tight-number b n t h e =
       let g = when-got (leb k (length b)) (got (little (take k b)) (drop k b)) 20 b n t e in
@@ -111,22 +130,33 @@ module _ (k : ℕ) where
 
   part-number : (b : List ℕ) → Part (left (readNumber k b)) b
   unfolding readNumber left
-  part-number b = when-part (leb k (length b)) (got (little (take k b)) (drop k b)) 20 b b (take k b, sym (take-append-drop k b)) ([], refl)
+  part-number b =
+      when-part (leb k (length b)) (got (little (take k b)) (drop k b)) 20 b b (take k b, sym (take-append-drop k b))
+      ([], refl)
 
   refuses-number : (b : List ℕ) (j : ℕ) (t : List ℕ) → readNumber k b ≡ bad j t → Told j
   unfolding readNumber
-  refuses-number b = when-bad (leb k (length b)) (got (little (take k b)) (drop k b)) 20 b Told (λ j t e. absurd (no-refusal (little (take k b)) (drop k b) j t e)) (inl refl)
+  refuses-number b =
+      when-bad (leb k (length b)) (got (little (take k b)) (drop k b)) 20 b Told
+      (λ j t e. absurd (no-refusal (little (take k b)) (drop k b) j t e)) (inl refl)
 
   pub lawful-number : Lawful (number k) (λ n. n < 256 ^ k)
   lawful-number = record { back = back-number; tight = tight-number; part = part-number; refuses = refuses-number }
 
 -- ---- one after another
-module _ {A B : Type 0} (F : Format A) (G : Format B) (P : A → Type 0) (Q : B → Type 0) (f : Lawful F P) (g : Lawful G Q) where
+module _ {A B : Type 0} (F : Format A) (G : Format B) (P : A → Type 0) (Q : B → Type 0) (f : Lawful F P)
+    (g : Lawful G Q) where
   back-both : (p : A × B) (t : List ℕ) → P (p .0) × Q (p .1) → readBoth F G (writeBoth F G p ++ t) ≡ got p t
   unfolding readBoth writeBoth then
-  back-both p t h = rw (append-assoc (F .write (p .0)) (G .write (p .1)) t, f .back (p .0) (G .write (p .1) ++ t) (h .0), g .back (p .1) t (h .1))
+  back-both p t h =
+      rw (
+        append-assoc (F .write (p .0)) (G .write (p .1)) t,
+        f .back (p .0) (G .write (p .1) ++ t) (h .0),
+        g .back (p .1) t (h .1),
+      )
 
-  tight-both : (b : List ℕ) (p : A × B) (t : List ℕ) → Bytes b → readBoth F G b ≡ got p t → (b ≡ writeBoth F G p ++ t) × (P (p .0) × Q (p .1))
+  tight-both : (b : List ℕ) (p : A × B) (t : List ℕ) → Bytes b → readBoth F G b ≡ got p t
+      → (b ≡ writeBoth F G p ++ t) × (P (p .0) × Q (p .1))
   unfolding readBoth writeBoth then
   tight-both b p t h e =
       let (x, s, ex, e') = then-got (F .read b) (λ x s. then (G .read s) (λ y t. got (x, y) t)) p t e in
@@ -136,7 +166,8 @@ module _ {A B : Type 0} (F : Format A) (G : Format B) (P : A → Type 0) (Q : B 
       let q : (x, y) ≡ p = cc in
       let eu : u ≡ t = cc in
       let w : b ≡ (F .write x ++ G .write y) ++ u = m .0 ∙ ap (λ (l : List ℕ). F .write x ++ l) (n .0) ∙ sym (append-assoc (F .write x) (G .write y) u) in
-      subst (λ (r : A × B). (b ≡ (F .write (r .0) ++ G .write (r .1)) ++ t) × (P (r .0) × Q (r .1))) q (rw eu at w, (m .1, n .1))
+      subst (λ (r : A × B). (b ≡ (F .write (r .0) ++ G .write (r .1)) ++ t) × (P (r .0) × Q (r .1))) q
+      (rw eu at w, (m .1, n .1))
 
   part-both : (b : List ℕ) → Part (left (readBoth F G b)) b
   unfolding readBoth left
@@ -169,7 +200,8 @@ module _ {A : Type 0} (F : Format A) (P : A → Type 0) (f : Lawful F P) where
   start-part b (got x t) p = p
   start-part b (bad k t) p = ([], refl)
 
-  start-bad : (b : List ℕ) (o : Out A) → ((k : ℕ) (t : List ℕ) → o ≡ bad k t → Told k) → (k : ℕ) (t : List ℕ) → startAt b o ≡ bad k t → Told k
+  start-bad : (b : List ℕ) (o : Out A) → ((k : ℕ) (t : List ℕ) → o ≡ bad k t → Told k) → (k : ℕ) (t : List ℕ)
+      → startAt b o ≡ bad k t → Told k
   unfolding startAt
   start-bad b (got x s) h k t e = absurd (no-refusal x s k t e)
   start-bad b (bad j s) h k t e = subst Told (same-number j k b t e) (h j s refl)
@@ -183,12 +215,14 @@ module _ {A : Type 0} (F : Format A) (P : A → Type 0) (f : Lawful F P) where
   }
 
 -- ---- seen as another type
-module _ {A B : Type 0} (F : Format A) (P : A → Type 0) (f : Lawful F P) (to : A → B) (from : B → A) (there : (y : B) → to (from y) ≡ y) (here : (x : A) → from (to x) ≡ x) where
+module _ {A B : Type 0} (F : Format A) (P : A → Type 0) (f : Lawful F P) (to : A → B) (from : B → A)
+    (there : (y : B) → to (from y) ≡ y) (here : (x : A) → from (to x) ≡ x) where
   back-as : (y : B) (t : List ℕ) → P (from y) → readAs F to from (F .write (from y) ++ t) ≡ got y t
   unfolding readAs then
   back-as y t h = rw (f .back (from y) t h, there y)
 
-  tight-as : (b : List ℕ) (y : B) (t : List ℕ) → Bytes b → readAs F to from b ≡ got y t → (b ≡ F .write (from y) ++ t) × P (from y)
+  tight-as : (b : List ℕ) (y : B) (t : List ℕ) → Bytes b → readAs F to from b ≡ got y t
+      → (b ≡ F .write (from y) ++ t) × P (from y)
   unfolding readAs
   tight-as b y t h e =
       let (x, s, ex, e') = then-got (F .read b) (λ x t. got (to x) t) y t e in
@@ -204,7 +238,8 @@ module _ {A B : Type 0} (F : Format A) (P : A → Type 0) (f : Lawful F P) (to :
 
   refuses-as : (b : List ℕ) (k : ℕ) (t : List ℕ) → readAs F to from b ≡ bad k t → Told k
   unfolding readAs
-  refuses-as b = then-bad (F .read b) (λ x t. got (to x) t) Told (f .refuses b) (λ x s k t e. absurd (no-refusal (to x) s k t e))
+  refuses-as b =
+      then-bad (F .read b) (λ x t. got (to x) t) Told (f .refuses b) (λ x s k t e. absurd (no-refusal (to x) s k t e))
 
   pub lawful-as : Lawful (as-type F to from) (λ y. P (from y))
   lawful-as = record { back = back-as; tight = tight-as; part = part-as; refuses = refuses-as }
@@ -214,9 +249,11 @@ module _ {A : Type 0} (F : Format A) (P : A → Type 0) (f : Lawful F P) where
   back-many : (xs : List A) (t : List ℕ) → All P xs → readMany F (length xs) (writeMany F xs ++ t) ≡ got xs t
   unfolding readMany writeMany then
   back-many [] t h = refl
-  back-many (x ∷ xs) t h = rw (append-assoc (F .write x) (writeMany F xs) t, f .back x (writeMany F xs ++ t) (h .0), back-many xs t (h .1))
+  back-many (x ∷ xs) t h =
+      rw (append-assoc (F .write x) (writeMany F xs) t, f .back x (writeMany F xs ++ t) (h .0), back-many xs t (h .1))
 
-  tight-many : (n : ℕ) (b : List ℕ) (xs : List A) (t : List ℕ) → Bytes b → readMany F n b ≡ got xs t → (b ≡ writeMany F xs ++ t) × ((length xs ≡ n) × All P xs)
+  tight-many : (n : ℕ) (b : List ℕ) (xs : List A) (t : List ℕ) → Bytes b → readMany F n b ≡ got xs t
+      → (b ≡ writeMany F xs ++ t) × ((length xs ≡ n) × All P xs)
   unfolding readMany writeMany then
   tight-many zero b xs t h e =
       let q : [] ≡ xs = cc in
@@ -230,7 +267,8 @@ module _ {A : Type 0} (F : Format A) (P : A → Type 0) (f : Lawful F P) where
       let q : x ∷ ys ≡ xs = cc in
       let eu : u ≡ t = cc in
       let w : b ≡ (F .write x ++ writeMany F ys) ++ u = m .0 ∙ ap (λ (l : List ℕ). F .write x ++ l) (g .0) ∙ sym (append-assoc (F .write x) (writeMany F ys) u) in
-      subst (λ (l : List A). (b ≡ writeMany F l ++ t) × ((length l ≡ suc n) × All P l)) q (rw eu at w, (ap suc (g .1 .0), (m .1, g .1 .1)))
+      subst (λ (l : List A). (b ≡ writeMany F l ++ t) × ((length l ≡ suc n) × All P l)) q
+      (rw eu at w, (ap suc (g .1 .0), (m .1, g .1 .1)))
 
   part-many : (n : ℕ) (b : List ℕ) → Part (left (readMany F n b)) b
   unfolding readMany left
@@ -253,9 +291,11 @@ module _ {A : Type 0} (F : Format A) (P : A → Type 0) (f : Lawful F P) where
 module _ (w lo hi : ℕ) where
   back-count : (c : ℕ) (t : List ℕ) → c < 256 ^ w → lo ≤ c → c ≤ hi → readCount w lo hi (bytesOf w c ++ t) ≡ got c t
   unfolding readCount then when within
-  back-count c t small a z = rw (back-number w c t small, whole (leb lo c ∷ leb c hi ∷ []) (le-leb lo c a, (le-leb c hi z, tt)))
+  back-count c t small a z =
+      rw (back-number w c t small, whole (leb lo c ∷ leb c hi ∷ []) (le-leb lo c a, (le-leb c hi z, tt)))
 
-  pub count-got : (b : List ℕ) (c : ℕ) (s : List ℕ) → readCount w lo hi b ≡ got c s → (readNumber w b ≡ got c s) × ((lo ≤ c) × (c ≤ hi))
+  pub count-got : (b : List ℕ) (c : ℕ) (s : List ℕ) → readCount w lo hi b ≡ got c s
+      → (readNumber w b ≡ got c s) × ((lo ≤ c) × (c ≤ hi))
   unfolding readCount within
   count-got b c s e =
       let (n, u, en, e') = then-got (readNumber w b) (λ c s. when (within lo hi c) (got c s) (bad 21 b)) c s e in
@@ -280,8 +320,10 @@ module _ (w lo hi : ℕ) where
       (λ c s. when-bad (within lo hi c) (got c s) 21 b Told (λ k t e. absurd (no-refusal c s k t e)) (inr refl))
 
 -- as many are read as were asked for, and each has what every value that is read has
-module _ {A : Type 0} (F : Format A) (P : A → Type 0) (each : (b : List ℕ) (x : A) (t : List ℕ) → F .read b ≡ got x t → P x) where
-  pub many-got : (n : ℕ) (b : List ℕ) (xs : List A) (t : List ℕ) → readMany F n b ≡ got xs t → (length xs ≡ n) × All P xs
+module _ {A : Type 0} (F : Format A) (P : A → Type 0)
+    (each : (b : List ℕ) (x : A) (t : List ℕ) → F .read b ≡ got x t → P x) where
+  pub many-got : (n : ℕ) (b : List ℕ) (xs : List A) (t : List ℕ) → readMany F n b ≡ got xs t
+      → (length xs ≡ n) × All P xs
   unfolding readMany
   many-got zero b xs t e = let q : [] ≡ xs = cc in subst (λ (l : List A). (length l ≡ 0) × All P l) q (refl, tt)
   many-got (suc n) b xs t e =
@@ -291,7 +333,8 @@ module _ {A : Type 0} (F : Format A) (P : A → Type 0) (each : (b : List ℕ) (
       let q : x ∷ ys ≡ xs = cc in
       subst (λ (l : List A). (length l ≡ suc n) × All P l) q (ap suc (g .0), (each b x s ex, g .1))
 
-  pub listed-got : (w lo hi : ℕ) (b : List ℕ) (xs : List A) (t : List ℕ) → listed w lo hi F .read b ≡ got xs t → (length xs ≤ hi) × All P xs
+  pub listed-got : (w lo hi : ℕ) (b : List ℕ) (xs : List A) (t : List ℕ) → listed w lo hi F .read b ≡ got xs t
+      → (length xs ≤ hi) × All P xs
   unfolding readHeaded
   listed-got w lo hi b xs t e =
       let (c, s, ec, e') = then-got (readCount w lo hi b) (λ c s. readMany F c s) xs t e in
@@ -300,13 +343,21 @@ module _ {A : Type 0} (F : Format A) (P : A → Type 0) (each : (b : List ℕ) (
       (omega arith, h)
 
 -- ---- after a count
-module _ {A : Type 0} (w lo hi : ℕ) (F : ℕ → Format A) (size : A → ℕ) (P : ℕ → A → Type 0) (f : (c : ℕ) → Lawful (F c) (P c))
+module _ {A : Type 0} (w lo hi : ℕ) (F : ℕ → Format A) (size : A → ℕ) (P : ℕ → A → Type 0)
+    (f : (c : ℕ) → Lawful (F c) (P c))
     (sized : (c : ℕ) (x : A) → lo ≤ c → c ≤ hi → P c x → size x ≡ c) where
-  back-headed : (x : A) (t : List ℕ) → InRange w lo hi size P x → readHeaded w lo hi F size (writeHeaded w lo hi F size x ++ t) ≡ got x t
+  back-headed : (x : A) (t : List ℕ) → InRange w lo hi size P x
+      → readHeaded w lo hi F size (writeHeaded w lo hi F size x ++ t) ≡ got x t
   unfolding readHeaded writeHeaded then
-  back-headed x t h = rw (append-assoc (bytesOf w (size x)) (F (size x) .write x) t, back-count w lo hi (size x) (F (size x) .write x ++ t) (h .said) (h .least) (h .most), f (size x) .back x t (h .fits))
+  back-headed x t h =
+      rw (
+        append-assoc (bytesOf w (size x)) (F (size x) .write x) t,
+        back-count w lo hi (size x) (F (size x) .write x ++ t) (h .said) (h .least) (h .most),
+        f (size x) .back x t (h .fits),
+      )
 
-  tight-headed : (b : List ℕ) (x : A) (t : List ℕ) → Bytes b → readHeaded w lo hi F size b ≡ got x t → (b ≡ writeHeaded w lo hi F size x ++ t) × InRange w lo hi size P x
+  tight-headed : (b : List ℕ) (x : A) (t : List ℕ) → Bytes b → readHeaded w lo hi F size b ≡ got x t
+      → (b ≡ writeHeaded w lo hi F size x ++ t) × InRange w lo hi size P x
   unfolding readHeaded writeHeaded
   tight-headed b x t h e =
       let (c, s, ec, e') = then-got (readCount w lo hi b) (λ c s. F c .read s) x t e in
@@ -323,12 +374,32 @@ module _ {A : Type 0} (w lo hi : ℕ) (F : ℕ → Format A) (size : A → ℕ) 
 
   refuses-headed : (b : List ℕ) (k : ℕ) (t : List ℕ) → readHeaded w lo hi F size b ≡ bad k t → Told k
   unfolding readHeaded
-  refuses-headed b = then-bad (readCount w lo hi b) (λ c s. F c .read s) Told (refuses-count w lo hi b) (λ c s. f c .refuses s)
+  refuses-headed b =
+      then-bad (readCount w lo hi b) (λ c s. F c .read s) Told (refuses-count w lo hi b) (λ c s. f c .refuses s)
 
   pub lawful-headed : Lawful (headed w lo hi F size) (InRange w lo hi size P)
   lawful-headed = record { back = back-headed; tight = tight-headed; part = part-headed; refuses = refuses-headed }
 
 -- ---- the whole file
+-- a file that reads whole is what its format reads, and has nothing left
+pub file-got : {A : Type 0} (F : Format A) (b : List ℕ) (x : A) (t : List ℕ) → readFile F b ≡ got x t
+    → F .read b ≡ got x []
+unfolding readFile atEnd
+file-got {A} F b x t e =
+    let (y, s, ey, f) = then-got (F .read b) atEnd x t e in
+    let (q, r) = end-got y s f in
+    ey ∙ ap₂ (λ (z : A) (w : List ℕ). got z w) q r
+  where
+    end-got : (y : A) (s : List ℕ) → atEnd y s ≡ got x t → (y ≡ x) × (s ≡ [])
+    end-got y [] g = (cc, refl)
+    end-got y (c ∷ s) g = absurd (no-value 22 (c ∷ s) x t g)
+
+pub file-ends : {A : Type 0} (F : Format A) (b : List ℕ) (x : A) (t : List ℕ) → readFile F b ≡ got x t → t ≡ []
+unfolding readFile then atEnd
+file-ends {A} F b x t e =
+    let g : got x [] ≡ got x t = sym (ap (λ (o : Out A). then o atEnd) (file-got F b x t e)) ∙ e in
+    cc
+
 module _ {A : Type 0} (F : Format A) (P : A → Type 0) (f : Lawful F P) where
   -- reading what was written gives it back
   pub file-back : (x : A) → P x → readFile F (F .write x) ≡ got x []
@@ -337,16 +408,7 @@ module _ {A : Type 0} (F : Format A) (P : A → Type 0) (f : Lawful F P) where
 
   -- whatever reads whole is what is written of it
   pub file-tight : (b : List ℕ) (x : A) (t : List ℕ) → Bytes b → readFile F b ≡ got x t → (b ≡ F .write x) × P x
-  unfolding readFile atEnd
-  file-tight b x t h e =
-      let (y, s, ey, e') = then-got (F .read b) atEnd x t e in
-      let (q, r) = end-got y s x t e' in
-      let m = f .tight b y s h ey in
-      subst (λ (z : A). (b ≡ F .write z) × P z) q (m .0 ∙ ap (λ (l : List ℕ). F .write y ++ l) r ∙ append-nil (F .write y), m .1)
-    where
-      end-got : (y : A) (s : List ℕ) (x : A) (t : List ℕ) → atEnd y s ≡ got x t → (y ≡ x) × (s ≡ [])
-      end-got y [] x t e = (cc, refl)
-      end-got y (c ∷ s) x t e = absurd (no-value 22 (c ∷ s) x t e)
+  file-tight b x t h e = let m = f .tight b x [] h (file-got F b x t e) in (m .0 ∙ append-nil (F .write x), m .1)
 
   end-bad : (x : A) (s : List ℕ) (k : ℕ) (t : List ℕ) → atEnd x s ≡ bad k t → k ≡ 22
   unfolding atEnd
@@ -356,10 +418,13 @@ module _ {A : Type 0} (F : Format A) (P : A → Type 0) (f : Lawful F P) where
   -- a refusal of the whole is one of a field, or 22
   pub file-refuses : (b : List ℕ) (k : ℕ) (t : List ℕ) → readFile F b ≡ bad k t → Told k ⊎ (k ≡ 22)
   unfolding readFile
-  file-refuses b = then-bad (F .read b) atEnd (λ k. Told k ⊎ (k ≡ 22)) (λ k t e. inl (f .refuses b k t e)) (λ x s k t e. inr (end-bad x s k t e))
+  file-refuses b =
+      then-bad (F .read b) atEnd (λ k. Told k ⊎ (k ≡ 22)) (λ k t e. inl (f .refuses b k t e))
+      (λ x s k t e. inr (end-bad x s k t e))
 
 -- ---- what a reader that is put together went through
-pub both-got : {A B : Type 0} (F : Format A) (G : Format B) (b : List ℕ) (x : A) (y : B) (t : List ℕ) → both F G .read b ≡ got (x, y) t → (s : List ℕ) × (F .read b ≡ got x s) × (G .read s ≡ got y t)
+pub both-got : {A B : Type 0} (F : Format A) (G : Format B) (b : List ℕ) (x : A) (y : B) (t : List ℕ)
+    → both F G .read b ≡ got (x, y) t → (s : List ℕ) × (F .read b ≡ got x s) × (G .read s ≡ got y t)
 unfolding readBoth
 both-got {A} {B} F G b x y t e =
     let (x0, s, ex, f) = then-got (F .read b) (λ x s. then (G .read s) (λ y t. got (x, y) t)) (x, y) t e in
@@ -368,33 +433,14 @@ both-got {A} {B} F G b x y t e =
     let v : u ≡ t = cc in
     (s, ex ∙ ap (λ (z : A × B). got (z .0) s) q, ey ∙ ap₂ (λ (z : A × B) (w : List ℕ). got (z .1) w) q v)
 
-pub as-got : {A B : Type 0} (F : Format A) (to : A → B) (from : B → A) → ((x : A) → from (to x) ≡ x) → (b : List ℕ) (y : B) (t : List ℕ) → as-type F to from .read b ≡ got y t → F .read b ≡ got (from y) t
+pub as-got : {A B : Type 0} (F : Format A) (to : A → B) (from : B → A) → ((x : A) → from (to x) ≡ x)
+    → (b : List ℕ) (y : B) (t : List ℕ) → as-type F to from .read b ≡ got y t → F .read b ≡ got (from y) t
 unfolding readAs
 as-got {A} F to from here b y t e =
     let (x, s, ex, f) = then-got (F .read b) (λ x t. got (to x) t) y t e in
     let q : to x ≡ y = cc in
     let v : s ≡ t = cc in
     ex ∙ ap₂ (λ (z : A) (w : List ℕ). got z w) (sym (here x) ∙ ap from q) v
-
-pub file-got : {A : Type 0} (F : Format A) (b : List ℕ) (x : A) (t : List ℕ) → readFile F b ≡ got x t → F .read b ≡ got x []
-unfolding readFile atEnd
-file-got {A} F b x t e =
-    let (y, s, ey, f) = then-got (F .read b) atEnd x t e in
-    let (q, r) = end-got y s f in
-    ey ∙ ap₂ (λ (z : A) (w : List ℕ). got z w) q r
-  where
-    end-got : (y : A) (s : List ℕ) → atEnd y s ≡ got x t → (y ≡ x) × (s ≡ [])
-    end-got y [] g = (cc, refl)
-    end-got y (c ∷ s) g = absurd (let q : bad 22 (c ∷ s) ≡ got x t = g in let z : _≡_ {A = ℕ} 0 1 = cc in omega arith)
-
--- a file that reads whole has nothing left
-pub file-ends : {A : Type 0} (F : Format A) (b : List ℕ) (x : A) (t : List ℕ) → readFile F b ≡ got x t → t ≡ []
-unfolding readFile atEnd
-file-ends {A} F b x t e = let (y, s, ey, e') = then-got (F .read b) atEnd x t e in by y s e'
-  where
-    by : (y : A) (s : List ℕ) → atEnd y s ≡ got x t → t ≡ []
-    by y [] h = cc
-    by y (c ∷ s) h = absurd (no-value 22 (c ∷ s) x t h)
 
 -- a count is judged before its elements: here they are missing, too
 count-first : listed 4 0 1 (number 4) .read (2 ∷ 0 ∷ 0 ∷ 0 ∷ []) ≡ bad 21 (2 ∷ 0 ∷ 0 ∷ 0 ∷ [])

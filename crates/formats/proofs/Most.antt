@@ -1,5 +1,5 @@
--- The most that a reader takes: what lies past it stays where it is, and changes neither a value nor a refusal. A format that is put together from formats has
--- this from them.
+-- The most that a reader takes: what lies past it stays where it is, and changes neither a value nor a refusal. A
+-- format that is put together from formats has this from them.
 use Prim.Native.Nat.{ℕ, zero, suc, _+_, _*_, _≤_, _<_}
 use native.Mathlib.Nat.{suc-mul, mul-le-mul-right}
 use native.Mathlib.Omega.{arith}
@@ -25,7 +25,8 @@ pub record Most {A : Type 0} (F : Format A) (m : ℕ) : Type 0 where
   pub past : (u v : List ℕ) → m ≤ length u → F .read (u ++ v) ≡ onto v (F .read u)
 
 -- ---- what follows a reader
-then-onto : {A B : Type 0} (v : List ℕ) (o : Out A) (f : A → List ℕ → Out B) → ((x : A) (t : List ℕ) → o ≡ got x t → f x (t ++ v) ≡ onto v (f x t)) → then (onto v o) f ≡ onto v (then o f)
+then-onto : {A B : Type 0} (v : List ℕ) (o : Out A) (f : A → List ℕ → Out B)
+    → ((x : A) (t : List ℕ) → o ≡ got x t → f x (t ++ v) ≡ onto v (f x t)) → then (onto v o) f ≡ onto v (then o f)
 unfolding then onto
 then-onto v (got x t) f h = h x t refl
 then-onto v (bad k t) f h = refl
@@ -74,7 +75,8 @@ module _ {A B : Type 0} (F : Format A) (G : Format B) (m n : ℕ) (f : Most F m)
 
 -- ---- as one field
 module _ {A : Type 0} (F : Format A) (m : ℕ) (f : Most F m) where
-  field-takes : (b : List ℕ) (o : Out A) (x : A) (t : List ℕ) → ((y : A) (s : List ℕ) → o ≡ got y s → length b ≤ m + length s) → startAt b o ≡ got x t → length b ≤ m + length t
+  field-takes : (b : List ℕ) (o : Out A) (x : A) (t : List ℕ)
+      → ((y : A) (s : List ℕ) → o ≡ got y s → length b ≤ m + length s) → startAt b o ≡ got x t → length b ≤ m + length t
   unfolding startAt
   field-takes b (got y s) x t h e = let q : s ≡ t = cc in omega (arith, h y s refl, ap length q)
   field-takes b (bad k s) x t h e = absurd (let z : _≡_ {A = ℕ} 0 1 = cc in omega arith)
@@ -101,7 +103,9 @@ module _ {A B : Type 0} (F : Format A) (to : A → B) (from : B → A) (m : ℕ)
 
   as-past : (u v : List ℕ) → m ≤ length u → readAs F to from (u ++ v) ≡ onto v (readAs F to from u)
   unfolding readAs onto
-  as-past u v h = ap (λ (o : Out A). then o (λ x t. got (to x) t)) (f .past u v h) ∙ then-onto v (F .read u) (λ x t. got (to x) t) (λ x t e. refl)
+  as-past u v h =
+      ap (λ (o : Out A). then o (λ x t. got (to x) t)) (f .past u v h)
+      ∙ then-onto v (F .read u) (λ x t. got (to x) t) (λ x t e. refl)
 
   pub most-as : Most (as-type F to from) m
   most-as = record { takes = as-takes; past = as-past }
@@ -132,16 +136,22 @@ module _ {A : Type 0} (F : Format A) (m : ℕ) (f : Most F m) where
   most-many n = record { takes = many-takes n; past = many-past n }
 
 -- ---- after a count of at most hi
-module _ {A : Type 0} (w lo hi : ℕ) (F : ℕ → Format A) (size : A → ℕ) (m : ℕ) (f : (c : ℕ) → c ≤ hi → Most (F c) m) where
+module _ {A : Type 0} (w lo hi : ℕ) (F : ℕ → Format A) (size : A → ℕ) (m : ℕ)
+    (f : (c : ℕ) → c ≤ hi → Most (F c) m) where
   count-past : (u v : List ℕ) → w ≤ length u → readCount w lo hi (u ++ v) ≡ onto v (readCount w lo hi u)
   unfolding readCount then when onto
-  count-past u v h = ap (λ (o : Out ℕ). then o (λ c s. when (within lo hi c) (got c s) (bad 21 (u ++ v)))) (number-past w u v h) ∙ by (readNumber w u)
+  count-past u v h =
+      ap (λ (o : Out ℕ). then o (λ c s. when (within lo hi c) (got c s) (bad 21 (u ++ v)))) (number-past w u v h)
+      ∙ by (readNumber w u)
     where
-      judged : (b : Bool) (c : ℕ) (s : List ℕ) → when b (got c (s ++ v)) (bad 21 (u ++ v)) ≡ onto v (when b (got c s) (bad 21 u))
+      judged : (b : Bool) (c : ℕ) (s : List ℕ)
+          → when b (got c (s ++ v)) (bad 21 (u ++ v)) ≡ onto v (when b (got c s) (bad 21 u))
       judged true c s = refl
       judged false c s = refl
 
-      by : (o : Out ℕ) → then (onto v o) (λ c s. when (within lo hi c) (got c s) (bad 21 (u ++ v))) ≡ onto v (then o (λ c s. when (within lo hi c) (got c s) (bad 21 u)))
+      by : (o : Out ℕ)
+          → then (onto v o) (λ c s. when (within lo hi c) (got c s) (bad 21 (u ++ v)))
+          ≡ onto v (then o (λ c s. when (within lo hi c) (got c s) (bad 21 u)))
       by (got c s) = judged (within lo hi c) c s
       by (bad k t) = refl
 
@@ -152,7 +162,8 @@ module _ {A : Type 0} (w lo hi : ℕ) (F : ℕ → Format A) (size : A → ℕ) 
       let (en, (a, z)) = count-got w lo hi b c s ec in
       omega (arith, number-takes w b c s en, f c z .takes s x t e')
 
-  headed-past : (u v : List ℕ) → w + m ≤ length u → readHeaded w lo hi F size (u ++ v) ≡ onto v (readHeaded w lo hi F size u)
+  headed-past : (u v : List ℕ) → w + m ≤ length u
+      → readHeaded w lo hi F size (u ++ v) ≡ onto v (readHeaded w lo hi F size u)
   unfolding readHeaded
   headed-past u v h =
       ap (λ (o : Out ℕ). then o (λ c s. F c .read s)) (count-past u v (omega arith))
@@ -163,18 +174,23 @@ module _ {A : Type 0} (w lo hi : ℕ) (F : ℕ → Format A) (size : A → ℕ) 
   most-headed = record { takes = headed-takes; past = headed-past }
 
 pub most-listed : {A : Type 0} (w lo hi : ℕ) (F : Format A) (m : ℕ) → Most F m → Most (listed w lo hi F) (w + hi * m)
-most-listed w lo hi F m f = most-headed w lo hi (many F) length (hi * m) (λ c h. most-wider (many F c) (c * m) (hi * m) (mul-le-mul-right m h) (most-many F m f c))
+most-listed w lo hi F m f =
+    most-headed w lo hi (many F) length (hi * m)
+    (λ c h. most-wider (many F c) (c * m) (hi * m) (mul-le-mul-right m h) (most-many F m f c))
 
 -- ---- the whole file: where there is more than a value can take, it is refused, and by no more than those bytes
 module _ {A : Type 0} (F : Format A) (m : ℕ) (f : Most F m) where
-  pub file-past : (u v : List ℕ) → m < length u → (k : ℕ) × (t : List ℕ) × (readFile F u ≡ bad k t) × (readFile F (u ++ v) ≡ bad k (t ++ v))
+  pub file-past : (u v : List ℕ) → m < length u
+      → (k : ℕ) × (t : List ℕ) × (readFile F u ≡ bad k t) × (readFile F (u ++ v) ≡ bad k (t ++ v))
   unfolding readFile atEnd then onto
   file-past u v h = by (F .read u) (f .takes u) (f .past u v (omega arith))
     where
-      ends : (x : A) (t : List ℕ) → 0 < length t → (k : ℕ) × (s : List ℕ) × (atEnd x t ≡ bad k s) × (atEnd x (t ++ v) ≡ bad k (s ++ v))
+      ends : (x : A) (t : List ℕ) → 0 < length t
+          → (k : ℕ) × (s : List ℕ) × (atEnd x t ≡ bad k s) × (atEnd x (t ++ v) ≡ bad k (s ++ v))
       ends x [] l = absurd (omega arith)
       ends x (c ∷ t) l = (22, c ∷ t, refl, refl)
 
-      by : (o : Out A) → ((x : A) (t : List ℕ) → o ≡ got x t → length u ≤ m + length t) → F .read (u ++ v) ≡ onto v o → (k : ℕ) × (t : List ℕ) × (then o atEnd ≡ bad k t) × (then (F .read (u ++ v)) atEnd ≡ bad k (t ++ v))
+      by : (o : Out A) → ((x : A) (t : List ℕ) → o ≡ got x t → length u ≤ m + length t) → F .read (u ++ v) ≡ onto v o
+          → (k : ℕ) × (t : List ℕ) × (then o atEnd ≡ bad k t) × (then (F .read (u ++ v)) atEnd ≡ bad k (t ++ v))
       by (got x t) g e = let (k, s, p, q) = ends x t (omega (arith, g x t refl)) in (k, s, p, ap (λ (o : Out A). then o atEnd) e ∙ q)
       by (bad k t) g e = (k, t, refl, ap (λ (o : Out A). then o atEnd) e)

@@ -1,4 +1,5 @@
--- How many bytes are written. As with the laws of reading, a format that is put together from formats has its size from theirs.
+-- How many bytes are written. As with the laws of reading, a format that
+-- is put together from formats has its size from theirs.
 use Prim.Native.Nat.{ℕ, zero, suc, _+_, _*_, _≤_}
 use native.Mathlib.Nat.{suc-mul, zero-mul}
 use native.Mathlib.Omega.{arith}
@@ -25,7 +26,13 @@ module _ {A B : Type 0} (F : Format A) (G : Format B) (f : A → ℕ) (g : B →
 module _ {A : Type 0} (w lo hi : ℕ) (F : ℕ → Format A) (count : A → ℕ) (f : A → ℕ) (sf : (c : ℕ) → Sized (F c) f) where
   pub sized-headed : Sized (headed w lo hi F count) (λ x. w + f x)
   unfolding writeHeaded
-  sized-headed x = omega (arith, length-append (bytesOf w (count x)) (F (count x) .write x), length-bytes w (count x), sf (count x) x)
+  sized-headed x =
+      omega (
+        arith,
+        length-append (bytesOf w (count x)) (F (count x) .write x),
+        length-bytes w (count x),
+        sf (count x) x,
+      )
 
 module _ {A : Type 0} (F : Format A) (f : A → ℕ) (sf : Sized F f) where
   sized-many : (xs : List A) → length (writeMany F xs) ≡ total f xs
@@ -43,7 +50,8 @@ total-same k [] = sym (zero-mul k)
 total-same k (x ∷ xs) = omega (arith, total-same k xs, suc-mul (length xs) k)
 
 module _ {A : Type 0} (f : A → ℕ) where
-  pub total-most : (P : A → Type 0) (m : ℕ) → ((x : A) → P x → f x ≤ m) → (xs : List A) → All P xs → total f xs ≤ length xs * m
+  pub total-most : (P : A → Type 0) (m : ℕ) → ((x : A) → P x → f x ≤ m) → (xs : List A) → All P xs
+      → total f xs ≤ length xs * m
   unfolding total
   total-most P m g [] h = omega arith
   total-most P m g (x ∷ xs) h = omega (arith, g x (h .0), total-most P m g xs (h .1), suc-mul (length xs) m)

@@ -1,8 +1,7 @@
 -- What is written is bytes. A format that is put together from formats has this from them.
-use Prim.Native.Nat.{ℕ, zero, suc, _%_, _/_, _<_}
+use Prim.Native.Nat.{ℕ, zero, suc, _/_}
 use native.Mathlib.Omega.{arith}
 use mathlib.Core.List.{List, [], _∷_, _++_}
-use lib.ListN.{getD}
 use Rattle.lists.specs.Bytes.{bytesOf, Bytes}
 use Rattle.formats.specs.Formats.{number, writeBoth, both, writeMany, many, writeHeaded, headed, Format}
 
@@ -29,6 +28,8 @@ unfolding writeMany
 spelled-many F f n [] i = omega arith
 spelled-many F f n (x ∷ xs) i = joined (F .write x) (writeMany F xs) (f x) (spelled-many F f n xs) i
 
-pub spelled-headed : {A : Type 0} (w lo hi : ℕ) (F : ℕ → Format A) (size : A → ℕ) → ((c : ℕ) → Spelled (F c)) → Spelled (headed w lo hi F size)
+pub spelled-headed : {A : Type 0} (w lo hi : ℕ) (F : ℕ → Format A) (size : A → ℕ) → ((c : ℕ) → Spelled (F c))
+    → Spelled (headed w lo hi F size)
 unfolding writeHeaded
-spelled-headed w lo hi F size f x = joined (bytesOf w (size x)) (F (size x) .write x) (spelled-number w (size x)) (f (size x) x)
+spelled-headed w lo hi F size f x =
+    joined (bytesOf w (size x)) (F (size x) .write x) (spelled-number w (size x)) (f (size x) x)

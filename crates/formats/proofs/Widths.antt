@@ -3,7 +3,7 @@ use Prim.Native.Nat.{ℕ, zero, suc, _+_, _*_, _≤_, _<_}
 use native.Mathlib.Nat.{suc-mul, zero-mul}
 use native.Mathlib.Omega.{arith}
 use mathlib.Core.List.{List, [], _∷_}
-use mathlib.Core.Logic.{_⊎_, ⊎-elim}
+use mathlib.Core.Logic.{⊎-elim}
 use mathlib.Core.Path.{_≡_, sym, ap, _∙_}
 use borrow.Author.Tests.{le-leb, lt-leb, leb-true, leb-false}
 use lib.Dec.{leb}
@@ -31,10 +31,12 @@ number-short k b h = rw (lt-leb k (length b) h)
 pub wide-number : (k : ℕ) → Wide (number k) k (λ b. little (take k b))
 wide-number k = record { there = number-there k; short = λ b h. (b, number-short k b h) }
 
-module _ {A B : Type 0} (F : Format A) (G : Format B) (j k : ℕ) (f : List ℕ → A) (g : List ℕ → B) (wf : Wide F j f) (wg : Wide G k g) where
+module _ {A B : Type 0} (F : Format A) (G : Format B) (j k : ℕ) (f : List ℕ → A) (g : List ℕ → B) (wf : Wide F j f)
+    (wg : Wide G k g) where
   both-there : (b : List ℕ) → j + k ≤ length b → readBoth F G b ≡ got (f b, g (drop j b)) (drop (j + k) b)
   unfolding readBoth then
-  both-there b h = rw (wf .there b (omega arith), wg .there (drop j b) (omega (arith, length-drop j b)), drop-drop k j b)
+  both-there b h =
+      rw (wf .there b (omega arith), wg .there (drop j b) (omega (arith, length-drop j b)), drop-drop k j b)
 
   second-short : (b : List ℕ) → j ≤ length b → length b < j + k → (t : List ℕ) × (readBoth F G b ≡ bad 20 t)
   unfolding readBoth then
@@ -63,8 +65,11 @@ module _ {A B : Type 0} (F : Format A) (to : A → B) (from : B → A) (k : ℕ)
   wide-as = record { there = as-there; short = as-short }
 
 -- what is read was all there
-pub wide-got : {A : Type 0} (F : Format A) (k : ℕ) (f : List ℕ → A) → Wide F k f → (b : List ℕ) (x : A) (t : List ℕ) → F .read b ≡ got x t → (k ≤ length b) × (t ≡ drop k b)
-wide-got {A} F k f w b x t e = ⊎-elim (λ h. whole (leb-true k (length b) h)) (λ h. absurd (cut (leb-false k (length b) h))) (holds-or-fails (leb k (length b)))
+pub wide-got : {A : Type 0} (F : Format A) (k : ℕ) (f : List ℕ → A) → Wide F k f → (b : List ℕ) (x : A) (t : List ℕ)
+    → F .read b ≡ got x t → (k ≤ length b) × (t ≡ drop k b)
+wide-got {A} F k f w b x t e =
+    ⊎-elim (λ h. whole (leb-true k (length b) h)) (λ h. absurd (cut (leb-false k (length b) h)))
+    (holds-or-fails (leb k (length b)))
   where
     whole : k ≤ length b → (k ≤ length b) × (t ≡ drop k b)
     whole h = let q : got (f b) (drop k b) ≡ got x t = sym (w .there b h) ∙ e in (h, cc)
@@ -83,20 +88,32 @@ module _ {A : Type 0} (F : Format A) (k : ℕ) (f : List ℕ → A) (w : Wide F 
   field-short b h = let (t, e) = w .short b h in rw e
 
   -- so many fields
-  pub fields-there : (n : ℕ) (b : List ℕ) → n * k ≤ length b → readMany (field F) n b ≡ got (tab n (λ i. f (drop (i * k) b))) (drop (n * k) b)
+  pub fields-there : (n : ℕ) (b : List ℕ) → n * k ≤ length b
+      → readMany (field F) n b ≡ got (tab n (λ i. f (drop (i * k) b))) (drop (n * k) b)
   unfolding readMany then tab places
   fields-there zero b h = ap (λ (j : ℕ). got [] (drop j b)) (sym (zero-mul k))
   fields-there (suc n) b h =
       let step : (i : ℕ) → drop (i * k) (drop k b) ≡ drop (suc i * k) b = λ i. (let e : k + i * k ≡ suc i * k = omega (arith, suc-mul i k) in drop-drop (i * k) k b ∙ ap (λ (j : ℕ). drop j b) e) in
       let none : b ≡ drop (0 * k) b = ap (λ (j : ℕ). drop j b) (sym (zero-mul k)) in
-      rw (field-there b (omega (arith, suc-mul n k)), fields-there n (drop k b) (omega (arith, suc-mul n k, length-drop k b)), step n)
+      rw (
+        field-there b (omega (arith, suc-mul n k)),
+        fields-there n (drop k b) (omega (arith, suc-mul n k, length-drop k b)),
+        step n,
+      )
       (λ j. got (f (none j) ∷ tab n (λ i. f (step i j))) (drop (suc n * k) b)) ∙ ap (λ (l : List A). got l (drop (suc n * k) b)) (sym (tab-cons n (λ i. f (drop (i * k) b))))
 
   -- m of them are there and the next is cut
-  pub fields-cut : (n m : ℕ) (b : List ℕ) → m < n → m * k ≤ length b → length b < suc m * k → readMany (field F) n b ≡ bad 20 (drop (m * k) b)
+  pub fields-cut : (n m : ℕ) (b : List ℕ) → m < n → m * k ≤ length b → length b < suc m * k
+      → readMany (field F) n b ≡ bad 20 (drop (m * k) b)
   unfolding readMany then
   fields-cut zero m b h l g = absurd (omega arith)
   fields-cut (suc n) zero b h l g = rw (zero-mul k, field-short b (omega (arith, suc-mul 0 k, zero-mul k)))
   fields-cut (suc n) (suc m) b h l g =
       let e : k + m * k ≡ suc m * k = omega (arith, suc-mul m k) in
-      rw (field-there b (omega (arith, suc-mul m k)), fields-cut n m (drop k b) (omega arith) (omega (arith, suc-mul m k, length-drop k b)) (omega (arith, suc-mul (suc m) k, length-drop k b)), drop-drop (m * k) k b, e)
+      rw (
+        field-there b (omega (arith, suc-mul m k)),
+        fields-cut n m (drop k b) (omega arith) (omega (arith, suc-mul m k, length-drop k b))
+            (omega (arith, suc-mul (suc m) k, length-drop k b)),
+        drop-drop (m * k) k b,
+        e,
+      )

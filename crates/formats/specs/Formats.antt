@@ -1,5 +1,6 @@
--- Formats: a reader and a writer of one kind of value. A reader takes the bytes that are left and answers with those that are then left, so an offset is a
--- difference of two lengths. The refusals are document 01's: 20 for a field that is not wholly there, 21 for a count out of range, 22 for bytes after the end.
+-- Formats: a reader and a writer of one kind of value. A reader takes the bytes that are left and answers with those
+-- that are then left, so an offset is a difference of two lengths. The refusals are document 01's: 20 for a field that
+-- is not wholly there, 21 for a count out of range, 22 for bytes after the end.
 use Prim.Native.Nat.{ℕ, zero, suc, _^_, _≤_, _<_}
 use mathlib.Core.Bool.{Bool, true, false}
 use mathlib.Core.List.{List, [], _∷_, _++_}

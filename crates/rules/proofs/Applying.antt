@@ -1,4 +1,5 @@
--- Applying a plan: what the comparisons of bases mean, and what each answer leaves.
+-- Applying a plan: the comparisons of bases are equality, element by element; 0 is
+-- answered where every rule is silent and the run has no refusal.
 use Prim.Native.Nat.{ℕ}
 use native.Mathlib.Omega.{arith}
 use mathlib.Core.Bool.{Bool, true, false, cond, true≢false}
@@ -44,7 +45,11 @@ same-zone y z h =
 
 pub zone-same : (z : Zone) → sameZone z z ≡ true
 unfolding sameZone
-zone-same z = whole _ (eq-eqb (z .id) (z .id) refl, (list-same regionEq equal-refl (z .cpu), (list-same regionEq equal-refl (z .iommu), tt)))
+zone-same z =
+    whole _ (
+      eq-eqb (z .id) (z .id) refl,
+      (list-same regionEq equal-refl (z .cpu), (list-same regionEq equal-refl (z .iommu), tt)),
+    )
 
 -- ---- 0 is answered exactly for the base, below the last edition, with requests that are all accepted
 module _ (s : Terminal) (p : Plan) (r : Run) where
@@ -53,7 +58,11 @@ module _ (s : Terminal) (p : Plan) (r : Run) where
   unfolding judged judgedRules firstRule
   judged-well e = by _ _ _ _ e
     where
-      by : (u v w x : Bool) → firstRule (plain 23 0 when u ∷ plain 24 0 when v ∷ plain 25 0 when w ∷ plain 26 0 when x ∷ []) (ended r) .number ≡ 0 → ((u ≡ false) × ((v ≡ false) × ((w ≡ false) × ((x ≡ false) × Unit {0})))) × (ended r .number ≡ 0)
+      by : (u v w x : Bool)
+          → firstRule (plain 23 0 when u ∷ plain 24 0 when v ∷ plain 25 0 when w ∷ plain 26 0 when x ∷ [])
+          (ended r) .number
+          ≡ 0
+          → ((u ≡ false) × ((v ≡ false) × ((w ≡ false) × ((x ≡ false) × Unit {0})))) × (ended r .number ≡ 0)
       by true v w x h = absurd (omega arith)
       by false true w x h = absurd (omega arith)
       by false false true x h = absurd (omega arith)
@@ -88,12 +97,15 @@ module _ (s : Terminal) (p : Plan) (r : Run) where
         ended-well well,
       )
 
-  pub for-base-accepted : ForBase s p → (s .edition ≡ lastEdition → ⊥) → r .inner ≡ 0 → judged s p r ≡ plain 0 (r .place)
+  pub for-base-accepted : ForBase s p → (s .edition ≡ lastEdition → ⊥) → r .inner ≡ 0
+      → judged s p r ≡ plain 0 (r .place)
   unfolding judged judgedRules sameConfig
   for-base-accepted b last inner =
       let c : sameList regionEq (configOf (s .config) .regions) (p .regions) ≡ true = ap (λ (l : List Region). sameList regionEq l (p .regions)) (b .regions) ∙ list-same regionEq equal-refl (p .regions) in
       let z : sameList sameZone (tableOf (s .table)) (p .zones) ≡ true = ap (λ (l : List Zone). sameList sameZone l (p .zones)) (b .zones) ∙ list-same sameZone zone-same (p .zones) in
       sym
-      (quiet-answer (judgedRules s p) (ended r)
-      (not-holds _ (whole _ (c, (eq-eqb _ _ (b .gic), tt))), (not-holds _ (eq-eqb _ _ (b .edition)), (ne-eqb _ _ last, (not-holds _ z, tt)))))
+      (quiet-answer (judgedRules s p) (ended r) (
+        not-holds _ (whole _ (c, (eq-eqb _ _ (b .gic), tt))),
+        (not-holds _ (eq-eqb _ _ (b .edition)), (ne-eqb _ _ last, (not-holds _ z, tt))),
+      ))
       ∙ well-ended inner

@@ -1,4 +1,5 @@
--- The check of a configuration: when each answer is given.
+-- The check of a configuration: an answer is given as soon as its rule applies and no earlier one does; the positions
+-- are gone through upward, those below being without fault.
 use Prim.Native.Nat.{ℕ, _≤_, _<_}
 use native.Mathlib.Decide.{decLt}
 use native.Mathlib.Omega.{arith}
@@ -84,11 +85,13 @@ module _ (lim : Limits) where
       gives-c2 b = search rules
 
       module _ (b : leb (s .count) (s .gic) ≡ false) where
-        pub gives-c3 : any used (drop (s .count) (s .records)) ≡ true → NotZero (firstFrom used (s .records) (s .count)) ≡ check lim s
+        pub gives-c3 : any used (drop (s .count) (s .records)) ≡ true
+            → NotZero (firstFrom used (s .records) (s .count)) ≡ check lim s
         unfolding check checkRules
         gives-c3 c = search rules
 
-        pub gives-positions : any used (drop (s .count) (s .records)) ≡ false → firstRule (flatMap (positionRules lim (s .records)) (places 0 (s .count))) Sound ≡ check lim s
+        pub gives-positions : any used (drop (s .count) (s .records)) ≡ false
+            → firstRule (flatMap (positionRules lim (s .records)) (places 0 (s .count))) Sound ≡ check lim s
         unfolding check checkRules
         gives-positions c = search rules
 
@@ -110,11 +113,13 @@ module _ (lim : Limits) where
       gives-c5 b = search (rules, not-fails, not-holds) depth 8
 
       module _ (b : inReach lim here ≡ true) where
-        pub gives-c6 : any (physOverlap here) (take i records) ≡ true → Overlap i (firstIndex (physOverlap here) (take i records)) ≡ firstRule (positionRules lim records i) Sound
+        pub gives-c6 : any (physOverlap here) (take i records) ≡ true
+            → Overlap i (firstIndex (physOverlap here) (take i records)) ≡ firstRule (positionRules lim records i) Sound
         unfolding positionRules
         gives-c6 c = search (rules, not-fails, not-holds) depth 8
 
-        pub gives-none : any (physOverlap here) (take i records) ≡ false → Sound ≡ firstRule (positionRules lim records i) Sound
+        pub gives-none : any (physOverlap here) (take i records) ≡ false
+            → Sound ≡ firstRule (positionRules lim records i) Sound
         unfolding positionRules
         gives-none c = search (rules, not-fails, not-holds) depth 8
 
@@ -123,11 +128,19 @@ module _ (lim : Limits) where
     abbrev whole : Checked
     whole = firstRule (flatMap (positionRules lim records) (places 0 n)) Sound
 
-    pub first-fault : (i : ℕ) (v : Checked) → i < n → ((j : ℕ) → j < i → Sound ≡ firstRule (positionRules lim records j) Sound) → v ≡ firstRule (positionRules lim records i) Sound → (v ≡ Sound → ⊥) → v ≡ whole
-    first-fault i v h f e bad = rules-stop (positionRules lim records) i n v Sound whole (rules-past (positionRules lim records) n Sound (telling-at records) i (omega arith) (λ j l. sym (f j l))) h e bad
+    pub first-fault : (i : ℕ) (v : Checked) → i < n
+        → ((j : ℕ) → j < i → Sound ≡ firstRule (positionRules lim records j) Sound)
+        → v ≡ firstRule (positionRules lim records i) Sound → (v ≡ Sound → ⊥) → v ≡ whole
+    first-fault i v h f e bad =
+        rules-stop (positionRules lim records) i n v Sound whole
+        (rules-past (positionRules lim records) n Sound (telling-at records) i (omega arith)
+        (λ j l. sym (f j l))) h e bad
 
     pub no-fault : ((j : ℕ) → j < n → Sound ≡ firstRule (positionRules lim records j) Sound) → Sound ≡ whole
-    no-fault f = rules-end (positionRules lim records) n n Sound whole (rules-past (positionRules lim records) n Sound (telling-at records) n (omega arith) (λ j l. sym (f j l))) (omega arith)
+    no-fault f =
+        rules-end (positionRules lim records) n n Sound whole
+        (rules-past (positionRules lim records) n Sound (telling-at records) n (omega arith) (λ j l. sym (f j l)))
+        (omega arith)
 
   -- ---- what is so of a configuration that the check finds sound
   pub record SoundConfiguration (c : Configuration) : Type 0 where
@@ -135,12 +148,22 @@ module _ (lim : Limits) where
     pub gic : c .gic < length (c .regions)
     pub formed : (i : ℕ) → i < length (c .regions) → wellFormed (lim .page) (getD (c .regions) i noRegion) ≡ true
     pub near : (i : ℕ) → i < length (c .regions) → inReach lim (getD (c .regions) i noRegion) ≡ true
-    pub apart : (i j : ℕ) → i < length (c .regions) → j < length (c .regions) → (i ≡ j → ⊥) → physOverlap (getD (c .regions) i noRegion) (getD (c .regions) j noRegion) ≡ false
+    pub apart : (i j : ℕ) → i < length (c .regions) → j < length (c .regions) → (i ≡ j → ⊥)
+        → physOverlap (getD (c .regions) i noRegion) (getD (c .regions) j noRegion) ≡ false
 
   module _ (s : StoredConfig) (full : length (s .records) ≡ lim .regions) (e : check lim s ≡ Sound) where
     first-telling : Telling (checkRules lim s) Sound
     unfolding checkRules
-    first-telling = (c1-faulty, (c2-faulty, (c3-faulty _, telling-places (positionRules lim (s .records)) Sound (telling-at (s .records)) 0 (s .count))))
+    first-telling = (
+      c1-faulty,
+      (
+        c2-faulty,
+        (
+          c3-faulty _,
+          telling-places (positionRules lim (s .records)) Sound (telling-at (s .records)) 0 (s .count),
+        ),
+      ),
+    )
 
     tests-fail : Quiet (checkRules lim s)
     unfolding check
@@ -159,7 +182,8 @@ module _ (lim : Limits) where
 
     at-position : (i : ℕ) → i < s .count → Quiet (positionRules lim (s .records) i)
     unfolding checkRules
-    at-position i h = quiet-places (positionRules lim (s .records)) 0 (s .count) (tests-fail .1 .1 .1) i (omega arith) (omega arith)
+    at-position i h =
+        quiet-places (positionRules lim (s .records)) 0 (s .count) (tests-fail .1 .1 .1) i (omega arith) (omega arith)
 
     no-fault-at : (i : ℕ) → i < s .count → (n : ℕ) → testOf checkNumber n (positionRules lim (s .records) i) ≡ false
     no-fault-at i h = silent checkNumber (positionRules lim (s .records) i) (at-position i h)
@@ -172,13 +196,17 @@ module _ (lim : Limits) where
     unfolding configOf
     many = length-room (s .count) noRegion (s .records)
 
-    clear : (i j : ℕ) → j < i → i < s .count → physOverlap (getD (s .records) i noRegion) (getD (s .records) j noRegion) ≡ false
+    clear : (i j : ℕ) → j < i → i < s .count
+        → physOverlap (getD (s .records) i noRegion) (getD (s .records) j noRegion) ≡ false
     unfolding positionRules testOf
     clear i j h l =
         let w : j < length (take i (s .records)) = omega (arith, length-take i (s .records), few-counted) in
-        ap (physOverlap (getD (s .records) i noRegion)) (sym (getD-take i (s .records) j noRegion h)) ∙ none-at (physOverlap (getD (s .records) i noRegion)) (take i (s .records)) noRegion (no-fault-at i l 6) j w
+        ap (physOverlap (getD (s .records) i noRegion)) (sym (getD-take i (s .records) j noRegion h))
+        ∙ none-at (physOverlap (getD (s .records) i noRegion)) (take i (s .records)) noRegion
+        (no-fault-at i l 6) j w
 
-    clear-both : (i j : ℕ) → i < s .count → j < s .count → (i ≡ j → ⊥) → physOverlap (getD (s .records) i noRegion) (getD (s .records) j noRegion) ≡ false
+    clear-both : (i j : ℕ) → i < s .count → j < s .count → (i ≡ j → ⊥)
+        → physOverlap (getD (s .records) i noRegion) (getD (s .records) j noRegion) ≡ false
     clear-both i j h l ne =
         elim (decLt j i) [ yes a ↦ clear i j a h | no a ↦ overlap-symmetric _ _ _ _ ∙ clear j i (omega arith) l ]
 

@@ -13,6 +13,7 @@ pub mod Plan
 pub mod Sizes
 pub mod Applying
 pub mod Planner
+pub mod Computing
 pub mod Desk
 pub mod Story
 pub mod RequestExamples

@@ -1,12 +1,13 @@
--- The plan's format: reading an encoding gives its contents back, and whatever reads whole is the encoding of what it reads to.
-use Prim.Native.Nat.{ℕ, _^_, _≤_, _<_}
+-- The plan's format: reading an encoding gives its contents back, and
+-- whatever reads whole is the encoding of what it reads to.
+use Prim.Native.Nat.{ℕ}
 use native.Mathlib.Omega.{arith}
 use mathlib.Core.List.{List, []}
 use mathlib.Core.Logic.{_⊎_, inl, inr}
 use mathlib.Core.Path.{_≡_, refl}
 use lib.ListN.{length}
 use Rattle.lists.specs.Bytes.{Bytes}
-use Rattle.formats.specs.Formats.{got, bad, number, both, as-type, many, listed, Format, All, ListFits}
+use Rattle.formats.specs.Formats.{got, bad, both, as-type, many, listed, Format, All, ListFits}
 use Rattle.formats.proofs.Formats.{Told, Lawful, lawful-number, lawful-both, lawful-field, lawful-as, lawful-many, lawful-headed, file-back, file-tight, file-refuses, file-ends}
 use Rattle.formats.proofs.Spelled.{spelled-number, spelled-both, spelled-many, spelled-headed, Spelled}
 use Rattle.rules.specs.Limits.{Limits}
@@ -18,7 +19,8 @@ use Rattle.rules.specs.declared.Region.{Region}
 lawful-region : Lawful regionNumbers RegionFits
 lawful-region =
     lawful-as (both long (both long long)) (λ t. Long (t .0) × (Long (t .1 .0) × Long (t .1 .1)))
-    (lawful-both long (both long long) Long (λ t. Long (t .0) × Long (t .1)) (lawful-number 8) (lawful-both long long Long Long (lawful-number 8) (lawful-number 8)))
+    (lawful-both long (both long long) Long (λ t. Long (t .0) × Long (t .1)) (lawful-number 8)
+    (lawful-both long long Long Long (lawful-number 8) (lawful-number 8)))
     regionTo regionFrom (λ r. refl) (λ t. refl)
 
 pub lawful-region-field : Lawful regionField RegionFits
@@ -28,17 +30,21 @@ pub lawful-asked : Lawful askedField AskedFits
 lawful-asked =
     lawful-field (as-type (both short (both short regionNumbers)) askedTo askedFrom) AskedFits
     (lawful-as (both short (both short regionNumbers)) (λ t. Short (t .0) × (Short (t .1 .0) × RegionFits (t .1 .1)))
-    (lawful-both short (both short regionNumbers) Short (λ t. Short (t .0) × RegionFits (t .1)) (lawful-number 4) (lawful-both short regionNumbers Short RegionFits (lawful-number 4) lawful-region))
+    (lawful-both short (both short regionNumbers) Short (λ t. Short (t .0) × RegionFits (t .1)) (lawful-number 4)
+    (lawful-both short regionNumbers Short RegionFits (lawful-number 4) lawful-region))
     askedTo askedFrom (λ a. refl) (λ t. refl))
 
 -- ---- sections
 module _ {A : Type 0} (lo hi : ℕ) (F : Format A) (P : A → Type 0) (f : Lawful F P) where
   lawful-list : Lawful (listed 4 lo hi F) (ListFits 4 lo hi P)
-  lawful-list = lawful-headed 4 lo hi (many F) length (λ n xs. (length xs ≡ n) × All P xs) (lawful-many F P f) (λ c xs a z h. h .0)
+  lawful-list =
+      lawful-headed 4 lo hi (many F) length (λ n xs. (length xs ≡ n) × All P xs) (lawful-many F P f)
+      (λ c xs a z h. h .0)
 
 pub lawful-marks : Lawful marksSection MarksFit
 lawful-marks =
-    lawful-headed 4 2 2 (λ c. as-type (both short short) marksTo marksFrom) (λ m. 2) (λ c m. Short (m .gic) × Short (m .edition))
+    lawful-headed 4 2 2 (λ c. as-type (both short short) marksTo marksFrom) (λ m. 2)
+    (λ c m. Short (m .gic) × Short (m .edition))
     (λ c. lawful-as (both short short) (λ t. Short (t .0) × Short (t .1)) (lawful-both short short Short Short (lawful-number 4) (lawful-number 4)) marksTo marksFrom (λ m. refl) (λ t. refl))
     (λ c m a z h. omega arith)
 
@@ -48,8 +54,10 @@ module _ (l : Limits) where
 
   lawful-zone : Lawful (zoneFormat l) (ZoneFits l)
   lawful-zone =
-      lawful-as (both short (both (setFormat l) (setFormat l))) (λ t. Short (t .0) × (SetFits l (t .1 .0) × SetFits l (t .1 .1)))
-      (lawful-both short (both (setFormat l) (setFormat l)) Short (λ t. SetFits l (t .0) × SetFits l (t .1)) (lawful-number 4) (lawful-both (setFormat l) (setFormat l) (SetFits l) (SetFits l) lawful-set lawful-set))
+      lawful-as (both short (both (setFormat l) (setFormat l)))
+      (λ t. Short (t .0) × (SetFits l (t .1 .0) × SetFits l (t .1 .1)))
+      (lawful-both short (both (setFormat l) (setFormat l)) Short (λ t. SetFits l (t .0) × SetFits l (t .1))
+      (lawful-number 4) (lawful-both (setFormat l) (setFormat l) (SetFits l) (SetFits l) lawful-set lawful-set))
       zoneTo zoneFrom (λ z. refl) (λ t. refl)
 
   abbrev Regions : List Region → Type 0
@@ -72,9 +80,12 @@ module _ (l : Limits) where
 
   pub lawful-plan : Lawful (planFormat l) (PlanFits l)
   lawful-plan =
-      lawful-as (both marksSection (both (regionsSection l) (both (zonesSection l) (requestsSection l)))) (λ t. MarksFit (t .0) × (Regions (t .1 .0) × (Zones (t .1 .1 .0) × Requests (t .1 .1 .1))))
-      (lawful-both marksSection (both (regionsSection l) (both (zonesSection l) (requestsSection l))) MarksFit (λ t. Regions (t .0) × (Zones (t .1 .0) × Requests (t .1 .1))) lawful-marks
-      (lawful-both (regionsSection l) (both (zonesSection l) (requestsSection l)) Regions (λ t. Zones (t .0) × Requests (t .1)) lawful-regions
+      lawful-as (both marksSection (both (regionsSection l) (both (zonesSection l) (requestsSection l))))
+      (λ t. MarksFit (t .0) × (Regions (t .1 .0) × (Zones (t .1 .1 .0) × Requests (t .1 .1 .1))))
+      (lawful-both marksSection (both (regionsSection l) (both (zonesSection l) (requestsSection l))) MarksFit
+      (λ t. Regions (t .0) × (Zones (t .1 .0) × Requests (t .1 .1))) lawful-marks
+      (lawful-both (regionsSection l) (both (zonesSection l) (requestsSection l)) Regions
+      (λ t. Zones (t .0) × Requests (t .1)) lawful-regions
       (lawful-both (zonesSection l) (requestsSection l) Zones Requests lawful-zones lawful-requests)))
       planTo planFrom (λ p. refl) (λ t. refl)
 
@@ -83,7 +94,8 @@ module _ (l : Limits) where
   unfolding readPlan encode
   read-encoded p h = file-back (planFormat l) (PlanFits l) lawful-plan p h
 
-  pub no-slack : (b : List ℕ) (p : Plan) (t : List ℕ) → Bytes b → readPlan l b ≡ got p t → (b ≡ encode l p) × PlanFits l p
+  pub no-slack : (b : List ℕ) (p : Plan) (t : List ℕ) → Bytes b → readPlan l b ≡ got p t
+      → (b ≡ encode l p) × PlanFits l p
   unfolding readPlan encode
   no-slack b p t h e = file-tight (planFormat l) (PlanFits l) lawful-plan b p t h e
 
@@ -103,26 +115,35 @@ plan-ends l b p t e = file-ends (planFormat l) b p t e
 
 -- ---- what is written of a plan is bytes
 spelled-region : Spelled regionField
-spelled-region r = spelled-both long (both long long) (spelled-number 8) (spelled-both long long (spelled-number 8) (spelled-number 8)) (regionFrom r)
+spelled-region r =
+    spelled-both long (both long long) (spelled-number 8) (spelled-both long long (spelled-number 8) (spelled-number 8))
+    (regionFrom r)
 
 spelled-list : {A : Type 0} (lo hi : ℕ) (F : Format A) → Spelled F → Spelled (listed 4 lo hi F)
 spelled-list lo hi F f = spelled-headed 4 lo hi (many F) length (spelled-many F f)
 
 spelled-marks : Spelled marksSection
-spelled-marks = spelled-headed 4 2 2 (λ c. as-type (both short short) marksTo marksFrom) (λ m. 2) (λ c m. spelled-both short short (spelled-number 4) (spelled-number 4) (marksFrom m))
+spelled-marks =
+    spelled-headed 4 2 2 (λ c. as-type (both short short) marksTo marksFrom) (λ m. 2)
+    (λ c m. spelled-both short short (spelled-number 4) (spelled-number 4) (marksFrom m))
 
 spelled-asked : Spelled askedField
-spelled-asked a = spelled-both short (both short regionNumbers) (spelled-number 4) (spelled-both short regionNumbers (spelled-number 4) spelled-region) (askedFrom a)
+spelled-asked a =
+    spelled-both short (both short regionNumbers) (spelled-number 4)
+    (spelled-both short regionNumbers (spelled-number 4) spelled-region) (askedFrom a)
 
 spelled-zone : (l : Limits) → Spelled (zoneFormat l)
 spelled-zone l z =
     let set : Spelled (setFormat l) = spelled-list 0 (l .inSet) regionField spelled-region in
-    spelled-both short (both (setFormat l) (setFormat l)) (spelled-number 4) (spelled-both (setFormat l) (setFormat l) set set) (zoneFrom z)
+    spelled-both short (both (setFormat l) (setFormat l)) (spelled-number 4)
+    (spelled-both (setFormat l) (setFormat l) set set) (zoneFrom z)
 
 pub encoded-bytes : (l : Limits) (p : Plan) → Bytes (encode l p)
 unfolding encode
 encoded-bytes l p =
     spelled-both marksSection (both (regionsSection l) (both (zonesSection l) (requestsSection l))) spelled-marks
-    (spelled-both (regionsSection l) (both (zonesSection l) (requestsSection l)) (spelled-list 1 (l .regions) regionField spelled-region)
-    (spelled-both (zonesSection l) (requestsSection l) (spelled-list 0 (l .zones) (zoneFormat l) (spelled-zone l)) (spelled-list 0 (l .requests) askedField spelled-asked)))
+    (spelled-both (regionsSection l) (both (zonesSection l) (requestsSection l))
+    (spelled-list 1 (l .regions) regionField spelled-region)
+    (spelled-both (zonesSection l) (requestsSection l) (spelled-list 0 (l .zones) (zoneFormat l) (spelled-zone l))
+    (spelled-list 0 (l .requests) askedField spelled-asked)))
     (planFrom p)

@@ -1,4 +1,5 @@
--- The planner's plans: one that may be asked for fits into its bytes, is for the terminal's base, and reads as what it says.
+-- The planner's plans: one that may be asked for fits into its bytes, is
+-- for the terminal's base, and reads as what it says.
 use Prim.Native.Nat.{ℕ, suc, _+_, _^_, _≤_, _<_}
 use native.Mathlib.Omega.{arith}
 use mathlib.Core.Bool.{Bool, true}
@@ -56,7 +57,11 @@ module _ (lim : Limits) (say : Sayable lim) where
       said = omega arith;
       least = (let g : c .gic < length (c .regions) = ok .gic in omega arith);
       most = ok .most;
-      fits = (refl, all-places RegionFits (c .regions) noRegion (λ i h. reach-fits (getD (c .regions) i noRegion) (ok .near i h)));
+      fits = (
+        refl,
+        all-places RegionFits (c .regions) noRegion
+            (λ i h. reach-fits (getD (c .regions) i noRegion) (ok .near i h)),
+      );
     }
 
     set-fits : (xs : List Region) → soundSet lim c xs ≡ true → SetFits lim xs
@@ -78,7 +83,8 @@ module _ (lim : Limits) (say : Sayable lim) where
     zones-fit t s = let m : length t ≤ lim .zones = s .few in let n : lim .zones < 256 ^ 4 = say .zones in record { said = omega arith; least = omega arith; most = s .few; fits = (refl, all-passing (ZoneFits lim) (soundZone lim c) zone-fits t (s .zones)) }
 
   -- ---- the planner's plan
-  module _ (s : Terminal) (q : List Asked) (full : length (s .config .records) ≡ lim .regions) (e : standing lim (s .config) (s .table) ≡ 0) (may : MayAsk lim s q) where
+  module _ (s : Terminal) (q : List Asked) (full : length (s .config .records) ≡ lim .regions)
+      (e : standing lim (s .config) (s .table) ≡ 0) (may : MayAsk lim s q) where
     config-ok : SoundConfiguration lim (configOf (s .config))
     config-ok = passed lim (s .config) full (stands-well lim (s .config) (s .table) e .0)
 
@@ -91,7 +97,17 @@ module _ (lim : Limits) (say : Sayable lim) where
         record { said = omega arith; least = omega arith; most = omega arith; fits = (omega arith, omega arith) }
 
     plan-fits : PlanFits lim (planFor s q)
-    plan-fits = (marks-fit, (regions-fit (configOf (s .config)) config-ok, (zones-fit (configOf (s .config)) config-ok (tableOf (s .table)) (stands-well lim (s .config) (s .table) e .1), may .fits)))
+    plan-fits = (
+      marks-fit,
+      (
+        regions-fit (configOf (s .config)) config-ok,
+        (
+          zones-fit (configOf (s .config)) config-ok (tableOf (s .table))
+              (stands-well lim (s .config) (s .table) e .1),
+          may .fits,
+        ),
+      ),
+    )
 
     pub plan-reads : readPlan lim (planBytes lim s q) ≡ got (planFor s q) []
     plan-reads = read-encoded lim (planFor s q) plan-fits

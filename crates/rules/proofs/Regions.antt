@@ -1,4 +1,4 @@
--- Regions: equality is equality, and what is well formed and in reach.
+-- Regions: the test of equality is equality, number by number.
 use mathlib.Core.Bool.{true}
 use mathlib.Core.Path.{_≡_, refl}
 use borrow.Author.Tests.{eqb-true, eq-eqb}
@@ -18,4 +18,5 @@ equal-same a b e =
 
 pub equal-refl : (a : Region) → regionEq a a ≡ true
 unfolding regionEq
-equal-refl a = whole _ (eq-eqb (a .v .0) (a .v .0) refl, (eq-eqb (a .p .0) (a .p .0) refl, (eq-eqb (a .size) (a .size) refl, tt)))
+equal-refl a =
+    whole _ (eq-eqb (a .v .0) (a .v .0) refl, (eq-eqb (a .p .0) (a .p .0) refl, (eq-eqb (a .size) (a .size) refl, tt)))

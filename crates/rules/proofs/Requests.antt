@@ -36,8 +36,10 @@ unfolding holdsAny
 nothing-held k t c i = false-both _ _ (none-above _ (ap length c)) (none-above _ (ap length i))
 
 module _ (lim : Limits) where
-  pub request-numbered : (c : Configuration) (k : Kind) (id : ℕ) (t : List Zone) → numbered (requestRules lim c k id t) ≡ true
-  unfolding numbered pairwise all requestRules kindRules addRules removeZoneRules insertRules regionRules setRules removeRules
+  pub request-numbered : (c : Configuration) (k : Kind) (id : ℕ) (t : List Zone)
+      → numbered (requestRules lim c k id t) ≡ true
+  unfolding numbered pairwise all requestRules kindRules addRules removeZoneRules insertRules regionRules setRules
+      removeRules
   request-numbered c AddZone id t = refl
   request-numbered c RemoveZone id t = refl
   request-numbered c (Insert s r) id t = refl
@@ -53,5 +55,6 @@ module _ (lim : Limits) where
   request-above c NoRequest id t = refl
 
   -- of an accepted request the rule of every number is silent
-  pub none-applies : (c : Configuration) (k : Kind) (id : ℕ) (t : List Zone) → firstRule (requestRules lim c k id t) 0 ≡ 0 → (n : ℕ) → testOf (λ m. m) n (requestRules lim c k id t) ≡ false
+  pub none-applies : (c : Configuration) (k : Kind) (id : ℕ) (t : List Zone)
+      → firstRule (requestRules lim c k id t) 0 ≡ 0 → (n : ℕ) → testOf (λ m. m) n (requestRules lim c k id t) ≡ false
   none-applies c k id t e = silent-number (requestRules lim c k id t) (request-above c k id t) e

@@ -1,4 +1,5 @@
--- A run: where it stops, and what it then leaves.
+-- A run stops at the first request that is refused, and leaves what the requests
+-- before it leave: by induction, one request taken off at a time.
 use Prim.Native.Nat.{ℕ, zero, suc, _+_, _<_}
 use native.Mathlib.Omega.{arith}
 use mathlib.Core.Bool.{Bool, cond}
@@ -23,27 +24,38 @@ module _ (l : Limits) (c : Configuration) (d : Request) where
   module _ (k : ℕ) (t : List Zone) (q : Request) (qs : List Request) where
     goes-on : refusal l c t q ≡ 0 → runFrom l c k t (q ∷ qs) ≡ runFrom l c (suc k) (next l c t q) qs
     unfolding runFrom
-    goes-on e = ap (λ (b : Bool). cond b (runFrom l c (suc k) (next l c t q) qs) (record { place = k; inner = refusal l c t q; table = t })) (eq-eqb (refusal l c t q) 0 e)
+    goes-on e =
+        ap (λ (b : Bool). cond b (runFrom l c (suc k) (next l c t q) qs)
+        (record { place = k; inner = refusal l c t q; table = t }))
+        (eq-eqb (refusal l c t q) 0 e)
 
-    stops-here : (refusal l c t q ≡ 0 → ⊥) → runFrom l c k t (q ∷ qs) ≡ record { place = k; inner = refusal l c t q; table = t }
+    stops-here : (refusal l c t q ≡ 0 → ⊥)
+        → runFrom l c k t (q ∷ qs) ≡ record { place = k; inner = refusal l c t q; table = t }
     unfolding runFrom
-    stops-here ne = ap (λ (b : Bool). cond b (runFrom l c (suc k) (next l c t q) qs) (record { place = k; inner = refusal l c t q; table = t })) (ne-eqb (refusal l c t q) 0 ne)
+    stops-here ne =
+        ap (λ (b : Bool). cond b (runFrom l c (suc k) (next l c t q) qs)
+        (record { place = k; inner = refusal l c t q; table = t }))
+        (ne-eqb (refusal l c t q) 0 ne)
 
   -- all are accepted
-  pub run-all : (k : ℕ) (t : List Zone) (qs : List Request) → ((j : ℕ) → j < length qs → numberOf t qs j ≡ 0) → runFrom l c k t qs ≡ record { place = k + length qs; inner = 0; table = runs (next l c) t qs }
+  pub run-all : (k : ℕ) (t : List Zone) (qs : List Request) → ((j : ℕ) → j < length qs → numberOf t qs j ≡ 0)
+      → runFrom l c k t qs ≡ record { place = k + length qs; inner = 0; table = runs (next l c) t qs }
   unfolding runFrom runs
   run-all k t [] f = let e : k ≡ k + 0 = omega arith in (λ i. record { place = e i; inner = 0; table = t })
   run-all k t (q ∷ qs) f =
       let e : suc k + length qs ≡ k + suc (length qs) = omega arith in
-      goes-on k t q qs (f 0 (omega arith)) ∙ run-all (suc k) (next l c t q) qs (λ j h. f (suc j) (omega arith)) ∙ (λ i. record { place = e i; inner = 0; table = runs (next l c) (next l c t q) qs })
+      goes-on k t q qs (f 0 (omega arith)) ∙ run-all (suc k) (next l c t q) qs (λ j h. f (suc j) (omega arith))
+      ∙ (λ i. record { place = e i; inner = 0; table = runs (next l c) (next l c t q) qs })
 
   -- request i is the first that is refused
-  pub run-stops : (k : ℕ) (t : List Zone) (qs : List Request) (i : ℕ) → i < length qs → ((j : ℕ) → j < i → numberOf t qs j ≡ 0) → (numberOf t qs i ≡ 0 → ⊥)
+  pub run-stops : (k : ℕ) (t : List Zone) (qs : List Request) (i : ℕ) → i < length qs
+      → ((j : ℕ) → j < i → numberOf t qs j ≡ 0) → (numberOf t qs i ≡ 0 → ⊥)
       → runFrom l c k t qs ≡ record { place = k + i; inner = numberOf t qs i; table = runs (next l c) t (take i qs) }
   unfolding runs
   run-stops k t [] i h f ne = absurd (omega arith)
   run-stops k t (q ∷ qs) zero h f ne = let e : k ≡ k + 0 = omega arith in stops-here k t q qs ne ∙ (λ i. record { place = e i; inner = refusal l c t q; table = t })
   run-stops k t (q ∷ qs) (suc i) h f ne =
       let e : suc k + i ≡ k + suc i = omega arith in
-      goes-on k t q qs (f 0 (omega arith)) ∙ run-stops (suc k) (next l c t q) qs i (omega arith) (λ j m. f (suc j) (omega arith)) ne
+      goes-on k t q qs (f 0 (omega arith))
+      ∙ run-stops (suc k) (next l c t q) qs i (omega arith) (λ j m. f (suc j) (omega arith)) ne
       ∙ (λ x. record { place = e x; inner = numberOf (next l c t q) qs i; table = runs (next l c) (next l c t q) (take i qs) })

@@ -1,4 +1,5 @@
--- A plan that reads whole: its sections, each with what it leaves; its counts are within limits; and its own base is what it says.
+-- A plan that reads whole: its sections, each with what it leaves; its
+-- counts are within limits; and its own base is what it says.
 use Prim.Native.Nat.{ℕ, _≤_}
 use mathlib.Core.List.{List, []}
 use mathlib.Core.Path.{_≡_, refl}

@@ -26,10 +26,15 @@ sized-long : Sized long (λ n. longSize)
 sized-long = sized-number 8
 
 pub sized-region : Sized regionField (λ r. regionSize)
-sized-region r = sized-both long (both long long) (λ n. longSize) (λ p. longSize + longSize) sized-long (sized-both long long (λ n. longSize) (λ n. longSize) sized-long sized-long) (r .v .0, (r .p .0, r .size))
+sized-region r =
+    sized-both long (both long long) (λ n. longSize) (λ p. longSize + longSize) sized-long
+    (sized-both long long (λ n. longSize) (λ n. longSize) sized-long sized-long) (r .v .0, (r .p .0, r .size))
 
 sized-asked : Sized askedField (λ a. askedSize)
-sized-asked a = sized-both short (both short regionNumbers) (λ n. shortSize) (λ p. shortSize + regionSize) sized-short (sized-both short regionNumbers (λ n. shortSize) (λ r. regionSize) sized-short sized-region) (a .kind, (a .zone, a .region))
+sized-asked a =
+    sized-both short (both short regionNumbers) (λ n. shortSize) (λ p. shortSize + regionSize) sized-short
+    (sized-both short regionNumbers (λ n. shortSize) (λ r. regionSize) sized-short sized-region)
+    (a .kind, (a .zone, a .region))
 
 -- a list of elements of one size
 module _ {A : Type 0} (lo hi k : ℕ) (F : Format A) (s : Sized F (λ x. k)) where
@@ -37,7 +42,9 @@ module _ {A : Type 0} (lo hi k : ℕ) (F : Format A) (s : Sized F (λ x. k)) whe
   sized-list xs = sized-listed F (λ x. k) s 4 lo hi xs ∙ ap (λ (n : ℕ). shortSize + n) (total-same k xs)
 
 pub sized-marks : Sized marksSection (λ m. marksSize)
-sized-marks = sized-headed 4 2 2 (λ c. as-type (both short short) marksTo marksFrom) (λ m. 2) (λ m. shortSize + shortSize) (λ c m. sized-both short short (λ n. shortSize) (λ n. shortSize) sized-short sized-short (m .gic, m .edition))
+sized-marks =
+    sized-headed 4 2 2 (λ c. as-type (both short short) marksTo marksFrom) (λ m. 2) (λ m. shortSize + shortSize)
+    (λ c m. sized-both short short (λ n. shortSize) (λ n. shortSize) sized-short sized-short (m .gic, m .edition))
 
 module _ (l : Limits) where
   abbrev ofRegions : List Region → ℕ
@@ -48,7 +55,8 @@ module _ (l : Limits) where
 
   pub sized-zone : Sized (zoneFormat l) zoneSize
   sized-zone z =
-      sized-both short (both (setFormat l) (setFormat l)) (λ n. shortSize) (λ t. ofRegions (t .0) + ofRegions (t .1)) sized-short
+      sized-both short (both (setFormat l) (setFormat l)) (λ n. shortSize)
+      (λ t. ofRegions (t .0) + ofRegions (t .1)) sized-short
       (sized-both (setFormat l) (setFormat l) ofRegions ofRegions sized-set sized-set) (z .id, (z .cpu, z .iommu))
 
   abbrev ofZones : List Zone → ℕ
@@ -61,9 +69,13 @@ module _ (l : Limits) where
   pub encoded-length : (p : Plan) → length (encode l p) ≡ planSize p
   unfolding encode planSize
   encoded-length p =
-      sized-both marksSection (both (regionsSection l) (both (zonesSection l) (requestsSection l))) (λ m. marksSize) (λ t. ofRegions (t .0) + (ofZones (t .1 .0) + ofAsked (t .1 .1))) sized-marks
-      (sized-both (regionsSection l) (both (zonesSection l) (requestsSection l)) ofRegions (λ t. ofZones (t .0) + ofAsked (t .1)) (sized-list 1 (l .regions) regionSize regionField sized-region)
-      (sized-both (zonesSection l) (requestsSection l) ofZones ofAsked (sized-listed (zoneFormat l) zoneSize sized-zone 4 0 (l .zones)) (sized-list 0 (l .requests) askedSize askedField sized-asked)))
+      sized-both marksSection (both (regionsSection l) (both (zonesSection l) (requestsSection l))) (λ m. marksSize)
+      (λ t. ofRegions (t .0) + (ofZones (t .1 .0) + ofAsked (t .1 .1))) sized-marks
+      (sized-both (regionsSection l) (both (zonesSection l) (requestsSection l)) ofRegions
+      (λ t. ofZones (t .0) + ofAsked (t .1)) (sized-list 1 (l .regions) regionSize regionField sized-region)
+      (sized-both (zonesSection l) (requestsSection l) ofZones ofAsked
+      (sized-listed (zoneFormat l) zoneSize sized-zone 4 0 (l .zones))
+      (sized-list 0 (l .requests) askedSize askedField sized-asked)))
       (p .marks, (p .regions, (p .zones, p .asked)))
 
   -- ---- between the least and the longest
@@ -78,16 +90,24 @@ module _ (l : Limits) where
   unfolding planSize
   most-length p (m, (r, (z, q))) =
       let k : ℕ = setsSize (l .inSet) (l .inSet) in
-      omega (arith, encoded-length p, total-most zoneSize (ZoneFits l) k most-zone (p .zones) (z .fits .1), mul-le-mul-right k (z .most))
+      omega (
+        arith,
+        encoded-length p,
+        total-most zoneSize (ZoneFits l) k most-zone (p .zones) (z .fits .1),
+        mul-le-mul-right k (z .most),
+      )
 
 -- whatever reads whole lies between
-pub whole-length : (l : Limits) (b : List ℕ) (p : Plan) (t : List ℕ) → Bytes b → readPlan l b ≡ got p t → (leastSize ≤ length b) × (length b ≤ longestSize l)
+pub whole-length : (l : Limits) (b : List ℕ) (p : Plan) (t : List ℕ) → Bytes b → readPlan l b ≡ got p t
+    → (leastSize ≤ length b) × (length b ≤ longestSize l)
 whole-length l b p t h e =
     let (w, f) = no-slack l b p t h e in
     rw w (least-length l p f, most-length l p f)
 
 -- ---- a plan with so many of each
-pub counts-length : (l : Limits) (r z c i q : ℕ) → length (encode l (planWith r z c i q)) ≡ marksSize + (regionsSize r + ((shortSize + z * setsSize c i) + requestsSize q))
+pub counts-length : (l : Limits) (r z c i q : ℕ)
+    → length (encode l (planWith r z c i q))
+    ≡ marksSize + (regionsSize r + ((shortSize + z * setsSize c i) + requestsSize q))
 unfolding planSize
 counts-length l r z c i q =
     let zone : zoneSize (zoneWith c i) ≡ setsSize c i = omega (arith, length-replicate c noRegion, length-replicate i noRegion) in
@@ -102,7 +122,8 @@ zero-region : RegionFits noRegion
 zero-region = (omega arith, (omega arith, omega arith))
 
 module _ (l : Limits) (say : Sayable l) (r z c i q : ℕ) where
-  pub counts-fit : 1 ≤ r → r ≤ l .regions → z ≤ l .zones → c ≤ l .inSet → i ≤ l .inSet → q ≤ l .requests → PlanFits l (planWith r z c i q)
+  pub counts-fit : 1 ≤ r → r ≤ l .regions → z ≤ l .zones → c ≤ l .inSet → i ≤ l .inSet → q ≤ l .requests
+      → PlanFits l (planWith r z c i q)
   counts-fit one mr mz mc mi mq =
       let sr : l .regions < 256 ^ 4 = say .regions in
       let sz : l .zones < 256 ^ 4 = say .zones in
@@ -113,15 +134,19 @@ module _ (l : Limits) (say : Sayable l) (r z c i q : ℕ) where
         (
           full-list RegionFits noRegion zero-region 1 (l .regions) r one mr (omega arith),
           (
-            full-list (ZoneFits l) (zoneWith c i) (omega arith, (set c mc, set i mi)) 0 (l .zones) z (omega arith) mz (omega arith),
-            full-list AskedFits noAsked (omega arith, (omega arith, zero-region)) 0 (l .requests) q (omega arith) mq (omega arith),
+            full-list (ZoneFits l) (zoneWith c i) (omega arith, (set c mc, set i mi)) 0 (l .zones) z (omega arith) mz
+                (omega arith),
+            full-list AskedFits noAsked (omega arith, (omega arith, zero-region)) 0 (l .requests) q (omega arith) mq
+                (omega arith),
           ),
         ),
       )
 
 -- ---- the most that reading takes
 region-most : Most regionNumbers regionSize
-region-most = most-as (both long (both long long)) regionTo regionFrom regionSize (most-both long (both long long) 8 16 (most-number 8) (most-both long long 8 8 (most-number 8) (most-number 8)))
+region-most =
+    most-as (both long (both long long)) regionTo regionFrom regionSize
+    (most-both long (both long long) 8 16 (most-number 8) (most-both long long 8 8 (most-number 8) (most-number 8)))
 
 region-field-most : Most regionField regionSize
 region-field-most = most-field regionNumbers regionSize region-most
@@ -130,10 +155,13 @@ asked-most : Most askedField askedSize
 asked-most =
     most-field (as-type (both short (both short regionNumbers)) askedTo askedFrom) askedSize
     (most-as (both short (both short regionNumbers)) askedTo askedFrom askedSize
-    (most-both short (both short regionNumbers) 4 (4 + regionSize) (most-number 4) (most-both short regionNumbers 4 regionSize (most-number 4) region-most)))
+    (most-both short (both short regionNumbers) 4 (4 + regionSize) (most-number 4)
+    (most-both short regionNumbers 4 regionSize (most-number 4) region-most)))
 
 marks-most : Most marksSection marksSize
-marks-most = most-headed 4 2 2 (λ c. as-type (both short short) marksTo marksFrom) (λ m. 2) 8 (λ c h. most-as (both short short) marksTo marksFrom 8 (most-both short short 4 4 (most-number 4) (most-number 4)))
+marks-most =
+    most-headed 4 2 2 (λ c. as-type (both short short) marksTo marksFrom) (λ m. 2) 8
+    (λ c h. most-as (both short short) marksTo marksFrom 8 (most-both short short 4 4 (most-number 4) (most-number 4)))
 
 module _ (l : Limits) where
   set-most : Most (setFormat l) (regionsSize (l .inSet))
@@ -142,18 +170,26 @@ module _ (l : Limits) where
   zone-most : Most (zoneFormat l) (setsSize (l .inSet) (l .inSet))
   zone-most =
       most-as (both short (both (setFormat l) (setFormat l))) zoneTo zoneFrom (setsSize (l .inSet) (l .inSet))
-      (most-both short (both (setFormat l) (setFormat l)) 4 (regionsSize (l .inSet) + regionsSize (l .inSet)) (most-number 4) (most-both (setFormat l) (setFormat l) (regionsSize (l .inSet)) (regionsSize (l .inSet)) set-most set-most))
+      (most-both short (both (setFormat l) (setFormat l)) 4 (regionsSize (l .inSet) + regionsSize (l .inSet))
+      (most-number 4)
+      (most-both (setFormat l) (setFormat l) (regionsSize (l .inSet)) (regionsSize (l .inSet)) set-most set-most))
 
   plan-most : Most (planFormat l) (longestSize l)
   plan-most =
       let zones : ℕ = shortSize + l .zones * setsSize (l .inSet) (l .inSet) in
-      most-as (both marksSection (both (regionsSection l) (both (zonesSection l) (requestsSection l)))) planTo planFrom (longestSize l)
-      (most-both marksSection (both (regionsSection l) (both (zonesSection l) (requestsSection l))) marksSize (regionsSize (l .regions) + (zones + requestsSize (l .requests))) marks-most
-      (most-both (regionsSection l) (both (zonesSection l) (requestsSection l)) (regionsSize (l .regions)) (zones + requestsSize (l .requests)) (most-listed 4 1 (l .regions) regionField regionSize region-field-most)
-      (most-both (zonesSection l) (requestsSection l) zones (requestsSize (l .requests)) (most-listed 4 0 (l .zones) (zoneFormat l) (setsSize (l .inSet) (l .inSet)) zone-most) (most-listed 4 0 (l .requests) askedField askedSize asked-most))))
+      most-as (both marksSection (both (regionsSection l) (both (zonesSection l) (requestsSection l)))) planTo planFrom
+      (longestSize l)
+      (most-both marksSection (both (regionsSection l) (both (zonesSection l) (requestsSection l))) marksSize
+      (regionsSize (l .regions) + (zones + requestsSize (l .requests))) marks-most
+      (most-both (regionsSection l) (both (zonesSection l) (requestsSection l)) (regionsSize (l .regions))
+      (zones + requestsSize (l .requests)) (most-listed 4 1 (l .regions) regionField regionSize region-field-most)
+      (most-both (zonesSection l) (requestsSection l) zones (requestsSize (l .requests))
+      (most-listed 4 0 (l .zones) (zoneFormat l) (setsSize (l .inSet) (l .inSet)) zone-most)
+      (most-listed 4 0 (l .requests) askedField askedSize asked-most))))
 
   -- more than the longest plan is refused, and by the first of those bytes: what lies behind them changes nothing
-  pub plan-past : (u v : List ℕ) → longestSize l < length u → (k : ℕ) × (t : List ℕ) × (readPlan l u ≡ bad k t) × (readPlan l (u ++ v) ≡ bad k (t ++ v))
+  pub plan-past : (u v : List ℕ) → longestSize l < length u
+      → (k : ℕ) × (t : List ℕ) × (readPlan l u ≡ bad k t) × (readPlan l (u ++ v) ≡ bad k (t ++ v))
   unfolding readPlan
   plan-past u v h = file-past (planFormat l) (longestSize l) plan-most u v h
 

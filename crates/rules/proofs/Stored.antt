@@ -1,4 +1,5 @@
--- Configurations and tables as they are stored: what was stored is read back, and a sound list of zones is stored as a sound table.
+-- Configurations and tables as they are stored: what was stored is read
+-- back, and a sound list of zones is stored as a sound table.
 use Prim.Native.Nat.{ℕ, zero, suc, _-_, _≤_, _<_}
 use native.Mathlib.Omega.{arith}
 use mathlib.Core.Bool.{Bool, true, false, cond, not, Bool·not-not}
@@ -44,33 +45,40 @@ pub length-table : (t : StoredTable) → length (tableOf t) ≡ t .count
 unfolding tableOf
 length-table t = length-map (room (t .count) noStored (t .zones)) zoneOf ∙ length-room (t .count) noStored (t .zones)
 
-pub zone-read : (t : StoredTable) (z : ℕ) → z < t .count → getD (tableOf t) z noZone ≡ zoneOf (getD (t .zones) z noStored)
+pub zone-read : (t : StoredTable) (z : ℕ) → z < t .count
+    → getD (tableOf t) z noZone ≡ zoneOf (getD (t .zones) z noStored)
 unfolding tableOf
 zone-read t z h =
     let zs : List StoredZone = room (t .count) noStored (t .zones) in
-    getD-any (map zoneOf zs) z noZone (zoneOf noStored) (omega (arith, length-map zs zoneOf, length-room (t .count) noStored (t .zones)))
+    getD-any (map zoneOf zs) z noZone (zoneOf noStored)
+    (omega (arith, length-map zs zoneOf, length-room (t .count) noStored (t .zones)))
     ∙ List·getD-map zoneOf zs z noStored ∙ ap zoneOf (room-read (t .count) noStored (t .zones) z h)
 
 -- ---- what is stored with zeros in what is free is what would be stored of it
-module _ {A : Type 0} (n k : ℕ) (z : A) (xs : List A) (len : length xs ≡ n) (few : k ≤ n) (free : drop k xs ≡ replicate (n - k) z) where
+module _ {A : Type 0} (n k : ℕ) (z : A) (xs : List A) (len : length xs ≡ n) (few : k ≤ n)
+    (free : drop k xs ≡ replicate (n - k) z) where
   pub refilled : room n z (room k z xs) ≡ xs
   refilled =
       let t : room k z xs ≡ take k xs = room-take k z xs (omega arith) in
       let l : length (take k xs) ≡ k = omega (arith, length-take k xs) in
       let m : n - length (take k xs) ≡ n - k = omega arith in
-      ap (room n z) t ∙ room-rest n z (take k xs) (omega arith) ∙ ap (λ (j : ℕ). take k xs ++ replicate j z) m ∙ ap (λ (r : List A). take k xs ++ r) (sym free) ∙ take-append-drop k xs
+      ap (room n z) t ∙ room-rest n z (take k xs) (omega arith) ∙ ap (λ (j : ℕ). take k xs ++ replicate j z) m
+      ∙ ap (λ (r : List A). take k xs ++ r) (sym free) ∙ take-append-drop k xs
 
 -- elements that are all z
-all-alike : {A : Type 0} (p : A → Bool) (z : A) → ((x : A) → p x ≡ true → x ≡ z) → (xs : List A) → all p xs ≡ true → xs ≡ replicate (length xs) z
+all-alike : {A : Type 0} (p : A → Bool) (z : A) → ((x : A) → p x ≡ true → x ≡ z) → (xs : List A) → all p xs ≡ true
+    → xs ≡ replicate (length xs) z
 unfolding all
 all-alike p z f [] e = refl
 all-alike {A} p z f (x ∷ xs) e = let h = both-true (p x) (all p xs) e in ap₂ (λ (y : A) (l : List A). y ∷ l) (f x (h .0)) (all-alike p z f xs (h .1))
 
-unused-zeros : (k n : ℕ) (xs : List Region) → length xs ≡ n → any used (drop k xs) ≡ false → drop k xs ≡ replicate (n - k) noRegion
+unused-zeros : (k n : ℕ) (xs : List Region) → length xs ≡ n → any used (drop k xs) ≡ false
+    → drop k xs ≡ replicate (n - k) noRegion
 unused-zeros k n xs len e =
     let h : all (λ (r : Region). not (used r)) (drop k xs) ≡ true = sym (none-all used (drop k xs)) ∙ not-fails _ e in
     let l : length (drop k xs) ≡ n - k = omega (arith, length-drop k xs) in
-    all-alike (λ (r : Region). not (used r)) noRegion (λ r f. equal-same r noRegion (not-not-true _ f)) (drop k xs) h ∙ ap (λ (j : ℕ). replicate j noRegion) l
+    all-alike (λ (r : Region). not (used r)) noRegion (λ r f. equal-same r noRegion (not-not-true _ f)) (drop k xs) h
+    ∙ ap (λ (j : ℕ). replicate j noRegion) l
   where
     not-not-true : (b : Bool) → not (not b) ≡ true → b ≡ true
     not-not-true b f = sym (Bool·not-not b) ∙ f
@@ -105,7 +113,8 @@ module _ (lim : Limits) where
   stored-zones t h =
       let zs : List StoredZone = map (storeZone lim) t in
       let n : length zs ≡ length t = length-map t (storeZone lim) in
-      ap (λ (k : ℕ). map zoneOf (room k noStored (room (lim .zones) (unusedZone lim) zs))) (sym n) ∙ ap (map zoneOf) (read-back (lim .zones) noStored (unusedZone lim) zs (omega arith))
+      ap (λ (k : ℕ). map zoneOf (room k noStored (room (lim .zones) (unusedZone lim) zs))) (sym n)
+      ∙ ap (map zoneOf) (read-back (lim .zones) noStored (unusedZone lim) zs (omega arith))
 
   few-zones : (t : List Zone) → All SetsFew t → map zoneOf (map (storeZone lim) t) ≡ t
   few-zones [] h = refl
@@ -142,23 +151,31 @@ module _ (lim : Limits) where
     few = let f : length t ≤ lim .zones = ok .few in omega (arith, many)
 
     pub table-back : tableOf (store lim t) ≡ t
-    table-back = stored-zones t (ok .few) ∙ map-back (soundZone lim c) (storeZone lim) zoneOf (zone-back c) t (ok .zones)
+    table-back =
+        stored-zones t (ok .few) ∙ map-back (soundZone lim c) (storeZone lim) zoneOf (zone-back c) t (ok .zones)
 
     store-tidy : tidy (store lim t) ≡ true
     unfolding tidy
     store-tidy =
         whole _ (
-          ap (all tidyZone) (ap (λ (n : ℕ). take n (room (lim .zones) (unusedZone lim) zones)) (sym many) ∙ room-back (lim .zones) (unusedZone lim) zones few)
-              ∙ all-map (storeZone lim) tidyZone t ∙ all-from (soundZone lim c) (soundZone lim c) (λ (z : Zone). tidyZone (storeZone lim z)) (λ z e f. zone-tidy c z e) t (ok .zones) (ok .zones),
+          ap (all tidyZone)
+              (ap (λ (n : ℕ). take n (room (lim .zones) (unusedZone lim) zones)) (sym many)
+              ∙ room-back (lim .zones) (unusedZone lim) zones few)
+              ∙ all-map (storeZone lim) tidyZone t
+              ∙ all-from (soundZone lim c) (soundZone lim c) (λ (z : Zone). tidyZone (storeZone lim z))
+              (λ z e f. zone-tidy c z e) t (ok .zones) (ok .zones),
           (
-            ap (all zeroZone) (ap (λ (n : ℕ). drop n (room (lim .zones) (unusedZone lim) zones)) (sym many) ∙ room-after (lim .zones) (unusedZone lim) zones few)
+            ap (all zeroZone)
+                (ap (λ (n : ℕ). drop n (room (lim .zones) (unusedZone lim) zones)) (sym many)
+                ∙ room-after (lim .zones) (unusedZone lim) zones few)
                 ∙ all-replicate zeroZone (lim .zones - length zones) (unusedZone lim) unused-zero,
             tt,
           ),
         )
 
   -- a configuration that passed
-  pub config-stored : (s : StoredConfig) → length (s .records) ≡ lim .regions → check lim s ≡ Sound → s ≡ storeConfig lim (configOf s)
+  pub config-stored : (s : StoredConfig) → length (s .records) ≡ lim .regions → check lim s ≡ Sound
+      → s ≡ storeConfig lim (configOf s)
   unfolding configOf
   config-stored s len e =
       let n : length (room (s .count) noRegion (s .records)) ≡ s .count = length-room (s .count) noRegion (s .records) in
@@ -174,22 +191,31 @@ module _ (lim : Limits) where
     pub stands-well : standing lim c t ≡ 0 → (check lim c ≡ Sound) × SoundTable lim (configOf c) (tableOf t)
     unfolding standingRules aboveZero all checkTable testOf
     stands-well e =
-        let h = silent-number (standingRules lim c t) refl e in
-        (sound-answer _ (not-false _ (h 1)), sound-parts lim (configOf c) (tableOf t) (parts _ (not-false _ (h 2)) .1 .1 .0))
+        let h = silent-number (standingRules lim c t) refl e in (
+          sound-answer _ (not-false _ (h 1)),
+          sound-parts lim (configOf c) (tableOf t) (parts _ (not-false _ (h 2)) .1 .1 .0),
+        )
 
-  pub stored-stands : (c : StoredConfig) (t : List Zone) → check lim c ≡ Sound → SoundTable lim (configOf c) t → standing lim c (store lim t) ≡ 0
+  pub stored-stands : (c : StoredConfig) (t : List Zone) → check lim c ≡ Sound → SoundTable lim (configOf c) t
+      → standing lim c (store lim t) ≡ 0
   unfolding standingRules checkTable
   stored-stands c t e ok =
       let s : isSound (check lim c) ≡ true = ap isSound e ∙ sound-is in
       let back : sound lim (configOf c) (tableOf (store lim t)) ≡ true = ap (sound lim (configOf c)) (table-back (configOf c) t ok) ∙ parts-sound lim (configOf c) t ok in
-      sym (quiet-answer (standingRules lim c (store lim t)) 0 (not-holds _ s, (not-holds _ (whole _ (s, (store-tidy (configOf c) t ok, (back, tt)))), tt)))
+      sym (quiet-answer (standingRules lim c (store lim t)) 0
+      (not-holds _ s, (not-holds _ (whole _ (s, (store-tidy (configOf c) t ok, (back, tt)))), tt)))
 
   -- ---- a run keeps a sound table sound, wherever it ends
-  pub run-from-keeps : (c : Configuration) (i : ℕ) (t : List Zone) (qs : List Request) → SoundTable lim c t → SoundTable lim c (runFrom lim c i t qs .table)
+  pub run-from-keeps : (c : Configuration) (i : ℕ) (t : List Zone) (qs : List Request) → SoundTable lim c t
+      → SoundTable lim c (runFrom lim c i t qs .table)
   unfolding runFrom
   run-from-keeps c i t [] ok = ok
-  run-from-keeps c i t (q ∷ qs) ok = by (run-from-keeps c (suc i) (next lim c t q) qs (next-keeps lim c t q ok)) (eqb (refusal lim c t q) 0)
+  run-from-keeps c i t (q ∷ qs) ok =
+      by (run-from-keeps c (suc i) (next lim c t q) qs (next-keeps lim c t q ok)) (eqb (refusal lim c t q) 0)
     where
-      by : SoundTable lim c (runFrom lim c (suc i) (next lim c t q) qs .table) → (b : Bool) → SoundTable lim c (cond b (runFrom lim c (suc i) (next lim c t q) qs) (record { place = i; inner = refusal lim c t q; table = t }) .table)
+      by : SoundTable lim c (runFrom lim c (suc i) (next lim c t q) qs .table) → (b : Bool)
+          → SoundTable lim c
+          (cond b (runFrom lim c (suc i) (next lim c t q) qs)
+          (record { place = i; inner = refusal lim c t q; table = t }) .table)
       by f true = f
       by f false = ok

@@ -21,13 +21,16 @@ use Rattle.rules.proofs.Regions.{equal-same, equal-refl}
 module _ (lim : Limits) where
   module _ (c : Configuration) (ok : SoundConfiguration lim c) where
     -- a configured region is that at some position
-    pub configured-at : (r : Region) → configured c r ≡ true → (i : ℕ) × (i < length (c .regions)) × (r ≡ getD (c .regions) i noRegion)
+    pub configured-at : (r : Region) → configured c r ≡ true
+        → (i : ℕ) × (i < length (c .regions)) × (r ≡ getD (c .regions) i noRegion)
     unfolding configured
     configured-at r e = let (i, h, q) = any-at (regionEq r) (c .regions) noRegion e in (i, h, equal-same r (getD (c .regions) i noRegion) q)
 
     position-configured : (i : ℕ) → i < length (c .regions) → configured c (getD (c .regions) i noRegion) ≡ true
     unfolding configured
-    position-configured i h = any-make (regionEq (getD (c .regions) i noRegion)) (c .regions) noRegion i h (equal-refl (getD (c .regions) i noRegion))
+    position-configured i h =
+        any-make (regionEq (getD (c .regions) i noRegion)) (c .regions) noRegion i h
+        (equal-refl (getD (c .regions) i noRegion))
 
     -- it is not empty, so it overlaps itself, in either kind of address
     not-empty : (r : Region) → configured c r ≡ true → 0 < r .size
@@ -61,5 +64,7 @@ module _ (lim : Limits) where
         elim (ℕ-discrete i (c .gic)) [
           | yes s ↦ s
           | no ne ↦
-              absurd (true≢false (sym (overlaps-itself (getD (c .regions) i noRegion) (position-configured i h)) ∙ ap (physOverlap (getD (c .regions) i noRegion)) e ∙ ok .apart i (c .gic) h (ok .gic) ne))
+              absurd (true≢false
+              (sym (overlaps-itself (getD (c .regions) i noRegion) (position-configured i h))
+              ∙ ap (physOverlap (getD (c .regions) i noRegion)) e ∙ ok .apart i (c .gic) h (ok .gic) ne))
         ]

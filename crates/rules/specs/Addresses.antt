@@ -1,4 +1,5 @@
--- Addresses, guest or physical: what a start and a size cover, and when two of them overlap. Addresses are whole numbers with no upper end, so no sum wraps.
+-- Addresses, guest or physical: what a start and a size cover, and when two of them overlap. Addresses are whole
+-- numbers with no upper end, so no sum wraps.
 use Prim.Native.Nat.{ℕ, _+_, _≤_, _<_, min, max}
 use mathlib.Core.Bool.{Bool}
 use lib.Dec.{ltb}

@@ -48,7 +48,8 @@ sameList e (x ∷ xs) [] = false
 sameList e (x ∷ xs) (y ∷ ys) = e x y && sameList e xs ys
 
 unfoldable pub sameZone : Zone → Zone → Bool
-sameZone y z = allOf (eqb (y .id) (z .id) ∷ sameList regionEq (y .cpu) (z .cpu) ∷ sameList regionEq (y .iommu) (z .iommu) ∷ [])
+sameZone y z =
+    allOf (eqb (y .id) (z .id) ∷ sameList regionEq (y .cpu) (z .cpu) ∷ sameList regionEq (y .iommu) (z .iommu) ∷ [])
 
 unfoldable pub sameConfig : Configuration → Plan → Bool
 sameConfig c p = allOf (sameList regionEq (c .regions) (p .regions) ∷ eqb (c .gic) (p .marks .gic) ∷ [])
@@ -88,7 +89,9 @@ applyRead l s b (got p left) = let r : Run = run l (configOf (s .config)) (table
 
 -- 1 and 2 speak of the terminal's own state, before any byte is read
 unfoldable pub apply : Limits → Terminal → List ℕ → Applied
-apply l s b = cond (eqb (standing l (s .config) (s .table)) 0) (applyRead l s b (readPlan l b)) (record { outcome = plain (standing l (s .config) (s .table)) 0; state = s })
+apply l s b =
+    cond (eqb (standing l (s .config) (s .table)) 0) (applyRead l s b (readPlan l b))
+    (record { outcome = plain (standing l (s .config) (s .table)) 0; state = s })
 
 -- ---- the plan's own base: a state with its configuration, edition and zones
 abbrev pub storeConfig : Limits → Configuration → StoredConfig
@@ -105,7 +108,8 @@ answerRead l b (got p left) = apply l (baseOf l p) b .outcome
 unfoldable pub answerAlone : Limits → List ℕ → Outcome
 answerAlone l b = answerRead l b (readPlan l b)
 
--- ---- a plan for the terminal's base: it gives that state's configuration, GIC position, edition and zones, order included, whatever its requests
+-- ---- a plan for the terminal's base: it gives that state's configuration, GIC position, edition and zones, order
+-- included, whatever its requests
 pub record ForBase (s : Terminal) (p : Plan) : Type 0 where
   pub regions : configOf (s .config) .regions ≡ p .regions
   pub gic : configOf (s .config) .gic ≡ p .marks .gic

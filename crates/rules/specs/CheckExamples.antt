@@ -20,7 +20,6 @@ use Rattle.rules.specs.Translation.{translated}
 use Rattle.rules.specs.declared.Outcome.{Outcome}
 use Rattle.rules.specs.declared.Region.{Region}
 use Rattle.rules.specs.declared.Request.{Request}
-use Rattle.rules.specs.declared.Side.{Side}
 use Rattle.rules.specs.declared.Side.the-variants.{Cpu, Iommu}
 use Rattle.rules.specs.declared.Translated.{Translated}
 
@@ -47,10 +46,11 @@ blocks1And2 = regionOf 0 0x80200000 0x400000
 
 -- 0, also where two regions have the same guest addresses
 abbrev pub nothingFound : List (StoredConfig × Found)
-nothingFound = stored 1 0 (theGic ∷ []) gives found 0 0 0 ∷ stored 3 2 (block 0 ∷ twin ∷ theGic ∷ []) gives found 0 0 0 ∷ []
+nothingFound =
+    stored 1 0 (theGic ∷ []) gives found 0 0 0 ∷ stored 3 2 (block 0 ∷ twin ∷ theGic ∷ []) gives found 0 0 0 ∷ []
 
--- C1 (count 0, count above the limit), C2 (at the count, above it), C3: each also where the later ones apply, C4 to C6 included. With count 0 there is no position for
--- C4 to C6, and with a count above the limit no record past it
+-- C1 (count 0, count above the limit), C2 (at the count, above it), C3: each also where the later ones apply, C4 to C6
+-- included. With count 0 there is no position for C4 to C6, and with a count above the limit no record past it
 abbrev pub countsFound : List (StoredConfig × Found)
 countsFound =
     stored 0 0 (oddAndFar ∷ []) gives found 1 0 0
@@ -66,7 +66,8 @@ restFound =
     stored 1 0 (theGic ∷ regionOf 1 0 0 ∷ []) gives found 3 1 0
     ∷ stored 1 0 (theGic ∷ regionOf 0 1 0 ∷ []) gives found 3 1 0
     ∷ stored 1 0 (theGic ∷ regionOf 0 0 1 ∷ []) gives found 3 1 0
-    ∷ stored 1 0 (room (limits .regions - 1) noRegion (theGic ∷ []) ++ block 0 ∷ []) gives found 3 (limits .regions - 1) 0
+    ∷ stored 1 0 (room (limits .regions - 1) noRegion (theGic ∷ []) ++ block 0 ∷ [])
+    gives found 3 (limits .regions - 1) 0
     ∷ []
 
 -- C4, C5, C6 at one position: C4 where all three apply, C5 where C6 does; C6 names the lowest of the earlier positions
@@ -139,7 +140,9 @@ tooMany =
 
 -- ids: above the highest; twice, also with a zone between
 abbrev pub badIds : List StoredTable
-badIds = map (store limits) ((emptyZone 256 ∷ []) ∷ (emptyZone 5 ∷ emptyZone 5 ∷ []) ∷ (emptyZone 5 ∷ emptyZone 6 ∷ emptyZone 5 ∷ []) ∷ [])
+badIds =
+    map (store limits)
+    ((emptyZone 256 ∷ []) ∷ (emptyZone 5 ∷ emptyZone 5 ∷ []) ∷ (emptyZone 5 ∷ emptyZone 6 ∷ emptyZone 5 ∷ []) ∷ [])
 
 -- what is unused is not zero: a record of either set; the id, a count or a record of a zone
 abbrev pub notZero : List StoredTable
@@ -162,7 +165,8 @@ notConfigured =
     ∷ oneZone (storedZone 5 (regionOf 0x80000000 0x80000000 0x200000 ∷ []) [])
     ∷ []
 
--- two regions of a set overlap in guest addresses, the same region twice and the GIC included; a CPU region overlaps the GIC
+-- two regions of a set overlap in guest addresses, the same region twice
+-- and the GIC included; a CPU region overlaps the GIC
 abbrev pub badSets : List StoredTable
 badSets =
     oneZone (storedZone 5 (block 0 ∷ block 1 ∷ twin ∷ []) [])
@@ -272,8 +276,10 @@ runsOutside =
     ∷ (tableBad, makeRequest 0 256 noRegion ∷ []) gives plain 2 0
     ∷ (tableBad, []) gives plain 2 0
     ∷ (holds held, addZone 5 ∷ []) gives record { number = 27; place = 0; inner = 5 }
-    ∷ (holds held, addZone 7 ∷ addZone 7 ∷ makeRequest 0 256 noRegion ∷ []) gives record { number = 27; place = 1; inner = 5 }
-    ∷ (holds held, addZone 7 ∷ addZone 8 ∷ makeRequest 0 256 noRegion ∷ []) gives record { number = 27; place = 2; inner = 3 }
+    ∷ (holds held, addZone 7 ∷ addZone 7 ∷ makeRequest 0 256 noRegion ∷ [])
+    gives record { number = 27; place = 1; inner = 5 }
+    ∷ (holds held, addZone 7 ∷ addZone 8 ∷ makeRequest 0 256 noRegion ∷ [])
+    gives record { number = 27; place = 2; inner = 3 }
     ∷ (holds held, addZone 7 ∷ addZone 8 ∷ dropZone 7 ∷ []) gives plain 0 3
     ∷ (holds held, []) gives plain 0 0
     ∷ []

@@ -1,4 +1,5 @@
--- Upstream's ClosureSpec, with its names (- stands for their _) and the order of its clauses, and a table read as its state.
+-- Upstream's ClosureSpec, with its names (- stands for their _) and the
+-- order of its clauses, and a table read as its state.
 use Prim.Native.Nat.{ℕ}
 use mathlib.Core.Bool.{Bool, true, false, cond, not, _&&_, _||_}
 use mathlib.Core.List.{List, [], _∷_}
@@ -52,7 +53,8 @@ contains-region zone r = zone .cpu-mem-set r || zone .iommu-mem-set r
 abbrev pub spec-valid : Limits → Side → Region → Type 0
 spec-valid l s r = (wellFormed (pageOf l s) r ≡ true) × (inReach l r ≡ true)
 
--- SpecMemorySet::wf, by the comment on inv_zones_wf: every region is valid, and no two overlap in guest addresses; and GhostZone::wf
+-- SpecMemorySet::wf, by the comment on inv_zones_wf: every region is valid,
+-- and no two overlap in guest addresses; and GhostZone::wf
 abbrev pub set-wf : Limits → Side → RegionSet → Type 0
 set-wf l s set =
     ((r : Region) → set r ≡ true → spec-valid l s r)
@@ -88,14 +90,21 @@ cpu-insert-region-allowed c zones zid region =
 abbrev pub iommu-insert-region-allowed : Configuration → State → ℕ → Region → Type 0
 iommu-insert-region-allowed c zones zid region =
     (all-regions c region ≡ true)
-    × ((other-zid : ℕ) (zone : GhostZone) (r : Region) → zones other-zid ≡ some zone → (other-zid ≡ zid → ⊥) → (zone .cpu-mem-set r ≡ true) ⊎ (zone .iommu-mem-set r ≡ true) → (region ≡ gic-region c) ⊎ ((r ≡ gic-region c) ⊎ (physOverlap region r ≡ false)))
+    × ((other-zid : ℕ) (zone : GhostZone) (r : Region) → zones other-zid ≡ some zone → (other-zid ≡ zid → ⊥)
+    → (zone .cpu-mem-set r ≡ true) ⊎ (zone .iommu-mem-set r ≡ true)
+    → (region ≡ gic-region c) ⊎ ((r ≡ gic-region c) ⊎ (physOverlap region r ≡ false)))
 
--- ---- the invariants; inv_zone_ids and inv_zones_view say that the other two fields are the map's keys and the map, which is how they are read here
+-- ---- the invariants; inv_zone_ids and inv_zones_view say that the other two fields are the map's keys and the map,
+-- which is how they are read here
 pub record Invariants (l : Limits) (c : Configuration) (zones : State) : Type 0 where
   pub inv-zones-wf : (zid : ℕ) (zone : GhostZone) → zones zid ≡ some zone → wf l zone
-  pub inv-regions-in-all-regions : (zid : ℕ) (zone : GhostZone) (r : Region) → zones zid ≡ some zone → contains-region zone r ≡ true → all-regions c r ≡ true
-  pub inv-cpu-disjoint-from-gic : (zid : ℕ) (zone : GhostZone) (r : Region) → zones zid ≡ some zone → zone .cpu-mem-set r ≡ true → physOverlap r (gic-region c) ≡ false
-  pub inv-cross-zone-non-gic-disjoint : (zid1 zid2 : ℕ) (zone1 zone2 : GhostZone) (r1 r2 : Region) → zones zid1 ≡ some zone1 → zones zid2 ≡ some zone2 → (zid1 ≡ zid2 → ⊥) → contains-region zone1 r1 ≡ true → contains-region zone2 r2 ≡ true → (r1 ≡ gic-region c → ⊥) → (r2 ≡ gic-region c → ⊥) → physOverlap r1 r2 ≡ false
+  pub inv-regions-in-all-regions : (zid : ℕ) (zone : GhostZone) (r : Region) → zones zid ≡ some zone
+      → contains-region zone r ≡ true → all-regions c r ≡ true
+  pub inv-cpu-disjoint-from-gic : (zid : ℕ) (zone : GhostZone) (r : Region) → zones zid ≡ some zone
+      → zone .cpu-mem-set r ≡ true → physOverlap r (gic-region c) ≡ false
+  pub inv-cross-zone-non-gic-disjoint : (zid1 zid2 : ℕ) (zone1 zone2 : GhostZone) (r1 r2 : Region)
+      → zones zid1 ≡ some zone1 → zones zid2 ≡ some zone2 → (zid1 ≡ zid2 → ⊥) → contains-region zone1 r1 ≡ true
+      → contains-region zone2 r2 ≡ true → (r1 ≡ gic-region c → ⊥) → (r2 ≡ gic-region c → ⊥) → physOverlap r1 r2 ≡ false
 
 -- ---- the first state, and the six transitions: what each requires, and the state after it
 abbrev pub initialize : State
@@ -117,13 +126,15 @@ pub record cpu-insert-region (l : Limits) (c : Configuration) (zid : ℕ) (regio
   pub allowed : cpu-insert-region-allowed c pre zid region
   pub absent : zone .cpu-mem-set region ≡ false
   pub apart : not-overlaps-vmem (zone .cpu-mem-set) region
-  pub update : post ≡ map-insert pre zid (record { cpu-mem-set = insert-region (zone .cpu-mem-set) region; iommu-mem-set = zone .iommu-mem-set })
+  pub update : post ≡ map-insert pre zid
+      (record { cpu-mem-set = insert-region (zone .cpu-mem-set) region; iommu-mem-set = zone .iommu-mem-set })
 
 pub record cpu-remove-region (zid : ℕ) (region : Region) (pre post : State) : Type 0 where
   pub zone : GhostZone
   pub there : pre zid ≡ some zone
   pub held : zone .cpu-mem-set region ≡ true
-  pub update : post ≡ map-insert pre zid (record { cpu-mem-set = remove-region-exact (zone .cpu-mem-set) region; iommu-mem-set = zone .iommu-mem-set })
+  pub update : post ≡ map-insert pre zid
+      (record { cpu-mem-set = remove-region-exact (zone .cpu-mem-set) region; iommu-mem-set = zone .iommu-mem-set })
 
 pub record iommu-insert-region (l : Limits) (c : Configuration) (zid : ℕ) (region : Region) (pre post : State) : Type 0 where
   pub zone : GhostZone
@@ -132,13 +143,15 @@ pub record iommu-insert-region (l : Limits) (c : Configuration) (zid : ℕ) (reg
   pub allowed : iommu-insert-region-allowed c pre zid region
   pub absent : zone .iommu-mem-set region ≡ false
   pub apart : not-overlaps-vmem (zone .iommu-mem-set) region
-  pub update : post ≡ map-insert pre zid (record { cpu-mem-set = zone .cpu-mem-set; iommu-mem-set = insert-region (zone .iommu-mem-set) region })
+  pub update : post ≡ map-insert pre zid
+      (record { cpu-mem-set = zone .cpu-mem-set; iommu-mem-set = insert-region (zone .iommu-mem-set) region })
 
 pub record iommu-remove-region (zid : ℕ) (region : Region) (pre post : State) : Type 0 where
   pub zone : GhostZone
   pub there : pre zid ≡ some zone
   pub held : zone .iommu-mem-set region ≡ true
-  pub update : post ≡ map-insert pre zid (record { cpu-mem-set = zone .cpu-mem-set; iommu-mem-set = remove-region-exact (zone .iommu-mem-set) region })
+  pub update : post ≡ map-insert pre zid
+      (record { cpu-mem-set = zone .cpu-mem-set; iommu-mem-set = remove-region-exact (zone .iommu-mem-set) region })
 
 -- ---- a table as a state, and a request as a transition
 abbrev pub ghostOf : Zone → GhostZone

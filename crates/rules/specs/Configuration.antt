@@ -44,7 +44,8 @@ positionRules l records i =
     ∷ Overlap i (firstIndex (physOverlap r) earlier) when any (physOverlap r) earlier
     ∷ []
 
--- C1 count 0 or above the limit; C2 GIC position not below the count; C3 a record past the count not all zero; then the positions upward
+-- C1 count 0 or above the limit; C2 GIC position not below the count; C3 a
+-- record past the count not all zero; then the positions upward
 unfoldable pub checkRules : Limits → StoredConfig → List (Rule Checked)
 checkRules l s =
     BadCount when (eqb (s .count) 0 || ltb (l .regions) (s .count))

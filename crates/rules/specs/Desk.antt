@@ -91,11 +91,13 @@ once = apply limits deskTerminal wholePlan
 abbrev pub twice : Applied
 twice = apply limits (once .state) wholePlan
 
--- the claim: the configuration passes its check, the zones are sound, and each example gives its numbers; the whole plan is accepted, and refused when it comes again
+-- the claim: the configuration passes its check, the zones are sound, and each example gives its numbers; the whole
+-- plan is accepted, and refused when it comes again
 abbrev pub DeskShown : Type 0
 DeskShown =
     (check limits deskConfig ≡ Sound)
     × (sound limits (configOf deskConfig) deskZones ≡ true)
-    × (map (λ (s : Shown). answers limits (configOf deskConfig) deskZones (s .requests)) starred ≡ map (λ (s : Shown). s .numbers) starred)
+    × (map (λ (s : Shown). answers limits (configOf deskConfig) deskZones (s .requests)) starred
+    ≡ map (λ (s : Shown). s .numbers) starred)
     × (once .outcome ≡ plain 0 1)
     × (twice .outcome ≡ plain 24 0)

@@ -1,4 +1,5 @@
--- The plan: four sections in a fixed order, each after its count. All numbers are little-endian; counts, ids, kinds and marks have 4 bytes, region fields 8.
+-- The plan: four sections in a fixed order, each after its count. All numbers are little-endian; counts, ids, kinds and
+-- marks have 4 bytes, region fields 8.
 use Prim.Native.Nat.{ℕ, _^_, _<_}
 use mathlib.Core.List.{List, map}
 use Rattle.formats.specs.Formats.{Out, Format, number, both, field, as-type, headed, listed, readFile, InRange, ListFits}
@@ -106,7 +107,8 @@ abbrev pub planFrom : Plan → Marks × (List Region × (List Zone × List Asked
 planFrom p = (p .marks, (p .regions, (p .zones, p .asked)))
 
 abbrev pub planFormat : Limits → Format Plan
-planFormat l = as-type (both marksSection (both (regionsSection l) (both (zonesSection l) (requestsSection l)))) planTo planFrom
+planFormat l =
+    as-type (both marksSection (both (regionsSection l) (both (zonesSection l) (requestsSection l)))) planTo planFrom
 
 -- the reader and the encoder
 unfoldable pub readPlan : Limits → List ℕ → Out Plan
@@ -138,4 +140,7 @@ abbrev pub ZoneFits : Limits → Zone → Type 0
 ZoneFits l z = Short (z .id) × (SetFits l (z .cpu) × SetFits l (z .iommu))
 
 abbrev pub PlanFits : Limits → Plan → Type 0
-PlanFits l p = MarksFit (p .marks) × (ListFits 4 1 (l .regions) RegionFits (p .regions) × (ListFits 4 0 (l .zones) (ZoneFits l) (p .zones) × ListFits 4 0 (l .requests) AskedFits (p .asked)))
+PlanFits l p =
+    MarksFit (p .marks)
+    × (ListFits 4 1 (l .regions) RegionFits (p .regions)
+    × (ListFits 4 0 (l .zones) (ZoneFits l) (p .zones) × ListFits 4 0 (l .requests) AskedFits (p .asked)))

@@ -1,4 +1,5 @@
--- Examples of plans: a whole one byte by byte, each kind of fault with its place, and the order of the numbers at a terminal and where there is none.
+-- Examples of plans: a whole one byte by byte, each kind of fault with its place, and the order of the numbers at a
+-- terminal and where there is none.
 use Prim.Native.Nat.{ℕ, _+_, _^_, _-_}
 use mathlib.Core.List.{List, [], _∷_, _++_}
 use mathlib.Core.Path.{_≡_}
@@ -17,7 +18,8 @@ use Rattle.rules.specs.declared.Outcome.{Outcome}
 use Rattle.rules.specs.declared.Region.{Region}
 use Rattle.rules.specs.declared.Side.the-variants.{Cpu, Iommu}
 
--- ---- a plan with something in every section; what could be exchanged differs: the two marks, v and p of R, the two sets of zone 5
+-- ---- a plan with something in every section; what could be exchanged
+-- differs: the two marks, v and p of R, the two sets of zone 5
 abbrev pub R : Region
 R = regionOf 0x40100000 0x123456789000 0x203000
 
@@ -95,7 +97,8 @@ alone b = answerAlone limits b
 abbrev pub there : List ℕ → Outcome
 there b = apply limits terminal b .outcome
 
--- 20: the plan cut before a field, and within it at its first and its last byte; a region and a request are one field, wherever they are cut
+-- 20: the plan cut before a field, and within it at its first and its last
+-- byte; a region and a request are one field, wherever they are cut
 abbrev pub cutAt : ℕ → List ℕ
 cutAt n = take n spelled
 
@@ -188,7 +191,9 @@ abbrev pub edition : ℕ
 edition = 0x01020304
 
 abbrev pub planOf : ℕ → ℕ → List Region → List Zone → List ℕ
-planOf g k rs zs = encode limits (record { marks = record { gic = g; edition = k }; regions = rs; zones = zs; asked = add7 ∷ add7 ∷ [] })
+planOf g k rs zs =
+    encode limits
+    (record { marks = record { gic = g; edition = k }; regions = rs; zones = zs; asked = add7 ∷ add7 ∷ [] })
 
 -- zones that are unsound, and the last edition
 abbrev pub twice5 : List Zone
@@ -225,8 +230,9 @@ outcomeAt e = apply limits (e .0) (e .1) .outcome
 abbrev pub stateAfter : Terminal × List ℕ → Terminal
 stateAfter e = apply limits (e .0) (e .1) .state
 
--- at a terminal: 1, 2, 20 or 21, 22, 23, 24, 25, 26, 27, each where the later ones apply too. Where nothing can be read whole there is nothing that 22 to 27 could
--- speak of; and 24 and 25 are both earned where only the terminal is at the last edition
+-- at a terminal: 1, 2, 20 or 21, 22, 23, 24, 25, 26, 27, each where the later ones apply too. Where nothing can be read
+-- whole there is nothing that 22 to 27 could speak of; and 24 and 25 are both earned where only the terminal is at the
+-- last edition
 abbrev pub thereInOrder : List ((Terminal × List ℕ) × Outcome)
 thereInOrder =
     (withGic 2 (withZones twice5 terminal), []) gives plain 1 0
@@ -256,7 +262,8 @@ otherConfigs =
 
 -- 24: an edition too low, too high
 abbrev pub otherEditions : List (List ℕ × Outcome)
-otherEditions = planOf 1 (edition - 1) regions zones gives plain 24 0 ∷ planOf 1 (edition + 1) regions zones gives plain 24 0 ∷ []
+otherEditions =
+    planOf 1 (edition - 1) regions zones gives plain 24 0 ∷ planOf 1 (edition + 1) regions zones gives plain 24 0 ∷ []
 
 -- 26: how many zones there are, their order, an id, the CPU set, the IOMMU set, the order in a set
 abbrev pub otherZones : List (List ℕ × Outcome)

@@ -10,7 +10,8 @@ use Rattle.rules.specs.Addresses.{overlaps}
 
 -- size above 0, and all three numbers multiples of a page
 unfoldable pub wellFormed : ℕ → Region → Bool
-wellFormed page r = allOf (ltb 0 (r .size) ∷ eqb (r .v .0 % page) 0 ∷ eqb (r .p .0 % page) 0 ∷ eqb (r .size % page) 0 ∷ [])
+wellFormed page r =
+    allOf (ltb 0 (r .size) ∷ eqb (r .v .0 % page) 0 ∷ eqb (r .p .0 % page) 0 ∷ eqb (r .size % page) 0 ∷ [])
 
 -- v + size and p + size, as whole numbers, are at most their reach
 unfoldable pub inReach : Limits → Region → Bool

@@ -1,5 +1,6 @@
--- Examples of requests and of translation: each number of the document is an answer, and where several are earned it is the first of its kind's order. Tables and
--- sets are filled up to the limits, whatever these are; only `LimitsShown` writes the document's limits a second time.
+-- Examples of requests and of translation: each number of the document is an answer, and where several are earned it is
+-- the first of its kind's order. Tables and sets are filled up to the limits, whatever these are; only `LimitsShown`
+-- writes the document's limits a second time.
 use Prim.Native.Nat.{ℕ, _+_, _*_, _-_, _^_}
 use mathlib.Core.Bool.{true, cond}
 use mathlib.Core.List.{List, [], _∷_, _++_, map}
@@ -34,8 +35,8 @@ a gives b = (a, b)
 abbrev pub Shows : {A B : Type 0} → (A → B) → List (A × B) → Type 0
 Shows {A} {B} f xs = map (λ (x : A × B). f (x .0)) xs ≡ map (λ (x : A × B). x .1) xs
 
--- ---- the configuration: blocks side by side, one more than a set has room for; the GIC, at position 1; and a twin: it has the guest addresses of the first block,
--- of which the GIC has some. In every region v differs from p
+-- ---- the configuration: blocks side by side, one more than a set has room for; the GIC, at position 1; and a twin: it
+-- has the guest addresses of the first block, of which the GIC has some. In every region v differs from p
 abbrev pub block : ℕ → Region
 block i = regionOf (0x40000000 + i * 0x200000) (0x80000000 + i * 0x200000) 0x200000
 
@@ -59,7 +60,8 @@ model = record { regions = twin ∷ theGic ∷ (blocks ++ oneBlockMore ∷ []); 
 abbrev pub allZones : List Zone
 allZones = tab (limits .zones) emptyZone
 
--- zone 5 with as many regions on a side as there may be; zone 6 is empty, or has the twin on its CPU side and the GIC on the other
+-- zone 5 with as many regions on a side as there may be; zone 6 is empty,
+-- or has the twin on its CPU side and the GIC on the other
 abbrev pub crowdOf : Side → Zone
 crowdOf s = withSide s blocks (emptyZone 5)
 
@@ -85,12 +87,15 @@ iommuOnly = record { id = 5; cpu = []; iommu = block 0 ∷ [] } ∷ emptyZone 6 
 
 -- the configuration passes its check, and these tables are sound under it
 abbrev pub tables : List (List Zone)
-tables = deskZones ∷ allZones ∷ crowd Cpu ∷ crowd Iommu ∷ crowdBeside Cpu ∷ crowdBeside Iommu ∷ held ∷ cpuOnly ∷ iommuOnly ∷ []
+tables =
+    deskZones ∷ allZones ∷ crowd Cpu ∷ crowd Iommu ∷ crowdBeside Cpu ∷ crowdBeside Iommu ∷ held ∷ cpuOnly ∷ iommuOnly
+    ∷ []
 
 abbrev pub ModelIsSound : Type 0
 ModelIsSound = (check limits (storeConfig limits model) ≡ Sound) × (all (sound limits model) tables ≡ true)
 
--- ---- regions that are refused wherever they go. Each covers every configured one, so it overlaps the GIC, whatever is held, and itself
+-- ---- regions that are refused wherever they go. Each covers every configured one, so it overlaps the GIC, whatever is
+-- held, and itself
 -- 9, 10 and 11 apply; 10 and 11; 11 alone
 abbrev pub oddAndFar : Region
 oddAndFar = regionOf 0 0 (2 ^ 60 + 1)
@@ -112,7 +117,8 @@ Numbered = (Request × List Zone) × ℕ
 abbrev pub numberOf : Request × List Zone → ℕ
 numberOf e = refusal limits model (e .1) (e .0)
 
--- ---- the order of each kind: for each of its numbers a request that earns it with all later ones that it can be earned with, and the first is the answer
+-- ---- the order of each kind: for each of its numbers a request that earns it with all later ones that it can be
+-- earned with, and the first is the answer
 -- the numbers of the rules that apply
 unfoldable pub earned : List (Rule ℕ) → List ℕ
 earned [] = []
@@ -132,7 +138,8 @@ Earning = (Request × List Zone) × List ℕ
 abbrev pub FirstOf : List Earning → Type 0
 FirstOf xs = Shows earnedBy xs × Shows numberOf (map (λ (x : Earning). x .0 gives getD (x .1) 0 0) xs)
 
--- add zone: 3, 4, 5, 7. No sound table has a zone above the highest id, so there 4 and 5 are never earned together: the third line shows the rules alone
+-- add zone: 3, 4, 5, 7. No sound table has a zone above the highest id, so there 4 and 5 are never earned together: the
+-- third line shows the rules alone
 abbrev pub toAdd : List Earning
 toAdd =
     makeRequest 1 256 theGic at allZones earns (3 ∷ 4 ∷ [])
@@ -143,7 +150,8 @@ toAdd =
     ∷ addZone 7 at deskZones earns []
     ∷ []
 
--- remove zone: 3, 4, 6, 8. A zone that is not there holds nothing, so 6 and 8 are never earned together. Either set is enough for 8
+-- remove zone: 3, 4, 6, 8. A zone that is not there holds nothing, so 6
+-- and 8 are never earned together. Either set is enough for 8
 abbrev pub toRemove : List Earning
 toRemove =
     makeRequest 2 256 theGic at held earns (3 ∷ 4 ∷ [])
@@ -155,8 +163,9 @@ toRemove =
     ∷ dropZone 6 at cpuOnly earns []
     ∷ []
 
--- CPU insert: 3, 4, 6, 9, 10, 11, 12, 13, 14, 15, 16. A zone that is not there has no set, so 6 is never earned with 13, 15 or 16. What a sound table holds is well
--- formed, in reach and configured, on the CPU side off the GIC too, so 13 is never earned with 9, 10, 11 or 12
+-- CPU insert: 3, 4, 6, 9, 10, 11, 12, 13, 14, 15, 16. A zone that is not there has no set, so 6 is never earned with
+-- 13, 15 or 16. What a sound table holds is well formed, in reach and configured, on the CPU side off the GIC too, so
+-- 13 is never earned with 9, 10, 11 or 12
 abbrev pub toInsertCpu : List Earning
 toInsertCpu =
     makeRequest 0x103 256 oddAndFar at crowdBeside Cpu earns (3 ∷ 4 ∷ [])
@@ -173,8 +182,8 @@ toInsertCpu =
     ∷ insert Cpu oneBlockMore 6 at crowd Cpu earns []
     ∷ []
 
--- IOMMU insert: the same without 12. What two zones of a sound table hold does not overlap unless it is the GIC, which is exempt, so here 13 and 14 are never earned
--- together
+-- IOMMU insert: the same without 12. What two zones of a sound table hold does not overlap unless it is the GIC, which
+-- is exempt, so here 13 and 14 are never earned together
 abbrev pub toInsertIommu : List Earning
 toInsertIommu =
     makeRequest 0x105 256 oddAndFar at crowdBeside Iommu earns (3 ∷ 4 ∷ [])
@@ -190,7 +199,8 @@ toInsertIommu =
     ∷ insert Iommu oneBlockMore 6 at crowd Iommu earns []
     ∷ []
 
--- remove region: 3, 4, 6, 17. Nothing is asked of the region but that this set holds it: not the other side's, not another zone's
+-- remove region: 3, 4, 6, 17. Nothing is asked of the region but that
+-- this set holds it: not the other side's, not another zone's
 abbrev pub toCut : List Earning
 toCut =
     makeRequest 0x104 256 oddAndFar at held earns (3 ∷ 4 ∷ [])
@@ -209,11 +219,15 @@ FirstIsAnswered = FirstOf toAdd × FirstOf toRemove × FirstOf toInsertCpu × Fi
 -- ---- 14 and 15, set by set
 -- a CPU region may not overlap the CPU set of a zone, nor the IOMMU set of another
 abbrev pub cpuOverlaps : List Numbered
-cpuOverlaps = insert Cpu (block 0) 6 at cpuOnly gives 14 ∷ insert Cpu (block 0) 6 at iommuOnly gives 14 ∷ insert Cpu (block 0) 5 at iommuOnly gives 0 ∷ []
+cpuOverlaps =
+    insert Cpu (block 0) 6 at cpuOnly gives 14 ∷ insert Cpu (block 0) 6 at iommuOnly gives 14
+    ∷ insert Cpu (block 0) 5 at iommuOnly gives 0 ∷ []
 
 -- an IOMMU region may not overlap a set of another zone
 abbrev pub iommuOverlaps : List Numbered
-iommuOverlaps = insert Iommu (block 0) 6 at cpuOnly gives 14 ∷ insert Iommu (block 0) 6 at iommuOnly gives 14 ∷ insert Iommu (block 0) 5 at cpuOnly gives 0 ∷ []
+iommuOverlaps =
+    insert Iommu (block 0) 6 at cpuOnly gives 14 ∷ insert Iommu (block 0) 6 at iommuOnly gives 14
+    ∷ insert Iommu (block 0) 5 at cpuOnly gives 0 ∷ []
 
 -- the GIC may be on the IOMMU side of two zones, but in no set with a region that has its guest addresses
 abbrev pub gicOverlaps : List Numbered
@@ -249,7 +263,8 @@ insertedIn5 s r = refusal limits model deskZones (insert s r 5)
 
 -- ids up to 255
 abbrev pub ofIds : List Numbered
-ofIds = addZone 255 at deskZones gives 0 ∷ addZone 256 at deskZones gives 4 ∷ addZone (2 ^ 32 - 1) at deskZones gives 4 ∷ []
+ofIds =
+    addZone 255 at deskZones gives 0 ∷ addZone 256 at deskZones gives 4 ∷ addZone (2 ^ 32 - 1) at deskZones gives 4 ∷ []
 
 -- eight zones, and sixteen regions in a set: how many are accepted one after another, and what the next one gets
 abbrev pub blocksTo5 : Side → List Request
@@ -267,7 +282,8 @@ LimitsShown =
     × (answers limits model deskZones (blocksTo5 Iommu) ≡ replicate 16 0 ++ 16 ∷ [])
 
 -- ---- kinds by their numbers, and what an accepted request does
--- 3: a number other than 1 to 6, compared whole; and where a zone is added or removed, a region with any number that is not 0
+-- 3: a number other than 1 to 6, compared whole; and where a zone is added or removed, a region with any number that is
+-- not 0
 abbrev pub noKinds : List Numbered
 noKinds =
     makeRequest 0 6 noRegion at deskZones gives 3
@@ -288,7 +304,9 @@ noKinds =
 
 -- 4: the id too is compared whole
 abbrev pub noIds : List Numbered
-noIds = makeRequest 1 0x107 noRegion at deskZones gives 4 ∷ makeRequest 2 0x106 noRegion at deskZones gives 4 ∷ makeRequest 3 0x105 (block 0) at deskZones gives 4 ∷ []
+noIds =
+    makeRequest 1 0x107 noRegion at deskZones gives 4 ∷ makeRequest 2 0x106 noRegion at deskZones gives 4
+    ∷ makeRequest 3 0x105 (block 0) at deskZones gives 4 ∷ []
 
 abbrev pub tableAfter : Request × List Zone → List Zone
 tableAfter e = next limits model (e .1) (e .0)
@@ -302,7 +320,10 @@ zoneKinds =
 
 -- 3 and 5 append to the set of their side; 4 and 6 close the gap there and keep the order. All else stays
 abbrev pub cpuInserts : List ((Request × List Zone) × List Zone)
-cpuInserts = makeRequest 3 5 (block 5) at held gives with5And6 (block 2 ∷ block 1 ∷ block 4 ∷ block 5 ∷ []) (block 1 ∷ block 3 ∷ block 0 ∷ []) ∷ []
+cpuInserts =
+    makeRequest 3 5 (block 5) at held
+    gives with5And6 (block 2 ∷ block 1 ∷ block 4 ∷ block 5 ∷ []) (block 1 ∷ block 3 ∷ block 0 ∷ [])
+    ∷ []
 
 abbrev pub cpuCuts : List ((Request × List Zone) × List Zone)
 cpuCuts =
@@ -311,7 +332,10 @@ cpuCuts =
     ∷ []
 
 abbrev pub iommuInserts : List ((Request × List Zone) × List Zone)
-iommuInserts = makeRequest 5 5 (block 5) at held gives with5And6 (block 2 ∷ block 1 ∷ block 4 ∷ []) (block 1 ∷ block 3 ∷ block 0 ∷ block 5 ∷ []) ∷ []
+iommuInserts =
+    makeRequest 5 5 (block 5) at held
+    gives with5And6 (block 2 ∷ block 1 ∷ block 4 ∷ []) (block 1 ∷ block 3 ∷ block 0 ∷ block 5 ∷ [])
+    ∷ []
 
 abbrev pub iommuCuts : List ((Request × List Zone) × List Zone)
 iommuCuts =
@@ -361,7 +385,8 @@ goesTo p = record { number = 0; phys = record { 0 = p } }
 abbrev pub goesNowhere : ℕ → Translated
 goesNowhere n = record { number = n; phys = record { 0 = 0 } }
 
--- the first byte of a region, one in its middle and its last; the byte after that is the first of the region that adjoins it
+-- the first byte of a region, one in its middle and its last; the byte
+-- after that is the first of the region that adjoins it
 abbrev pub inside : List (Asking × Translated)
 inside =
     in5 Cpu 0x40200000 gives goesTo 0x80200000
@@ -398,4 +423,6 @@ numbersOf =
     ∷ []
 
 abbrev pub TranslationShown : Type 0
-TranslationShown = Shows translationOf inside × Shows translationOf outside × Shows translationOf elsewhereIn × Shows translationOf numbersOf
+TranslationShown =
+    Shows translationOf inside × Shows translationOf outside × Shows translationOf elsewhereIn
+    × Shows translationOf numbersOf

@@ -45,10 +45,12 @@ unfoldable pub onGic : Configuration → Side → Region → Bool
 onGic c Cpu r = physOverlap r (gicOf c)
 onGic c Iommu r = false
 
--- 14, for the zone at k: a CPU region against all CPU sets and the other zones' IOMMU sets; an IOMMU region against the other zones' two sets, unless either
--- region is the GIC
+-- 14, for the zone at k: a CPU region against all CPU sets and the other zones' IOMMU sets; an IOMMU region against the
+-- other zones' two sets, unless either region is the GIC
 unfoldable pub forbidden : Configuration → ℕ → Side → Region → List Zone → Bool
-forbidden c k Cpu r t = any (λ (z : Zone). any (physOverlap r) (z .cpu)) t || any (λ (z : Zone). any (physOverlap r) (z .iommu)) (others k t)
+forbidden c k Cpu r t =
+    any (λ (z : Zone). any (physOverlap r) (z .cpu)) t
+    || any (λ (z : Zone). any (physOverlap r) (z .iommu)) (others k t)
 forbidden c k Iommu r t = any (λ (z : Zone). any (clash c r) (regionsOf z)) (others k t)
 
 -- ---- the numbers, in the document's order for each kind

@@ -50,7 +50,9 @@ abbrev pub numberAt : ℕ → List ℕ → ℕ → ℕ
 numberAt width b at = little (part at width b)
 
 unfoldable pub requestFrom : List ℕ → ℕ → Request
-requestFrom b at = makeRequest (numberAt 4 b at) (numberAt 4 b (at + 4)) (record { v = record { 0 = numberAt 8 b (at + 8) }; p = record { 0 = numberAt 8 b (at + 16) }; size = numberAt 8 b (at + 24) })
+requestFrom b at =
+    makeRequest (numberAt 4 b at) (numberAt 4 b (at + 4))
+    (record { v = record { 0 = numberAt 8 b (at + 8) }; p = record { 0 = numberAt 8 b (at + 16) }; size = numberAt 8 b (at + 24) })
 
 -- all that are wholly there
 unfoldable pub requestsIn : List ℕ → List Request
@@ -75,4 +77,6 @@ unfoldable pub ended : Run → Outcome
 ended r = record { number = cond (eqb (r .inner) 0) 0 27; place = r .place; inner = r .inner }
 
 unfoldable pub runAnswer : Limits → StoredConfig → StoredTable → List Request → Outcome
-runAnswer l c t qs = cond (eqb (standing l c t) 0) (ended (run l (configOf c) (tableOf t) qs)) (record { number = standing l c t; place = 0; inner = 0 })
+runAnswer l c t qs =
+    cond (eqb (standing l c t) 0) (ended (run l (configOf c) (tableOf t) qs))
+    (record { number = standing l c t; place = 0; inner = 0 })

@@ -41,12 +41,16 @@ zoneSize z = setsSize (length (z .cpu)) (length (z .iommu))
 
 -- a plan: its four sections
 unfoldable pub planSize : Plan → ℕ
-planSize p = marksSize + (regionsSize (length (p .regions)) + ((shortSize + total zoneSize (p .zones)) + requestsSize (length (p .asked))))
+planSize p =
+    marksSize
+    + (regionsSize (length (p .regions)) + ((shortSize + total zoneSize (p .zones)) + requestsSize (length (p .asked))))
 
 -- ---- the longest and the least
 -- with all that the limits let a plan have
 abbrev pub longestSize : Limits → ℕ
-longestSize l = marksSize + (regionsSize (l .regions) + ((shortSize + l .zones * setsSize (l .inSet) (l .inSet)) + requestsSize (l .requests)))
+longestSize l =
+    marksSize
+    + (regionsSize (l .regions) + ((shortSize + l .zones * setsSize (l .inSet) (l .inSet)) + requestsSize (l .requests)))
 
 -- with what every plan has: one region
 abbrev pub leastSize : ℕ

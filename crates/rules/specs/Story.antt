@@ -1,5 +1,5 @@
--- A story of two plans, there and back: the first adds a zone and the second removes it, so that the base table is the first one's once more. And plans with
--- more than one fault, or with a fault after a good beginning.
+-- A story of two plans, there and back: the first adds a zone and the second removes it, so that the base table is the
+-- first one's once more. And plans with more than one fault, or with a fault after a good beginning.
 use Prim.Native.Nat.{ℕ}
 use mathlib.Core.List.{List, [], _∷_, _++_}
 use mathlib.Core.Path.{_≡_}
@@ -42,7 +42,9 @@ tooMany = 2 ∷ 0 ∷ 0 ∷ 0 ∷ 0 ∷ 0 ∷ 0 ∷ 0 ∷ 0 ∷ 0 ∷ 0 ∷ 0 �
 
 -- a plan for another configuration and another edition
 abbrev pub elsewhere : List ℕ
-elsewhere = planBytes limits (record { config = storeConfig limits (record { regions = A ∷ []; gic = 0 }); table = store limits []; edition = 1 }) adds
+elsewhere =
+    planBytes limits
+    (record { config = storeConfig limits (record { regions = A ∷ []; gic = 0 }); table = store limits []; edition = 1 }) adds
 
 -- zone 5 added twice; zones 5 and 6 added
 abbrev pub again : List ℕ
@@ -55,9 +57,10 @@ both = planBytes limits (without 0) (adds ++ record { kind = 1; zone = 6; region
 abbrev pub Gives : Terminal → List ℕ → Outcome → Terminal → Type 0
 Gives s b o t = (apply limits s b .outcome ≡ o) × (apply limits s b .state ≡ t)
 
--- the claim: the first plan is the document's whole plan; there, and back; then the first plan fits by its table, and its edition stops it; so it does where the
--- second comes first; and a plan with the right edition is stopped where there is a zone more. A count is judged before its elements; a byte after the end is
--- told; the configuration comes before the edition; a refused request undoes those before it, and its place is its own; and all requests are run
+-- the claim: the first plan is the document's whole plan; there, and back; then the first plan fits by its table, and
+-- its edition stops it; so it does where the second comes first; and a plan with the right edition is stopped where
+-- there is a zone more. A count is judged before its elements; a byte after the end is told; the configuration comes
+-- before the edition; a refused request undoes those before it, and its place is its own; and all requests are run
 abbrev pub StoryShown : Type 0
 StoryShown =
     (there ≡ wholePlan)

@@ -114,7 +114,8 @@ clash c a b = not (regionEq a (gicOf c)) && (not (regionEq b (gicOf c)) && physO
 unfoldable pub soundSet : Limits → Configuration → List Region → Bool
 soundSet l c xs = allOf (leb (length xs) (l .inSet) ∷ all (configured c) xs ∷ pairwise guestApart xs ∷ [])
 
--- id at most the highest; both sets; no CPU region overlaps the GIC physically; every IOMMU region is well formed for devices
+-- id at most the highest; both sets; no CPU region overlaps the GIC
+-- physically; every IOMMU region is well formed for devices
 unfoldable pub soundZone : Limits → Configuration → Zone → Bool
 soundZone l c z = allOf (leb (z .id) highestId ∷ soundSet l c (z .cpu) ∷ soundSet l c (z .iommu) ∷ all (offGic c) (z .cpu) ∷ all (wellFormed (l .iommuPage)) (z .iommu) ∷ [])
 
@@ -127,7 +128,8 @@ zonesApart c y z = all (λ (a : Region). not (any (clash c a) (regionsOf z))) (r
 
 -- the table
 unfoldable pub sound : Limits → Configuration → List Zone → Bool
-sound l c t = allOf (leb (length t) (l .zones) ∷ all (soundZone l c) t ∷ pairwise idsDiffer t ∷ pairwise (zonesApart c) t ∷ [])
+sound l c t =
+    allOf (leb (length t) (l .zones) ∷ all (soundZone l c) t ∷ pairwise idsDiffer t ∷ pairwise (zonesApart c) t ∷ [])
 
 -- the table check: yes exactly for a sound table, every unused record or zone zero, under a sound configuration
 unfoldable pub checkTable : Limits → StoredConfig → StoredTable → Bool

@@ -14,7 +14,6 @@ use Rattle.rules.specs.Regions.{noRegion}
 use Rattle.rules.specs.Requests.{find, present, standingRules}
 use Rattle.rules.specs.Tables.{tableOf, Zone, StoredTable}
 use Rattle.rules.specs.declared.Guest.{Guest}
-use Rattle.rules.specs.declared.Phys.{Phys}
 use Rattle.rules.specs.declared.Region.{Region}
 use Rattle.rules.specs.declared.Side.{Side}
 use Rattle.rules.specs.declared.Translated.{Translated}
@@ -49,4 +48,6 @@ translation t id s a = translatedAs (firstRule (translationRules t id s a) 0) a 
 
 -- from outside: 1 and 2 come first
 unfoldable pub translated : Limits → StoredConfig → StoredTable → ℕ → Side → Guest → Translated
-translated l c t id s a = translatedAs (firstRule (standingRules l c t ++ translationRules (tableOf t) id s (a .0)) 0) (a .0) (coveringIn (a .0) (setAt (tableOf t) (find id (tableOf t)) s))
+translated l c t id s a =
+    translatedAs (firstRule (standingRules l c t ++ translationRules (tableOf t) id s (a .0)) 0) (a .0)
+    (coveringIn (a .0) (setAt (tableOf t) (find id (tableOf t)) s))

@@ -1,0 +1,67 @@
+-- What an example that is shown by computation opens: to unfold one of
+-- these names is to unfold every definition on its line.
+use mathlib.Core.List.{flatMap}
+use Rattle.lists.specs.Bytes.{little, bytesOf}
+use Rattle.lists.specs.First.{firstIndex, firstFrom, any, all}
+use Rattle.lists.specs.Pairs.{pairwise}
+use Rattle.lists.specs.Places.{places, tab}
+use Rattle.lists.specs.Room.{room, removeAt}
+use Rattle.lists.specs.Rules.{firstRule}
+use Rattle.lists.specs.Tests.{allOf}
+use Rattle.formats.specs.Formats.{when, then, readNumber, readBoth, writeBoth, startAt, readAs, readMany, writeMany, readHeaded, readCount, within, writeHeaded, atEnd, readFile}
+use Rattle.rules.specs.Addresses.{overlaps}
+use Rattle.rules.specs.Applying.{sameList, sameZone, sameConfig, judgedRules, judged, moved, applied, applyRead, apply}
+use Rattle.rules.specs.Changes.{setAt, withSide, putSet, added, pushed, cut, dropped}
+use Rattle.rules.specs.Configuration.{gicOf, configOf, positionRules, checkRules, check, isSound}
+use Rattle.rules.specs.Limits.{pageOf}
+use Rattle.rules.specs.Plan.{readPlan, encode}
+use Rattle.rules.specs.Regions.{wellFormed, inReach, regionEq}
+use Rattle.rules.specs.Requests.{holdsAny, onGic, forbidden, addRules, removeZoneRules, regionRules, setRules, insertRules, removeRules, kindRules, noRequest, requestRules, refusal, after, next, answers, standingRules}
+use Rattle.rules.specs.Run.{makeKind, makeRequest, runFrom, ended}
+use Rattle.rules.specs.Tables.{sideOf, configured, clash, soundSet, soundZone, zonesApart, sound, setOf, zoneOf, tableOf, restZero, zeroSet, tidyZone, zeroZone, tidy, checkTable}
+use Rattle.rules.specs.Translation.{coversGuest, coveringIn, physIn, translationRules, translatedAs}
+
+-- lists, tests and rules; regions
+unfoldable pub listParts : Unit {0}
+unfolding allOf firstRule firstIndex firstFrom any all pairwise removeAt room places tab flatMap
+listParts = tt
+
+unfoldable pub regionParts : Unit {0}
+unfolding listParts wellFormed inReach regionEq overlaps pageOf
+regionParts = tt
+
+-- the two checks
+unfoldable pub checkParts : Unit {0}
+unfolding regionParts check checkRules positionRules isSound configOf gicOf
+checkParts = tt
+
+unfoldable pub tableParts : Unit {0}
+unfolding checkParts sound soundZone soundSet zonesApart configured clash sideOf withSide checkTable tidy tidyZone
+    zeroZone zeroSet restZero tableOf zoneOf setOf standingRules
+tableParts = tt
+
+-- requests and what they leave; translation
+unfoldable pub requestParts : Unit {0}
+unfolding regionParts answers next refusal after requestRules kindRules noRequest addRules removeZoneRules insertRules
+    regionRules setRules removeRules holdsAny onGic forbidden configured clash gicOf added dropped pushed cut putSet
+    setAt withSide sideOf makeRequest makeKind
+requestParts = tt
+
+unfoldable pub translationParts : Unit {0}
+unfolding regionParts translatedAs translationRules physIn coveringIn coversGuest setAt sideOf
+translationParts = tt
+
+-- plans: read, written, and applied
+unfoldable pub readingParts : Unit {0}
+unfolding readPlan readFile atEnd readHeaded readCount within readMany readBoth readAs startAt readNumber when then
+    little allOf
+readingParts = tt
+
+unfoldable pub writingParts : Unit {0}
+unfolding encode writeBoth writeMany writeHeaded bytesOf
+writingParts = tt
+
+unfoldable pub applyingParts : Unit {0}
+unfolding tableParts requestParts readingParts apply applyRead applied moved judged judgedRules sameConfig sameZone
+    sameList runFrom ended
+applyingParts = tt

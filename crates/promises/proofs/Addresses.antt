@@ -1,4 +1,4 @@
--- Overlap.
+-- Overlap is a shared address: the laws of the rules, as they stand.
 use Rattle.rules.proofs.Addresses.{overlap-shared, overlap-symmetric, none-covered}
 use Rattle.promises.specs.Addresses.{OverlapIsShared, OverlapIsSymmetric, EmptyCoversNothing}
 

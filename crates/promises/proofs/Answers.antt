@@ -75,19 +75,22 @@ tells-zone id t = (
 )
 
 -- some element of a set, some zone, some other zone than the one at k
-tells-some : (p : Region → Bool) (P : Region → Type 0) → ((x : Region) → Tells (p x) (P x)) → (xs : List Region) → Tells (any p xs) (SomeIn xs P)
+tells-some : (p : Region → Bool) (P : Region → Type 0) → ((x : Region) → Tells (p x) (P x)) → (xs : List Region)
+    → Tells (any p xs) (SomeIn xs P)
 tells-some p P f xs = (
   (λ e. let (i, h, q) = any-at p xs noRegion e in (getD xs i noRegion, (i, h, refl), f (getD xs i noRegion) .0 q)),
   (λ (x, (i, h, q), m). any-make p xs noRegion i h (ap p q ∙ f x .1 m)),
 )
 
-tells-any : (p : Zone → Bool) (P : Zone → Type 0) → ((y : Zone) → Tells (p y) (P y)) → (t : List Zone) → Tells (any p t) (SomeZone t (λ z y. P y))
+tells-any : (p : Zone → Bool) (P : Zone → Type 0) → ((y : Zone) → Tells (p y) (P y)) → (t : List Zone)
+    → Tells (any p t) (SomeZone t (λ z y. P y))
 tells-any p P f t = (
   (λ e. let (z, h, q) = any-at p t noZone e in (z, h, f (getD t z noZone) .0 q)),
   (λ (z, h, m). any-make p t noZone z h (f (getD t z noZone) .1 m)),
 )
 
-tells-other : (p : Zone → Bool) (P : Zone → Type 0) → ((y : Zone) → Tells (p y) (P y)) → (t : List Zone) (k : ℕ) → Tells (any p (removeAt k t)) (SomeZone t (λ z y. (z ≡ k → ⊥) × P y))
+tells-other : (p : Zone → Bool) (P : Zone → Type 0) → ((y : Zone) → Tells (p y) (P y)) → (t : List Zone) (k : ℕ)
+    → Tells (any p (removeAt k t)) (SomeZone t (λ z y. (z ≡ k → ⊥) × P y))
 tells-other p P f t k = (
   (λ e. let (z, h, ne, q) = other-at p t k noZone e in (z, h, (ne, f (getD t z noZone) .0 q))),
   (λ (z, h, m). other-make p t k noZone z h (m .0) (f (getD t z noZone) .1 (m .1))),
@@ -107,10 +110,14 @@ tells-meets a m b n = overlap-shared a m b n
 
 -- two tests, of which one holds; that both hold
 tells-either : (a b : Bool) (P Q : Type 0) → Tells a P → Tells b Q → Tells (a || b) (P ⊎ Q)
-tells-either a b P Q f g = ((λ e. ⊎-elim (λ x. inl (f .0 x)) (λ y. inr (g .0 y)) (one-true a b e)), λ m. ⊎-elim (λ x. or-left a b (f .1 x)) (λ y. or-right a b (g .1 y)) m)
+tells-either a b P Q f g = (
+  (λ e. ⊎-elim (λ x. inl (f .0 x)) (λ y. inr (g .0 y)) (one-true a b e)),
+  λ m. ⊎-elim (λ x. or-left a b (f .1 x)) (λ y. or-right a b (g .1 y)) m,
+)
 
 tells-both : (a b : Bool) (P Q : Type 0) → Tells a P → Tells b Q → Tells (a && b) (P × Q)
-tells-both a b P Q f g = ((λ e. let (x, y) = both-true a b e in (f .0 x, g .0 y)), λ m. true-both a b (f .1 (m .0)) (g .1 (m .1)))
+tells-both a b P Q f g =
+    ((λ e. let (x, y) = both-true a b e in (f .0 x, g .0 y)), λ m. true-both a b (f .1 (m .0)) (g .1 (m .1)))
 
 -- what cannot fail holds
 twice : (t : Bool) {P : Type 0} → Tells t P → ((P → ⊥) → ⊥) → t ≡ true
@@ -136,7 +143,10 @@ tells-formed page r = (
 
 tells-reach : (l : Limits) (r : Region) → Tells (inReach l r) (IsInReach l r)
 unfolding inReach
-tells-reach l r = ((λ e. let p = parts _ e in (leb-true _ _ (p .0), leb-true _ _ (p .1 .0))), λ (a, b). whole _ (le-leb _ _ a, (le-leb _ _ b, tt)))
+tells-reach l r = (
+  (λ e. let p = parts _ e in (leb-true _ _ (p .0), leb-true _ _ (p .1 .0))),
+  λ (a, b). whole _ (le-leb _ _ a, (le-leb _ _ b, tt)),
+)
 
 isCpu : Side → Bool
 isCpu Cpu = true
@@ -147,18 +157,25 @@ unfolding onGic isCpu
 tells-gic c Cpu r = ((λ e. (refl, tells-meets _ _ _ _ .0 e)), λ (q, m). tells-meets _ _ _ _ .1 m)
 tells-gic c Iommu r = ((λ e. absurd (true≢false (sym e))), λ (q, m). absurd (true≢false (sym (ap isCpu q))))
 
-tells-clash : (c : Configuration) (r x : Region) → Tells (clash c r x) ((r ≡ gicOf c → ⊥) × ((x ≡ gicOf c → ⊥) × MeetsPhys r x))
+tells-clash : (c : Configuration) (r x : Region)
+    → Tells (clash c r x) ((r ≡ gicOf c → ⊥) × ((x ≡ gicOf c → ⊥) × MeetsPhys r x))
 unfolding clash
-tells-clash c r x = tells-both _ _ _ _ (tells-not _ _ (tells-same r (gicOf c))) (tells-both _ _ _ _ (tells-not _ _ (tells-same x (gicOf c))) (tells-meets _ _ _ _))
+tells-clash c r x =
+    tells-both _ _ _ _ (tells-not _ _ (tells-same r (gicOf c)))
+    (tells-both _ _ _ _ (tells-not _ _ (tells-same x (gicOf c))) (tells-meets _ _ _ _))
 
-tells-forbidden : (c : Configuration) (k : ℕ) (s : Side) (r : Region) (t : List Zone) → Tells (forbidden c k s r t) (ForbiddenFor c k s r t)
+tells-forbidden : (c : Configuration) (k : ℕ) (s : Side) (r : Region) (t : List Zone)
+    → Tells (forbidden c k s r t) (ForbiddenFor c k s r t)
 unfolding forbidden
 tells-forbidden c k Cpu r t =
     tells-either _ _ _ _
-    (tells-any (λ (y : Zone). any (physOverlap r) (y .cpu)) (λ y. SomeIn (y .cpu) (MeetsPhys r)) (λ y. tells-some (physOverlap r) (MeetsPhys r) (λ x. tells-meets _ _ _ _) (y .cpu)) t)
-    (tells-other (λ (y : Zone). any (physOverlap r) (y .iommu)) (λ y. SomeIn (y .iommu) (MeetsPhys r)) (λ y. tells-some (physOverlap r) (MeetsPhys r) (λ x. tells-meets _ _ _ _) (y .iommu)) t k)
+    (tells-any (λ (y : Zone). any (physOverlap r) (y .cpu)) (λ y. SomeIn (y .cpu) (MeetsPhys r))
+    (λ y. tells-some (physOverlap r) (MeetsPhys r) (λ x. tells-meets _ _ _ _) (y .cpu)) t)
+    (tells-other (λ (y : Zone). any (physOverlap r) (y .iommu)) (λ y. SomeIn (y .iommu) (MeetsPhys r))
+    (λ y. tells-some (physOverlap r) (MeetsPhys r) (λ x. tells-meets _ _ _ _) (y .iommu)) t k)
 tells-forbidden c k Iommu r t =
-    tells-other (λ (y : Zone). any (clash c r) (regionsOf y)) (λ y. SomeIn (regionsOf y) (λ x. (r ≡ gicOf c → ⊥) × ((x ≡ gicOf c → ⊥) × MeetsPhys r x)))
+    tells-other (λ (y : Zone). any (clash c r) (regionsOf y))
+    (λ y. SomeIn (regionsOf y) (λ x. (r ≡ gicOf c → ⊥) × ((x ≡ gicOf c → ⊥) × MeetsPhys r x)))
     (λ y. tells-some (clash c r) (λ x. (r ≡ gicOf c → ⊥) × ((x ≡ gicOf c → ⊥) × MeetsPhys r x)) (tells-clash c r) (regionsOf y)) t k
 
 tells-kind : (k : Kind) → Tells (noRequest k) (k ≡ NoRequest)
@@ -175,7 +192,8 @@ module _ (lim : Limits) where
     kind-matches : (k : Kind) → Matches (kindRules lim c k id t) (kindLines lim c t id k)
     unfolding kindRules addRules removeZoneRules insertRules regionRules setRules removeRules holdsAny configured
     kind-matches AddZone = tells-zone id t and tells-le _ _ and all
-    kind-matches RemoveZone = tells-not _ _ (tells-zone id t) and tells-held (setAt t (find id t) Cpu) (setAt t (find id t) Iommu) and all
+    kind-matches RemoveZone =
+        tells-not _ _ (tells-zone id t) and tells-held (setAt t (find id t) Cpu) (setAt t (find id t) Iommu) and all
     kind-matches (Insert s r) =
         let xs : List Region = setAt t (find id t) s in
         tells-not _ _ (tells-zone id t)
@@ -188,13 +206,15 @@ module _ (lim : Limits) where
         and tells-some (guestOverlap r) (MeetsGuest r) (λ x. tells-meets _ _ _ _) xs
         and tells-le _ _
         and all
-    kind-matches (Remove s r) = tells-not _ _ (tells-zone id t) and tells-not _ _ (tells-in r (setAt t (find id t) s)) and all
+    kind-matches (Remove s r) =
+        tells-not _ _ (tells-zone id t) and tells-not _ _ (tells-in r (setAt t (find id t) s)) and all
     kind-matches NoRequest = all
 
   pub refusal-is-exact : RefusalIsExact lim
   unfolding refusal requestRules
   refusal-is-exact c t q =
-      first-of 0 (λ n. 0 ≡ n) (tells-kind (q .kind) and tells-lt _ _ and kind-matches c t (q .zone) (q .kind)) (λ none n. ((λ e. e), λ e. e))
+      first-of 0 (λ n. 0 ≡ n) (tells-kind (q .kind) and tells-lt _ _ and kind-matches c t (q .zone) (q .kind))
+      (λ none n. ((λ e. e), λ e. e))
 
   -- ---- 1 and 2
   module _ (c : StoredConfig) (t : StoredTable) where
@@ -216,21 +236,28 @@ module _ (lim : Limits) where
     standing-matches say = tells-unsound and tells-bad and all
 
     -- put before what is answered at a table that stands
-    standing-first : {R : Type 0} (say : ℕ → R) (x : R) (P : R → Type 0) → (NoneOf (standingLines say lim c t) → Exactly x P) → Exactly (firstRule (standingAs say) x) (FirstOf (standingLines say lim c t) P)
+    standing-first : {R : Type 0} (say : ℕ → R) (x : R) (P : R → Type 0)
+        → (NoneOf (standingLines say lim c t) → Exactly x P)
+        → Exactly (firstRule (standingAs say) x) (FirstOf (standingLines say lim c t) P)
     standing-first say x P g = first-of x P (standing-matches say) g
 
-    standing-as : {R : Type 0} (say : ℕ → R) (x : R) → cond (eqb (standing lim c t) 0) x (say (standing lim c t)) ≡ firstRule (standingAs say) x
+    standing-as : {R : Type 0} (say : ℕ → R) (x : R)
+        → cond (eqb (standing lim c t) 0) x (say (standing lim c t)) ≡ firstRule (standingAs say) x
     unfolding standingRules standingAs firstRule
     standing-as {R} say x = by (not (isSound (check lim c))) (not (checkTable lim c t))
       where
-        by : (a b : Bool) → cond (eqb (firstRule (1 when a ∷ 2 when b ∷ []) 0) 0) x (say (firstRule (1 when a ∷ 2 when b ∷ []) 0)) ≡ firstRule (say 1 when a ∷ say 2 when b ∷ []) x
+        by : (a b : Bool)
+            → cond (eqb (firstRule (1 when a ∷ 2 when b ∷ []) 0) 0) x (say (firstRule (1 when a ∷ 2 when b ∷ []) 0))
+            ≡ firstRule (say 1 when a ∷ say 2 when b ∷ []) x
         by true b = refl
         by false true = refl
         by false false = refl
 
   pub answer-is-exact : AnswerIsExact lim
   unfolding answer standingRules standingAs
-  answer-is-exact c t q = standing-first c t (λ n. n) (refusal lim (configOf c) (tableOf t) q) (RequestSays lim (configOf c) (tableOf t) q) (λ none. refusal-is-exact (configOf c) (tableOf t) q)
+  answer-is-exact c t q =
+      standing-first c t (λ n. n) (refusal lim (configOf c) (tableOf t) q) (RequestSays lim (configOf c) (tableOf t) q)
+      (λ none. refusal-is-exact (configOf c) (tableOf t) q)
 
   -- ---- translation
   module _ (c : Configuration) (t : List Zone) (ok : SoundTable lim c t) (id : ℕ) (side : Side) (a : ℕ) where
@@ -253,10 +280,19 @@ module _ (lim : Limits) where
     comes-out : any (coversGuest a) xs ≡ true → Exactly (translatedAs 0 a (coveringIn a xs)) (ComesOut t id side a)
     unfolding xs translatedAs
     comes-out e =
-        exactly (translatedAs 0 a (coveringIn a xs)) (ComesOut t id side a) (translatedAs 0 a (coveringIn a xs), (coveringIn a xs, covering e .0, covers-parts a (coveringIn a xs) (covering e .1), at (coveringIn a xs) (covering e .1)))
+        exactly (translatedAs 0 a (coveringIn a xs)) (ComesOut t id side a) (
+          translatedAs 0 a (coveringIn a xs),
+          (
+            coveringIn a xs,
+            covering e .0,
+            covers-parts a (coveringIn a xs) (covering e .1),
+            at (coveringIn a xs) (covering e .1),
+          ),
+        )
         (λ o (r, m, k, q). ap (translatedAs 0 a) (the-one r m k e) ∙ sym (at r (parts-cover a r k)) ∙ q)
       where
-        at : (r : Region) → coversGuest a r ≡ true → record { number = 0; phys = record { 0 = r .p .0 + (a - r .v .0) } } ≡ translatedAs 0 a r
+        at : (r : Region) → coversGuest a r ≡ true
+            → record { number = 0; phys = record { 0 = r .p .0 + (a - r .v .0) } } ≡ translatedAs 0 a r
         at r k = let e : r .p .0 + (a - r .v .0) ≡ physIn a r = sym (same-distance a r k) in (λ i. record { number = 0; phys = record { 0 = e i } })
 
   tells-covers : (a : ℕ) (r : Region) → Tells (coversGuest a r) (CoversGuest r a)
@@ -270,7 +306,9 @@ module _ (lim : Limits) where
       let some : List Region = setAt z (find id z) side in
       let r : Region = coveringIn a some in
       exactly-of (first-map (λ n. translatedAs n a r) (standingRules lim c t ++ translationRules z id side a) 0)
-      (first-of (translatedAs 0 a r) (ComesOut z id side a) (tells-unsound c t and tells-bad c t and tells-lt _ _ and tells-not _ _ (tells-zone id z) and tells-not _ _ (tells-some (coversGuest a) (λ x. CoversGuest x a) (tells-covers a) some) and all)
+      (first-of (translatedAs 0 a r) (ComesOut z id side a)
+      (tells-unsound c t and tells-bad c t and tells-lt _ _ and tells-not _ _ (tells-zone id z) and tells-not _ _
+      (tells-some (coversGuest a) (λ x. CoversGuest x a) (tells-covers a) some) and all)
       (λ none. comes-out (configOf c) z (table-stands c t (true-of _ (none .1 .0))) id side a (twice (any (coversGuest a) some) (tells-some (coversGuest a) (λ x. CoversGuest x a) (tells-covers a) some) (none .1 .1 .1 .1 .0))))
 
   -- ---- runs
@@ -280,7 +318,8 @@ module _ (lim : Limits) where
     ends-so o (allAccepted f) = let e : 0 + length qs ≡ length qs = omega arith in ap ended (run-all lim c noAsk 0 t qs f) ∙ ap (plain 0) e
     ends-so o (twentySeven i h f ne) =
         let e : 0 + i ≡ i = omega arith in
-        ap ended (run-stops lim c noAsk 0 t qs i h f ne) ∙ (λ x. record { number = cond (ne-eqb (numberOf lim c t qs i) 0 ne x) 0 27; place = e x; inner = numberOf lim c t qs i })
+        ap ended (run-stops lim c noAsk 0 t qs i h f ne)
+        ∙ (λ x. record { number = cond (ne-eqb (numberOf lim c t qs i) 0 ne x) 0 27; place = e x; inner = numberOf lim c t qs i })
 
     some-end : (o : Outcome) × Ends lim c t qs o
     some-end =
@@ -295,10 +334,14 @@ module _ (lim : Limits) where
   unfolding runAnswer
   run-answer-is-exact c t qs =
       let r : Outcome = ended (run lim (configOf c) (tableOf t) qs) in
-      exactly-of (standing-as c t (λ n. plain n 0) r) (standing-first c t (λ n. plain n 0) r (Ends lim (configOf c) (tableOf t) qs) (λ none. ends-exactly (configOf c) (tableOf t) qs))
+      exactly-of (standing-as c t (λ n. plain n 0) r)
+      (standing-first c t (λ n. plain n 0) r (Ends lim (configOf c) (tableOf t) qs)
+      (λ none. ends-exactly (configOf c) (tableOf t) qs))
 
   -- ---- reading
-  module _ (b : List ℕ) (answered : Out Plan → Outcome) (refused : (k : ℕ) (t : List ℕ) → answered (bad k t) ≡ plain k (length b - length t)) (Then : Plan → Outcome → Type 0)
+  module _ (b : List ℕ) (answered : Out Plan → Outcome)
+      (refused : (k : ℕ) (t : List ℕ) → answered (bad k t) ≡ plain k (length b - length t))
+      (Then : Plan → Outcome → Type 0)
       (then-exactly : (p : Plan) → readPlan lim b ≡ got p [] → Exactly (answered (got p [])) (Then p)) where
     at-place : (k at : ℕ) → at ≤ length b → readPlan lim b ≡ bad k (drop at b) → answered (readPlan lim b) ≡ plain k at
     at-place k at h e = let q : length b - length (drop at b) ≡ at = omega (arith, length-drop at b) in ap answered e ∙ refused k (drop at b) ∙ ap (plain k) q
@@ -317,14 +360,17 @@ module _ (lim : Limits) where
     unfolding then atEnd
     reads-so o (twenty at h e) = at-place 20 at h (file-of (bad 20 (drop at b)) e)
     reads-so o (twentyOne at h e) = at-place 21 at h (file-of (bad 21 (drop at b)) e)
-    reads-so o (twentyTwo p at h e) = at-place 22 at (omega arith) (file-of (got p (drop at b)) e ∙ more-left p (drop at b) (omega (arith, length-drop at b)))
+    reads-so o (twentyTwo p at h e) =
+        at-place 22 at (omega arith)
+        (file-of (got p (drop at b)) e ∙ more-left p (drop at b) (omega (arith, length-drop at b)))
     reads-so o (reads p x e w) = let q : readPlan lim b ≡ got p [] = file-of (got p []) e in ap answered q ∙ then-exactly p q x .1 w
 
     some-reading : (o : Outcome) × Reading lim b Then o
     unfolding then atEnd left
     some-reading = by (planFormat lim .read b) refl
       where
-        told : (k : ℕ) (t : List ℕ) → planFormat lim .read b ≡ bad k t → (at : ℕ) → at ≤ length b → t ≡ drop at b → Told k → (o : Outcome) × Reading lim b Then o
+        told : (k : ℕ) (t : List ℕ) → planFormat lim .read b ≡ bad k t → (at : ℕ) → at ≤ length b → t ≡ drop at b
+            → Told k → (o : Outcome) × Reading lim b Then o
         told k t e at h q (inl n) = (plain 20 at, twenty at h (e ∙ (λ i. bad (n i) (q i))))
         told k t e at h q (inr n) = (plain 21 at, twentyOne at h (e ∙ (λ i. bad (n i) (q i))))
 
@@ -338,16 +384,24 @@ module _ (lim : Limits) where
 
   -- ---- plans
   -- where 1 and 2 stand
-  outcome-first : (s : Terminal) (b : List ℕ) → apply lim s b .outcome ≡ firstRule (standingAs (s .config) (s .table) (λ n. plain n 0)) (applyRead lim s b (readPlan lim b) .outcome)
+  outcome-first : (s : Terminal) (b : List ℕ)
+      → apply lim s b .outcome
+      ≡ firstRule (standingAs (s .config) (s .table) (λ n. plain n 0)) (applyRead lim s b (readPlan lim b) .outcome)
   unfolding apply
-  outcome-first s b = by (eqb (standing lim (s .config) (s .table)) 0) ∙ standing-as (s .config) (s .table) (λ n. plain n 0) (applyRead lim s b (readPlan lim b) .outcome)
+  outcome-first s b =
+      by (eqb (standing lim (s .config) (s .table)) 0)
+      ∙ standing-as (s .config) (s .table) (λ n. plain n 0) (applyRead lim s b (readPlan lim b) .outcome)
     where
-      by : (c : Bool) → cond c (applyRead lim s b (readPlan lim b)) (record { outcome = plain (standing lim (s .config) (s .table)) 0; state = s }) .outcome ≡ cond c (applyRead lim s b (readPlan lim b) .outcome) (plain (standing lim (s .config) (s .table)) 0)
+      by : (c : Bool)
+          → cond c (applyRead lim s b (readPlan lim b))
+          (record { outcome = plain (standing lim (s .config) (s .table)) 0; state = s }) .outcome
+          ≡ cond c (applyRead lim s b (readPlan lim b) .outcome) (plain (standing lim (s .config) (s .table)) 0)
       by true = refl
       by false = refl
 
   -- bases that are the same
-  tells-config : (c : Configuration) (p : Plan) → Tells (sameConfig c p) ((c .regions ≡ p .regions) × (c .gic ≡ p .marks .gic))
+  tells-config : (c : Configuration) (p : Plan)
+      → Tells (sameConfig c p) ((c .regions ≡ p .regions) × (c .gic ≡ p .marks .gic))
   unfolding sameConfig
   tells-config c p = (
     (λ e. let q = parts _ e in (same-list regionEq equal-same (c .regions) (p .regions) (q .0), eqb-true _ _ (q .1 .0))),
@@ -355,20 +409,25 @@ module _ (lim : Limits) where
   )
 
   tells-zones : (t u : List Zone) → Tells (sameList sameZone t u) (t ≡ u)
-  tells-zones t u = (same-list sameZone same-zone t u, λ e. ap (λ (x : List Zone). sameList sameZone x u) e ∙ list-same sameZone zone-same u)
+  tells-zones t u = (
+    same-list sameZone same-zone t u,
+    λ e. ap (λ (x : List Zone). sameList sameZone x u) e ∙ list-same sameZone zone-same u,
+  )
 
   judged-exactly : (s : Terminal) (p : Plan) → Exactly (judged s p (runOf lim s p)) (AtTerminal lim s p)
   unfolding judged judgedRules
   judged-exactly s p =
       first-of (ended (runOf lim s p)) (Ends lim (configOf (s .config)) (tableOf (s .table)) (requestsOf p))
-      (tells-not _ _ (tells-config (configOf (s .config)) p) and tells-not _ _ (tells-eq _ _) and tells-eq _ _ and tells-not _ _ (tells-zones (tableOf (s .table)) (p .zones)) and all)
+      (tells-not _ _ (tells-config (configOf (s .config)) p) and tells-not _ _
+      (tells-eq _ _) and tells-eq _ _ and tells-not _ _ (tells-zones (tableOf (s .table)) (p .zones)) and all)
       (λ none. ends-exactly (configOf (s .config)) (tableOf (s .table)) (requestsOf p))
 
   pub apply-is-exact : ApplyIsExact lim
   unfolding applyRead
   apply-is-exact s b =
       exactly-of (outcome-first s b)
-      (standing-first (s .config) (s .table) (λ n. plain n 0) (applyRead lim s b (readPlan lim b) .outcome) (Reading lim b (AtTerminal lim s))
+      (standing-first (s .config) (s .table) (λ n. plain n 0) (applyRead lim s b (readPlan lim b) .outcome)
+      (Reading lim b (AtTerminal lim s))
       (λ none. reading-exactly b (λ o. applyRead lim s b o .outcome) (λ k t. refl) (AtTerminal lim s) (λ p e. exactly-of (outcome-by lim s (judged s p (runOf lim s p)) (runOf lim s p)) (judged-exactly s p))))
 
   -- at its own base a plan is not refused with 23, 24 or 26
@@ -376,11 +435,17 @@ module _ (lim : Limits) where
     own : Configuration
     own = record { regions = p .regions; gic = p .marks .gic }
 
-    own-judged : judged (baseOf lim p) p (runOf lim (baseOf lim p) p) ≡ firstRule (plain 25 0 when eqb (p .marks .edition) lastEdition ∷ []) (ended (run lim own (p .zones) (requestsOf p)))
+    own-judged : judged (baseOf lim p) p (runOf lim (baseOf lim p) p)
+        ≡ firstRule (plain 25 0 when eqb (p .marks .edition) lastEdition ∷ [])
+        (ended (run lim own (p .zones) (requestsOf p)))
     unfolding judged judgedRules firstRule own
     own-judged =
         rw (
-          not-holds _ (tells-config (configOf (baseOf lim p .config)) p .1 (ap (λ (c : Configuration). c .regions) (own-config lim b p [] e), ap (λ (c : Configuration). c .gic) (own-config lim b p [] e))),
+          not-holds _
+              (tells-config (configOf (baseOf lim p .config)) p .1 (
+                ap (λ (c : Configuration). c .regions) (own-config lim b p [] e),
+                ap (λ (c : Configuration). c .gic) (own-config lim b p [] e),
+              )),
           not-holds _ (eq-eqb (p .marks .edition) (p .marks .edition) refl),
           not-holds _ (tells-zones (tableOf (baseOf lim p .table)) (p .zones) .1 (own-zones lim b p [] e)),
           own-config lim b p [] e,
@@ -395,7 +460,8 @@ module _ (lim : Limits) where
         exactly-of (outcome-first s b)
         (standing-first (s .config) (s .table) (λ n. plain n 0) (applyRead lim s b (readPlan lim b) .outcome) _
         (λ none. exactly-of (ap (λ (o : Out Plan). applyRead lim s b o .outcome) e ∙ outcome-by lim s (judged s p r) r ∙ own-judged)
-        (first-of (ended (run lim own (p .zones) (requestsOf p))) (Ends lim own (p .zones) (requestsOf p)) (tells-eq _ _ and all)
+        (first-of (ended (run lim own (p .zones) (requestsOf p))) (Ends lim own (p .zones) (requestsOf p))
+        (tells-eq _ _ and all)
         (λ none. ends-exactly own (p .zones) (requestsOf p)))))
 
   pub alone-is-exact : AloneIsExact lim
@@ -415,7 +481,8 @@ module _ (lim : Limits) where
       of : (x o : Outcome) → x ≡ o → any (eqb (x .number)) (23 ∷ 24 ∷ 26 ∷ []) ≡ false → Others (o .number)
       of x o q e = subst (λ (y : Outcome). Others (y .number)) q (others (x .number) e)
 
-      by-end : (c : Configuration) (t : List Zone) (qs : List Request) (o : Outcome) → Ends lim c t qs o → Others (o .number)
+      by-end : (c : Configuration) (t : List Zone) (qs : List Request) (o : Outcome) → Ends lim c t qs o
+          → Others (o .number)
       by-end c t qs o (allAccepted f) = others 0 refl
       by-end c t qs o (twentySeven i h f ne) = others 27 refl
 
@@ -426,11 +493,13 @@ module _ (lim : Limits) where
       by o (reads p x e (inl (h, q))) = of (plain 1 0) x q refl
       by o (reads p x e (inr (n, inl (h, q)))) = of (plain 2 0) x q refl
       by o (reads p x e (inr (n, inr (m, inl (h, q))))) = of (plain 25 0) x q refl
-      by o (reads p x e (inr (n, inr (m, inr (k, w))))) = by-end (record { regions = p .regions; gic = p .marks .gic }) (p .zones) (requestsOf p) x w
+      by o (reads p x e (inr (n, inr (m, inr (k, w))))) =
+          by-end (record { regions = p .regions; gic = p .marks .gic }) (p .zones) (requestsOf p) x w
 
   -- ---- where neither 1 nor 2 applies
   module _ (c : StoredConfig) (t : StoredTable) (ok : Stands lim c t) where
-    past-standing : {R : Type 0} (say : ℕ → R) (vs : List (Rule R)) (x : R) → firstRule (standingAs c t say ++ vs) x ≡ firstRule vs x
+    past-standing : {R : Type 0} (say : ℕ → R) (vs : List (Rule R)) (x : R)
+        → firstRule (standingAs c t say ++ vs) x ≡ firstRule vs x
     unfolding standingAs firstRule
     past-standing say vs x = rw (not-holds _ (ap isSound (ok .config) ∙ sound-is), not-holds _ (ok .table))
 
@@ -442,7 +511,8 @@ module _ (lim : Limits) where
     unfolding answer standingRules standingAs firstRule
     inside-request q = past-standing (λ n. n) [] (refusal lim (configOf c) (tableOf t) q)
 
-    inside-address : (id : ℕ) (side : Side) (g : Guest) → translated lim c t id side g ≡ translation (tableOf t) id side (g .0)
+    inside-address : (id : ℕ) (side : Side) (g : Guest)
+        → translated lim c t id side g ≡ translation (tableOf t) id side (g .0)
     unfolding translated translation standingRules standingAs
     inside-address id side g = let z : List Zone = tableOf t in ap (λ (n : ℕ). translatedAs n (g .0) (coveringIn (g .0) (setAt z (find id z) side))) (past-standing (λ n. n) (translationRules z id side (g .0)) 0)
 
@@ -464,12 +534,18 @@ module _ (lim : Limits) where
   finds s (Overlap i k) h = c6 i k h
 
   pub check-numbers-are-exact : CheckNumbersAreExact lim
-  check-numbers-are-exact s full n i k = ((λ (a, b, c). rw (← a, ← b, ← c) (finds s (check lim s) (check-is-exact lim s full (check lim s) .0 refl))), by n i k)
+  check-numbers-are-exact s full n i k = (
+    (λ (a, b, c). rw (← a, ← b, ← c) (finds s (check lim s) (check-is-exact lim s full (check lim s) .0 refl))),
+    by n i k,
+  )
     where
-      is : (f : Checked) → Means lim s f → (checkNumber (check lim s) ≡ checkNumber f) × (checkPlace (check lim s) ≡ checkPlace f) × (checkEarlier (check lim s) ≡ checkEarlier f)
+      is : (f : Checked) → Means lim s f
+          → (checkNumber (check lim s) ≡ checkNumber f) × (checkPlace (check lim s) ≡ checkPlace f)
+          × (checkEarlier (check lim s) ≡ checkEarlier f)
       is f h = let e : check lim s ≡ f = check-is-exact lim s full f .1 h in (ap checkNumber e, ap checkPlace e, ap checkEarlier e)
 
-      by : (n i k : ℕ) → Finds lim s n i k → (checkNumber (check lim s) ≡ n) × (checkPlace (check lim s) ≡ i) × (checkEarlier (check lim s) ≡ k)
+      by : (n i k : ℕ) → Finds lim s n i k
+          → (checkNumber (check lim s) ≡ n) × (checkPlace (check lim s) ≡ i) × (checkEarlier (check lim s) ≡ k)
       by n i k (nothing h) = is Sound h
       by n i k (c1 h) = is BadCount h
       by n i k (c2 h) = is BadGic h

@@ -1,16 +1,13 @@
--- Families of terminals.
+-- Families of terminals: a reader on its own limits goes through what was written for wider ones and stops at the first
+-- count above its own; the counts of a plan, each with its place, are rules, and the first that applies is its answer.
 use Prim.Native.Nat.{ℕ, zero, suc, _+_, _-_, _≤_, _<_}
 use native.Mathlib.Omega.{arith}
 use mathlib.Core.Bool.{Bool, true, false, cond}
-use mathlib.Core.List.{List, [], _∷_, _++_, flatMap}
+use mathlib.Core.List.{List, [], _∷_, _++_}
 use mathlib.Core.Path.{_≡_, refl, ap, _∙_}
 use borrow.Author.Tests.{leb-true, eq-eqb}
 use lib.Dec.{ltb, leb}
 use lib.ListN.{length, getD, drop, length-drop}
-use Rattle.lists.specs.First.{firstIndex, firstFrom, any, all}
-use Rattle.lists.specs.Pairs.{pairwise}
-use Rattle.lists.specs.Places.{places}
-use Rattle.lists.specs.Room.{room, removeAt}
 use Rattle.lists.specs.Rules.{_when_, firstRule, numbered, Silent, Rule, Applies}
 use Rattle.lists.specs.Tests.{allOf}
 use Rattle.lists.specs.Bytes.{Bytes}
@@ -22,44 +19,50 @@ use Rattle.formats.specs.Sizes.{total, along}
 use Rattle.formats.proofs.Bounds.{stopped, judged-back, judged-both, judged-as, judged-many, judged-listed, judged-fields, judged-file, stops-at, stops-never, all-joined, all-one, along-within, Judged}
 use Rattle.formats.proofs.Formats.{lawful-number}
 use Rattle.formats.proofs.Sizes.{sized-listed}
-use Rattle.rules.specs.Addresses.{overlaps}
 use Rattle.rules.specs.Applying.{plain, applyRead, apply, Terminal}
-use Rattle.rules.specs.Changes.{setAt, withSide, putSet, pushed}
-use Rattle.rules.specs.Configuration.{gicOf, configOf, positionRules, checkRules, check, isSound}
 use Rattle.rules.specs.Desk.{deskTerminal}
-use Rattle.rules.specs.Limits.{limits, Limits, Sayable, pageOf}
+use Rattle.rules.specs.Limits.{limits, Limits, Sayable}
 use Rattle.rules.specs.Plan.{short, regionField, askedField, marksSection, regionsSection, setFormat, zoneTo, zoneFrom, zoneFormat, zonesSection, requestsSection, planTo, planFrom, planFormat, readPlan, encode, Short, RegionFits, AskedFits, MarksFit, SetFits, ZoneFits, PlanFits, Asked, Plan}
-use Rattle.rules.specs.Regions.{wellFormed, inReach, regionEq}
-use Rattle.rules.specs.Requests.{onGic, forbidden, regionRules, setRules, insertRules, kindRules, noRequest, requestRules, refusal, after, next, answers, standingRules, standing}
+use Rattle.rules.specs.Requests.{after, standing}
 use Rattle.rules.specs.Sizes.{shortSize, marksSize, regionSize, regionsSize, zoneSize, planSize, planWith}
-use Rattle.rules.specs.Tables.{sideOf, setOf, zoneOf, tableOf, restZero, zeroSet, tidyZone, zeroZone, tidy, configured, clash, soundSet, soundZone, sound, checkTable, Zone}
+use Rattle.rules.specs.Tables.{Zone}
 use Rattle.rules.specs.declared.Region.{Region}
+use Rattle.rules.proofs.Computing.{listParts, checkParts, tableParts, requestParts}
 use Rattle.rules.proofs.Plan.{lawful-region-field, lawful-asked, lawful-marks, read-encoded, no-slack, encoded-bytes}
 use Rattle.rules.proofs.Sizes.{sized-region, sized-list, sized-marks, sized-set, sized-zone, encoded-length, counts-fit}
 use Rattle.promises.specs.Families.{Refuses21, zonesAt, requestsAt, setsAbove, countsAbove, AboveIsRefused, WithinIsRead, oneMore, MetWith, AboveIsMet, WithinIsMet, WidePagesShown, Meets}
 
 -- a terminal that stands well answers what its reader refuses, at its place
-refuses : (l : Limits) (s : Terminal) (b t : List ℕ) (place : ℕ) → standing l (s .config) (s .table) ≡ 0 → readPlan l b ≡ bad 21 t → length b - length t ≡ place → Refuses21 l s b place
+refuses : (l : Limits) (s : Terminal) (b t : List ℕ) (place : ℕ) → standing l (s .config) (s .table) ≡ 0
+    → readPlan l b ≡ bad 21 t → length b - length t ≡ place → Refuses21 l s b place
 unfolding apply applyRead
 refuses l s b t place st e h =
-    ap (λ (c : Bool). cond c (applyRead l s b (readPlan l b)) (record { outcome = plain (standing l (s .config) (s .table)) 0; state = s })) (eq-eqb _ 0 st)
+    ap (λ (c : Bool). cond c (applyRead l s b (readPlan l b))
+    (record { outcome = plain (standing l (s .config) (s .table)) 0; state = s }))
+    (eq-eqb _ 0 st)
     ∙ ap (applyRead l s b) e ∙ (λ i. record { outcome = plain 21 (h i); state = s })
 
 -- ---- what a reader on its own limits makes of a plan that fits others
 module _ (own wide : Limits) where
   -- a zone: its id has no count, and each of its sets has one
-  zone-judged : (z : Zone) (at : ℕ) → ZoneFits wide z → Judged (zoneFormat own) (zoneFormat wide .write z) z at (setsAbove own at z)
+  zone-judged : (z : Zone) (at : ℕ) → ZoneFits wide z
+      → Judged (zoneFormat own) (zoneFormat wide .write z) z at (setsAbove own at z)
   unfolding writeBoth
   zone-judged z at (small, (cpu, iommu)) =
       let set : (xs : List Region) (place : ℕ) → SetFits wide xs → Judged (setFormat own) (setFormat wide .write xs) xs place (place when ltb (own .inSet) (length xs) ∷ []) =
       λ xs place h. judged-fields regionField RegionFits lawful-region-field 4 0 (own .inSet) (wide .inSet) xs place h in
       let n : ℕ = regionsSize (length (z .cpu)) in
       let sets : List Region × List Region = (z .cpu, z .iommu) in
-      judged-as (both short (both (setFormat own) (setFormat own))) zoneTo zoneFrom (zoneFormat wide .write z) (zoneFrom z) at (setsAbove own at z)
-      (judged-both short (both (setFormat own) (setFormat own)) (short .write (z .id)) (both (setFormat wide) (setFormat wide) .write sets) (z .id) sets at shortSize [] (setsAbove own at z) (length-bytes 4 (z .id))
+      judged-as (both short (both (setFormat own) (setFormat own))) zoneTo zoneFrom (zoneFormat wide .write z)
+      (zoneFrom z) at (setsAbove own at z)
+      (judged-both short (both (setFormat own) (setFormat own)) (short .write (z .id))
+      (both (setFormat wide) (setFormat wide) .write sets) (z .id) sets at shortSize [] (setsAbove own at z)
+      (length-bytes 4 (z .id))
       (judged-back short Short (lawful-number 4) (z .id) small at)
-      (judged-both (setFormat own) (setFormat own) (setFormat wide .write (z .cpu)) (setFormat wide .write (z .iommu)) (z .cpu) (z .iommu) (at + shortSize) n ((at + shortSize) when ltb (own .inSet) (length (z .cpu)) ∷ [])
-      ((at + shortSize + n) when ltb (own .inSet) (length (z .iommu)) ∷ []) (sized-set wide (z .cpu)) (set (z .cpu) (at + shortSize) cpu) (set (z .iommu) (at + shortSize + n) iommu)))
+      (judged-both (setFormat own) (setFormat own) (setFormat wide .write (z .cpu)) (setFormat wide .write (z .iommu))
+      (z .cpu) (z .iommu) (at + shortSize) n ((at + shortSize) when ltb (own .inSet) (length (z .cpu)) ∷ [])
+      ((at + shortSize + n) when ltb (own .inSet) (length (z .iommu)) ∷ []) (sized-set wide (z .cpu))
+      (set (z .cpu) (at + shortSize) cpu) (set (z .iommu) (at + shortSize + n) iommu)))
 
   module _ (p : Plan) (fits : PlanFits wide p) where
     plan-judged : Judged (planFormat own) (planFormat wide .write p) p 0 (countsAbove own p)
@@ -71,23 +74,42 @@ module _ (own wide : Limits) where
         let ofZones : List (Rule ℕ) = zonesAt p when ltb (own .zones) (length (p .zones)) ∷ sets in
         let ofAsked : List (Rule ℕ) = requestsAt p when ltb (own .requests) (length (p .asked)) ∷ [] in
         let last : List Zone × List Asked = (p .zones, p .asked) in
-        judged-as (both marksSection (both (regionsSection own) (both (zonesSection own) (requestsSection own)))) planTo planFrom (planFormat wide .write p) (planFrom p) 0 (countsAbove own p)
-        (judged-both marksSection (both (regionsSection own) (both (zonesSection own) (requestsSection own))) (marksSection .write (p .marks)) _ (p .marks) (p .regions, last) 0 marksSize [] (ofRegions ++ (ofZones ++ ofAsked))
+        judged-as (both marksSection
+        (both (regionsSection own) (both (zonesSection own) (requestsSection own)))) planTo planFrom
+        (planFormat wide .write p) (planFrom p) 0 (countsAbove own p)
+        (judged-both marksSection (both (regionsSection own) (both (zonesSection own) (requestsSection own)))
+        (marksSection .write (p .marks)) _ (p .marks) (p .regions, last) 0 marksSize []
+        (ofRegions ++ (ofZones ++ ofAsked))
         (sized-marks (p .marks)) (judged-back marksSection MarksFit lawful-marks (p .marks) (fits .0) 0)
-        (judged-both (regionsSection own) (both (zonesSection own) (requestsSection own)) (regionsSection wide .write (p .regions)) _ (p .regions) last marksSize (regionsSize (length (p .regions))) ofRegions (ofZones ++ ofAsked)
-        (sized-list 1 (wide .regions) regionSize regionField sized-region (p .regions)) (judged-fields regionField RegionFits lawful-region-field 4 1 (own .regions) (wide .regions) (p .regions) marksSize (fits .1 .0))
-        (judged-both (zonesSection own) (requestsSection own) (zonesSection wide .write (p .zones)) (requestsSection wide .write (p .asked)) (p .zones) (p .asked) (zonesAt p) (shortSize + total zoneSize (p .zones)) ofZones ofAsked
+        (judged-both (regionsSection own) (both (zonesSection own) (requestsSection own))
+        (regionsSection wide .write (p .regions)) _ (p .regions) last marksSize
+        (regionsSize (length (p .regions))) ofRegions (ofZones ++ ofAsked)
+        (sized-list 1 (wide .regions) regionSize regionField sized-region (p .regions))
+        (judged-fields regionField RegionFits lawful-region-field 4 1 (own .regions) (wide .regions)
+        (p .regions) marksSize (fits .1 .0))
+        (judged-both (zonesSection own) (requestsSection own) (zonesSection wide .write (p .zones))
+        (requestsSection wide .write (p .asked)) (p .zones) (p .asked) (zonesAt p)
+        (shortSize + total zoneSize (p .zones)) ofZones ofAsked
         (sized-listed (zoneFormat wide) zoneSize (sized-zone wide) 4 0 (wide .zones) (p .zones))
-        (judged-listed (zoneFormat own) 4 0 (own .zones) (p .zones) (writeMany (zoneFormat wide) (p .zones)) (zonesAt p) sets (fits .1 .1 .0 .said) (fits .1 .1 .0 .least)
-        (judged-many (zoneFormat own) (zoneFormat wide) (ZoneFits wide) zoneSize (setsAbove own) (sized-zone wide) zone-judged (p .zones) after (fits .1 .1 .0 .fits .1)))
-        (judged-fields askedField AskedFits lawful-asked 4 0 (own .requests) (wide .requests) (p .asked) (requestsAt p) (fits .1 .1 .1)))))
+        (judged-listed (zoneFormat own) 4 0 (own .zones) (p .zones) (writeMany (zoneFormat wide) (p .zones))
+        (zonesAt p) sets (fits .1 .1 .0 .said) (fits .1 .1 .0 .least)
+        (judged-many (zoneFormat own) (zoneFormat wide) (ZoneFits wide) zoneSize (setsAbove own)
+        (sized-zone wide) zone-judged (p .zones) after (fits .1 .1 .0 .fits .1)))
+        (judged-fields askedField AskedFits lawful-asked 4 0 (own .requests) (wide .requests) (p .asked) (requestsAt p)
+        (fits .1 .1 .1)))))
 
     -- every count stands within the plan
     counts-within : All (λ (r : Rule ℕ). r .0 ≤ planSize p) (countsAbove own p)
     unfolding countsAbove planSize
     counts-within =
-        let sets = along-within zoneSize (setsAbove own) (planSize p) (λ at z h. (omega arith, (omega arith, tt))) (zonesAt p + shortSize) (p .zones) (omega arith) in
-        (omega arith, (omega arith, all-joined _ (along zoneSize (setsAbove own) (zonesAt p + shortSize) (p .zones)) _ sets (omega arith, tt)))
+        let sets = along-within zoneSize (setsAbove own) (planSize p) (λ at z h. (omega arith, (omega arith, tt))) (zonesAt p + shortSize) (p .zones) (omega arith) in (
+          omega arith,
+          (
+            omega arith,
+            all-joined _ (along zoneSize (setsAbove own) (zonesAt p + shortSize) (p .zones)) _ sets
+                (omega arith, tt),
+          ),
+        )
 
   module _ (b : List ℕ) (p : Plan) (h : Bytes b) (e : readPlan wide b ≡ got p []) where
     read-as : readPlan own b ≡ stopped b (countsAbove own p) (got p [])
@@ -101,15 +123,17 @@ module _ (own wide : Limits) where
       let (w, f) = no-slack wide b p [] (m .bytes) (m .reads) in
       let place : ℕ = getD (countsAbove own p) k (0 when false) .0 in
       let inside : place ≤ planSize p = all-one _ (countsAbove own p) (0 when false) (counts-within p f) k (a .there) in
-      refuses own s b (drop place b) place (m .stands) (read-as b p (m .bytes) (m .reads) ∙ stops-at b (0 when false) (got p []) (countsAbove own p) k a)
+      refuses own s b (drop place b) place (m .stands)
+      (read-as b p (m .bytes) (m .reads) ∙ stops-at b (0 when false) (got p []) (countsAbove own p) k a)
       (omega (arith, length-drop place b, ap length w, encoded-length wide p))
 
   pub within-is-read : WithinIsRead own wide
-  within-is-read s b p m q = read-as b p (m .bytes) (m .reads) ∙ stops-never b (0 when false) (got p []) (countsAbove own p) q
+  within-is-read s b p m q =
+      read-as b p (m .bytes) (m .reads) ∙ stops-never b (0 when false) (got p []) (countsAbove own p) q
 
 -- ---- there are such
 desk-stands : standing limits (deskTerminal .config) (deskTerminal .table) ≡ 0
-unfolding standingRules checkTable check checkRules positionRules wellFormed inReach regionEq overlaps allOf firstRule firstIndex firstFrom any all pairwise room places flatMap configOf tableOf zoneOf setOf tidy tidyZone zeroZone zeroSet restZero sound soundZone soundSet isSound
+unfolding tableParts
 desk-stands = refl
 
 abbrev more : Limits
@@ -121,7 +145,9 @@ more-sayable = record { guestReach = omega arith; physReach = omega arith; regio
 -- a plan with so many of each, within the wider limits
 module _ (r z c i q : ℕ) where
   abbrev few : List Bool
-  few = leb 1 r ∷ leb r (more .regions) ∷ leb z (more .zones) ∷ leb c (more .inSet) ∷ leb i (more .inSet) ∷ leb q (more .requests) ∷ []
+  few =
+      leb 1 r ∷ leb r (more .regions) ∷ leb z (more .zones) ∷ leb c (more .inSet) ∷ leb i (more .inSet)
+      ∷ leb q (more .requests) ∷ []
 
   abbrev plan : Plan
   plan = planWith r z c i q
@@ -136,14 +162,17 @@ module _ (r z c i q : ℕ) where
       record { stands = desk-stands; bytes = encoded-bytes more plan; reads = read-encoded more plan f }
 
   -- the first count above the limits is the one at place k, as the places show; or there is none
-  met-above : (k : ℕ) → allOf few ≡ true → numbered above ≡ true → k < length above → firstRule above 0 ≡ getD above k (0 when false) .0 → MetWith (λ p. Applies (countsAbove limits p) (0 when false) k)
+  met-above : (k : ℕ) → allOf few ≡ true → numbered above ≡ true → k < length above
+      → firstRule above 0 ≡ getD above k (0 when false) .0
+      → MetWith (λ p. Applies (countsAbove limits p) (0 when false) k)
   met-above k h apart there e = (encode more plan, plan, met h, number-exactly above (0 when false) apart k there .0 e)
 
-  met-within : allOf few ≡ true → numbered above ≡ true → firstRule above 0 ≡ 0 → MetWith (λ p. Silent (countsAbove limits p) (0 when false))
+  met-within : allOf few ≡ true → numbered above ≡ true → firstRule above 0 ≡ 0
+      → MetWith (λ p. Silent (countsAbove limits p) (0 when false))
   met-within h apart e = (encode more plan, plan, met h, zero-exactly above (0 when false) apart .0 e)
 
 pub above-is-met : AboveIsMet
-unfolding countsAbove along total numbered pairwise firstRule all any allOf
+unfolding countsAbove along total numbered listParts
 above-is-met zero h = met-above (more .regions) 1 0 0 0 0 refl refl (omega arith) refl
 above-is-met (suc zero) h = met-above 1 (more .zones) 0 0 0 1 refl refl (omega arith) refl
 above-is-met (suc (suc zero)) h = met-above 1 1 (more .inSet) 0 0 2 refl refl (omega arith) refl
@@ -152,9 +181,9 @@ above-is-met (suc (suc (suc (suc zero)))) h = met-above 1 1 0 0 (more .requests)
 above-is-met (suc (suc (suc (suc (suc k))))) h = absurd (omega arith)
 
 pub within-is-met : WithinIsMet
-unfolding countsAbove along total numbered pairwise firstRule all any allOf
+unfolding countsAbove along total numbered listParts
 within-is-met = met-within 1 1 0 0 0 refl refl refl
 
 pub wide-pages-shown : WidePagesShown
-unfolding answers next refusal after requestRules kindRules noRequest insertRules regionRules setRules onGic forbidden pushed putSet setAt withSide sideOf configured clash check checkRules positionRules configOf gicOf pageOf wellFormed inReach regionEq overlaps allOf firstRule firstIndex firstFrom any all pairwise removeAt room places flatMap isSound
+unfolding checkParts requestParts
 wide-pages-shown = (refl, refl, refl, refl)

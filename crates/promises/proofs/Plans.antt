@@ -1,4 +1,5 @@
--- Plans.
+-- Plans: a refusal hands back the state that it was given, and 0 is answered exactly where no rule applies and the run
+-- has no refusal; what lies past the longest plan is never read.
 use Prim.Native.Nat.{ℕ, suc, _+_, _-_, _<_}
 use native.Mathlib.Decide.{decLt}
 use native.Mathlib.Omega.{arith}
@@ -9,7 +10,7 @@ use borrow.Author.Tests.{eqb-true, eqb-false, eq-eqb}
 use lib.Dec.{eqb}
 use lib.ListN.{length, take, drop, length-append, length-take, take-append-drop}
 use lib.Seq.{take-all}
-use Rattle.formats.specs.Formats.{got, bad, Out, then, both, readBoth, readAs, readFile}
+use Rattle.formats.specs.Formats.{got, bad, Out, then, readBoth, readAs, readFile}
 use Rattle.rules.specs.Applying.{lastEdition, plain, judged, moved, applied, applyRead, apply, answerRead, answerAlone, Terminal, Applied}
 use Rattle.rules.specs.Configuration.{configOf, Configuration}
 use Rattle.rules.specs.Limits.{Limits}
@@ -29,14 +30,21 @@ use Rattle.promises.specs.Plans.{PlanFor, runOf, RefusalStays, Configura
 
 module _ (lim : Limits) where
   -- a run without a refusal goes through all requests
-  run-through : (c : Configuration) (i : ℕ) (t : List Zone) (qs : List Request) → runFrom lim c i t qs .inner ≡ 0 → runFrom lim c i t qs .place ≡ i + length qs
+  run-through : (c : Configuration) (i : ℕ) (t : List Zone) (qs : List Request) → runFrom lim c i t qs .inner ≡ 0
+      → runFrom lim c i t qs .place ≡ i + length qs
   unfolding runFrom
   run-through c i t [] e = omega arith
   run-through c i t (q ∷ qs) e = by (run-through c (suc i) (next lim c t q) qs) (eqb (refusal lim c t q) 0) refl e
     where
-      by : (runFrom lim c (suc i) (next lim c t q) qs .inner ≡ 0 → runFrom lim c (suc i) (next lim c t q) qs .place ≡ suc i + length qs) → (b : Bool) → eqb (refusal lim c t q) 0 ≡ b
-          → cond b (runFrom lim c (suc i) (next lim c t q) qs) (record { place = i; inner = refusal lim c t q; table = t }) .inner ≡ 0
-          → cond b (runFrom lim c (suc i) (next lim c t q) qs) (record { place = i; inner = refusal lim c t q; table = t }) .place ≡ i + length (q ∷ qs)
+      by : (runFrom lim c (suc i) (next lim c t q) qs .inner ≡ 0
+          → runFrom lim c (suc i) (next lim c t q) qs .place ≡ suc i + length qs)
+          → (b : Bool) → eqb (refusal lim c t q) 0 ≡ b
+          → cond b (runFrom lim c (suc i) (next lim c t q) qs)
+          (record { place = i; inner = refusal lim c t q; table = t }) .inner
+          ≡ 0
+          → cond b (runFrom lim c (suc i) (next lim c t q) qs)
+          (record { place = i; inner = refusal lim c t q; table = t }) .place
+          ≡ i + length (q ∷ qs)
       by f true h g = f g ∙ omega arith
       by f false h g = absurd (eqb-false _ _ h g)
 
@@ -71,8 +79,14 @@ module _ (lim : Limits) where
   unfolding apply
   refusal-stays s b ne = by (eqb (standing lim (s .config) (s .table)) 0) ne
     where
-      by : (c : Bool) → (cond c (applyRead lim s b (readPlan lim b)) (record { outcome = plain (standing lim (s .config) (s .table)) 0; state = s }) .outcome .number ≡ 0 → ⊥)
-          → cond c (applyRead lim s b (readPlan lim b)) (record { outcome = plain (standing lim (s .config) (s .table)) 0; state = s }) .state ≡ s
+      by : (c : Bool)
+          → (cond c (applyRead lim s b (readPlan lim b))
+          (record { outcome = plain (standing lim (s .config) (s .table)) 0; state = s }) .outcome .number
+          ≡ 0
+          → ⊥)
+          → cond c (applyRead lim s b (readPlan lim b))
+          (record { outcome = plain (standing lim (s .config) (s .table)) 0; state = s }) .state
+          ≡ s
       by true ne = read-stays s b (readPlan lim b) ne
       by false ne = refl
 
@@ -81,7 +95,9 @@ module _ (lim : Limits) where
   accepted-is-plan s b e = by (eqb (standing lim (s .config) (s .table)) 0) refl (readPlan lim b) refl e
     where
       by : (c : Bool) → eqb (standing lim (s .config) (s .table)) 0 ≡ c → (o : Out Plan) → readPlan lim b ≡ o
-          → cond c (applyRead lim s b o) (record { outcome = plain (standing lim (s .config) (s .table)) 0; state = s }) .outcome .number ≡ 0
+          → cond c (applyRead lim s b o)
+          (record { outcome = plain (standing lim (s .config) (s .table)) 0; state = s }) .outcome .number
+          ≡ 0
           → (p : Plan) × PlanFor lim s b p × (s .edition ≡ lastEdition → ⊥) × (runOf lim s p .inner ≡ 0)
       by true h (got p t) g e =
           let (f, last, inner) = accepted-for-base s p (runOf lim s p) (sym (ap (λ (x : Outcome). x .number) (outcome-by s (judged s p (runOf lim s p)) (runOf lim s p))) ∙ e) in
@@ -95,7 +111,9 @@ module _ (lim : Limits) where
       let r : Run = runOf lim s p in
       let n : r .place ≡ length (requestsOf p) = run-through _ 0 _ (requestsOf p) inner ∙ omega arith in
       let j : judged s p r ≡ plain 0 (length (requestsOf p)) = for-base-accepted s p r f last inner ∙ ap (plain 0) n in
-      ap (λ (c : Bool). cond c (applyRead lim s b (readPlan lim b)) (record { outcome = plain (standing lim (s .config) (s .table)) 0; state = s })) (eq-eqb _ 0 st)
+      ap (λ (c : Bool). cond c (applyRead lim s b (readPlan lim b))
+      (record { outcome = plain (standing lim (s .config) (s .table)) 0; state = s }))
+      (eq-eqb _ 0 st)
       ∙ ap (applyRead lim s b) g ∙ ap (λ (o : Outcome). applied lim s o r) j
 
   -- ---- a state is left as it was, or moved as its run says
@@ -112,7 +130,10 @@ module _ (lim : Limits) where
     unfolding apply applyRead
     apply-keeps b move = by (eqb (standing lim (s .config) (s .table)) 0) (readPlan lim b)
       where
-        by : (c : Bool) (o : Out Plan) → P (cond c (applyRead lim s b o) (record { outcome = plain (standing lim (s .config) (s .table)) 0; state = s }) .state)
+        by : (c : Bool) (o : Out Plan)
+            → P
+            (cond c (applyRead lim s b o)
+            (record { outcome = plain (standing lim (s .config) (s .table)) 0; state = s }) .state)
         by true (got p t) = applied-keeps (judged s p (runOf lim s p)) (runOf lim s p) (move p)
         by true (bad k t) = stay
         by false o = stay
@@ -125,7 +146,9 @@ module _ (lim : Limits) where
   unfolding moved
   apply-keeps-sound s b st =
       let (c, t) = stands-well lim (s .config) (s .table) st in
-      apply-keeps s (λ u. standing lim (u .config) (u .table) ≡ 0) st b (λ p. stored-stands lim (s .config) (runOf lim s p .table) c (run-from-keeps lim (configOf (s .config)) 0 (tableOf (s .table)) (requestsOf p) t))
+      apply-keeps s (λ u. standing lim (u .config) (u .table) ≡ 0) st b
+      (λ p. stored-stands lim (s .config) (runOf lim s p .table) c
+      (run-from-keeps lim (configOf (s .config)) 0 (tableOf (s .table)) (requestsOf p) t))
 
   -- ---- the marks
   pub marks-tell : MarksTell lim
@@ -142,8 +165,11 @@ module _ (lim : Limits) where
         let n : ℕ = lim .regions in
         let z : ℕ = lim .zones in
         let k : ℕ = lim .inSet in
-        let q : ℕ = lim .requests in
-        (planWith n z k k q, counts-fit lim say n z k k q r (omega arith) (omega arith) (omega arith) (omega arith) (omega arith), counts-length lim n z k k q);
+        let q : ℕ = lim .requests in (
+          planWith n z k k q,
+          counts-fit lim say n z k k q r (omega arith) (omega arith) (omega arith) (omega arith) (omega arith),
+          counts-length lim n z k k q,
+        );
   }
 
   -- ---- bytes past the longest plan: both are refused alike, with places that are the same
@@ -164,14 +190,19 @@ module _ (lim : Limits) where
 
     apply-past : (s : Terminal) → apply lim s u ≡ apply lim s (u ++ v)
     unfolding apply
-    apply-past s = ap (λ (a : Applied). cond (eqb (standing lim (s .config) (s .table)) 0) a (record { outcome = plain (standing lim (s .config) (s .table)) 0; state = s })) (read-past s)
+    apply-past s =
+        ap (λ (a : Applied). cond (eqb (standing lim (s .config) (s .table)) 0) a
+        (record { outcome = plain (standing lim (s .config) (s .table)) 0; state = s }))
+        (read-past s)
 
   pub past-the-longest : PastTheLongest lim
   past-the-longest b n h =
       elim (decLt n (length b)) [
         | yes l ↦
             (let e : take n b ++ drop n b ≡ b = take-append-drop n b in
-            let m : longestSize lim < length (take n b) = omega (arith, length-take n b) in
-            (alone-past (take n b) (drop n b) m ∙ ap (answerAlone lim) e, λ s. apply-past (take n b) (drop n b) m s ∙ ap (apply lim s) e))
+            let m : longestSize lim < length (take n b) = omega (arith, length-take n b) in (
+              alone-past (take n b) (drop n b) m ∙ ap (answerAlone lim) e,
+              λ s. apply-past (take n b) (drop n b) m s ∙ ap (apply lim s) e,
+            ))
         | no l ↦ let e : take n b ≡ b = take-all n b (omega arith) in (ap (answerAlone lim) e, λ s. ap (apply lim s) e)
       ]

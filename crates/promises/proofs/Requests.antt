@@ -1,4 +1,5 @@
--- Requests.
+-- Requests: soundness part by part is kept by each kind of change, and so
+-- by any run; each number stands once in its kind's order.
 use mathlib.Core.Bool.{true, false}
 use mathlib.Core.Path.{_≡_}
 use Rattle.lists.specs.Rules.{_when_, numbered}
@@ -20,11 +21,15 @@ module _ (lim : Limits) where
   run-keeps-sound c t qs e = parts-sound lim c (runs (next lim c) t qs) (runs-keep lim c t qs (sound-parts lim c t e))
 
   pub stopped-run-keeps-sound : StoppedRunKeepsSound lim
-  stopped-run-keeps-sound c i t qs e = parts-sound lim c (runFrom lim c i t qs .table) (run-from-keeps lim c i t qs (sound-parts lim c t e))
+  stopped-run-keeps-sound c i t qs e =
+      parts-sound lim c (runFrom lim c i t qs .table) (run-from-keeps lim c i t qs (sound-parts lim c t e))
 
   pub number-is-first : NumberIsFirst lim
   unfolding refusal
-  number-is-first c t q = (number-exactly (requestRules lim c (q .kind) (q .zone) t) (0 when false) numbers, zero-exactly (requestRules lim c (q .kind) (q .zone) t) (0 when false) numbers)
+  number-is-first c t q = (
+    number-exactly (requestRules lim c (q .kind) (q .zone) t) (0 when false) numbers,
+    zero-exactly (requestRules lim c (q .kind) (q .zone) t) (0 when false) numbers,
+  )
     where
       numbers : numbered (requestRules lim c (q .kind) (q .zone) t) ≡ true
       numbers = request-numbered lim c (q .kind) (q .zone) t

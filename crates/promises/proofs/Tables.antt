@@ -1,4 +1,5 @@
--- Sound tables.
+-- Sound tables: the check's tests, taken one by one, are the document's conditions at the zones and records where they
+-- lie; what follows of addresses follows from two regions that do not clash.
 use Prim.Native.Nat.{ℕ, _+_, _≤_, _<_}
 use native.Mathlib.Decide.{decLt}
 use native.Mathlib.Omega.{arith}
@@ -69,7 +70,8 @@ among p xs r e (i, h, q) = ap p (sym q) ∙ all-at p xs noRegion e i h
 module _ (c : Configuration) (a b : Region) where
   no-clash-means : clash c a b ≡ false → (a ≡ gicOf c → ⊥) → (b ≡ gicOf c → ⊥) → physOverlap a b ≡ false
   unfolding clash
-  no-clash-means e na nb = rw (false-of _ (λ q. na (equal-same a (gicOf c) q)), false-of _ (λ q. nb (equal-same b (gicOf c) q))) at e
+  no-clash-means e na nb =
+      rw (false-of _ (λ q. na (equal-same a (gicOf c) q)), false-of _ (λ q. nb (equal-same b (gicOf c) q))) at e
 
   -- a region that differs from the GIC is not equal to it
   differs : (r : Region) → regionEq r (gicOf c) ≡ false → r ≡ gicOf c → ⊥
@@ -79,7 +81,8 @@ module _ (c : Configuration) (a b : Region) where
   unfolding clash
   means-no-clash f = by (regionEq a (gicOf c)) refl (regionEq b (gicOf c)) refl
     where
-      by : (x : Bool) → regionEq a (gicOf c) ≡ x → (y : Bool) → regionEq b (gicOf c) ≡ y → (not x && (not y && physOverlap a b)) ≡ false
+      by : (x : Bool) → regionEq a (gicOf c) ≡ x → (y : Bool) → regionEq b (gicOf c) ≡ y
+          → (not x && (not y && physOverlap a b)) ≡ false
       by true p y q = refl
       by false p true q = refl
       by false p false q = f (differs a p) (differs b q)
@@ -90,10 +93,14 @@ module _ (c : Configuration) (a b : Region) where
       covered : (r : Region) → regionEq r (gicOf c) ≡ true → CoversPhys r x → CoversPhys (gicOf c) x
       covered r q p = subst (λ (g : Region). CoversPhys g x) (equal-same r (gicOf c) q) p
 
-      by : (regionEq a (gicOf c) ≡ true) ⊎ (regionEq a (gicOf c) ≡ false) → (regionEq b (gicOf c) ≡ true) ⊎ (regionEq b (gicOf c) ≡ false) → CoversPhys (gicOf c) x
+      by : (regionEq a (gicOf c) ≡ true) ⊎ (regionEq a (gicOf c) ≡ false)
+          → (regionEq b (gicOf c) ≡ true) ⊎ (regionEq b (gicOf c) ≡ false) → CoversPhys (gicOf c) x
       by (inl q) r = covered a q pa
       by (inr q) (inl r) = covered b r pb
-      by (inr q) (inr r) = absurd (true≢false (sym (overlap-shared (a .p .0) (a .size) (b .p .0) (b .size) .1 (x, (pa, pb))) ∙ no-clash-means e (differs a q) (differs b r)))
+      by (inr q) (inr r) =
+          absurd (true≢false
+          (sym (overlap-shared (a .p .0) (a .size) (b .p .0) (b .size) .1 (x, (pa, pb)))
+          ∙ no-clash-means e (differs a q) (differs b r)))
 
 module _ (lim : Limits) where
   -- ---- the tests of a sound table, one by one
@@ -113,25 +120,34 @@ module _ (lim : Limits) where
 
     zone-configured : (z : ℕ) → z < length t → all (configured c) (regionsOf (getD t z noZone)) ≡ true
     unfolding sideOf
-    zone-configured z h = all-append (configured c) (getD t z noZone .cpu) (getD t z noZone .iommu) (side-configured z Cpu h) (side-configured z Iommu h)
+    zone-configured z h =
+        all-append (configured c) (getD t z noZone .cpu) (getD t z noZone .iommu) (side-configured z Cpu h)
+        (side-configured z Iommu h)
 
-    guest-apart : (z : ℕ) (side : Side) → z < length t → (i j : ℕ) → i < length (sideOf side (getD t z noZone)) → j < length (sideOf side (getD t z noZone)) → (i ≡ j → ⊥) → guestOverlap (getD (sideOf side (getD t z noZone)) i noRegion) (getD (sideOf side (getD t z noZone)) j noRegion) ≡ false
+    guest-apart : (z : ℕ) (side : Side) → z < length t → (i j : ℕ) → i < length (sideOf side (getD t z noZone))
+        → j < length (sideOf side (getD t z noZone)) → (i ≡ j → ⊥)
+        → guestOverlap (getD (sideOf side (getD t z noZone)) i noRegion)
+        (getD (sideOf side (getD t z noZone)) j noRegion)
+        ≡ false
     unfolding soundSet
     guest-apart z side h i j a b ne =
         let apart = parts _ (side-ok z side h) .1 .1 .0 in
         elim (decLt i j) [
           | yes q ↦ not-true _ (pairs-at guestApart (sideOf side (getD t z noZone)) noRegion apart i j q b)
           | no q ↦
-              overlap-symmetric _ _ _ _ ∙ not-true _ (pairs-at guestApart (sideOf side (getD t z noZone)) noRegion apart j i (omega arith) a)
+              overlap-symmetric _ _ _ _
+              ∙ not-true _ (pairs-at guestApart (sideOf side (getD t z noZone)) noRegion apart j i (omega arith) a)
         ]
 
     off-gic : (z : ℕ) (r : Region) → z < length t → In r (getD t z noZone .cpu) → physOverlap r (gicOf c) ≡ false
     unfolding soundZone
     off-gic z r h m = not-true _ (among (offGic c) (getD t z noZone .cpu) r (parts _ (zone-ok z h) .1 .1 .1 .0) m)
 
-    device-formed : (z : ℕ) (r : Region) → z < length t → In r (getD t z noZone .iommu) → wellFormed (lim .iommuPage) r ≡ true
+    device-formed : (z : ℕ) (r : Region) → z < length t → In r (getD t z noZone .iommu)
+        → wellFormed (lim .iommuPage) r ≡ true
     unfolding soundZone
-    device-formed z r h m = among (wellFormed (lim .iommuPage)) (getD t z noZone .iommu) r (parts _ (zone-ok z h) .1 .1 .1 .1 .0) m
+    device-formed z r h m =
+        among (wellFormed (lim .iommuPage)) (getD t z noZone .iommu) r (parts _ (zone-ok z h) .1 .1 .1 .1 .0) m
 
     ids-apart : (y z : ℕ) → y < z → z < length t → getD t y noZone .id ≡ getD t z noZone .id → ⊥
     unfolding sound
@@ -146,16 +162,22 @@ module _ (lim : Limits) where
         ]
 
     -- two zones, the earlier first
-    no-clash : (y z : ℕ) → y < z → z < length t → (a b : Region) → In a (regionsOf (getD t y noZone)) → In b (regionsOf (getD t z noZone)) → clash c a b ≡ false
+    no-clash : (y z : ℕ) → y < z → z < length t → (a b : Region) → In a (regionsOf (getD t y noZone))
+        → In b (regionsOf (getD t z noZone)) → clash c a b ≡ false
     unfolding sound zonesApart
     no-clash y z h l a b ma (j, lj, qj) =
         let apart = pairs-at (zonesApart c) t noZone (parts _ ok .1 .1 .1 .0) y z h l in
         let none = not-true _ (among (λ (r : Region). not (any (clash c r) (regionsOf (getD t z noZone)))) (regionsOf (getD t y noZone)) a apart ma) in
         ap (clash c a) (sym qj) ∙ none-at (clash c a) (regionsOf (getD t z noZone)) noRegion none j lj
 
-    pub never-clash : (y z : ℕ) → y < length t → z < length t → (y ≡ z → ⊥) → (a b : Region) → In a (regionsOf (getD t y noZone)) → In b (regionsOf (getD t z noZone)) → clash c a b ≡ false
+    pub never-clash : (y z : ℕ) → y < length t → z < length t → (y ≡ z → ⊥) → (a b : Region)
+        → In a (regionsOf (getD t y noZone)) → In b (regionsOf (getD t z noZone)) → clash c a b ≡ false
     never-clash y z h l ne a b ma mb =
-        elim (decLt y z) [ yes q ↦ no-clash y z q l a b ma mb | no q ↦ clash-symmetric c a b ∙ no-clash z y (omega arith) h b a mb ma ]
+        elim (decLt y z) [
+          | yes q ↦ no-clash y z q l a b ma mb
+          | no q ↦ clash-symmetric c a b
+              ∙ no-clash z y (omega arith) h b a mb ma
+        ]
 
   -- ---- the table check, on the table as it is stored
   module _ (c : StoredConfig) (t : StoredTable) where
@@ -167,11 +189,15 @@ module _ (lim : Limits) where
 
     side-length : (z : ℕ) (s : Side) → z < t .count → length (sideOf s (getD (tableOf t) z noZone)) ≡ countAt t z s
     unfolding setOf
-    side-length z s h = ap length (side-read z s h) ∙ length-room (countAt t z s) noRegion (setIn s (zoneAt t z) .records)
+    side-length z s h =
+        ap length (side-read z s h) ∙ length-room (countAt t z s) noRegion (setIn s (zoneAt t z) .records)
 
-    record-read : (z : ℕ) (s : Side) (i : ℕ) → Held t z s i → getD (sideOf s (getD (tableOf t) z noZone)) i noRegion ≡ recordAt t z s i
+    record-read : (z : ℕ) (s : Side) (i : ℕ) → Held t z s i
+        → getD (sideOf s (getD (tableOf t) z noZone)) i noRegion ≡ recordAt t z s i
     unfolding setOf
-    record-read z s i (h, l) = ap (λ (xs : List Region). getD xs i noRegion) (side-read z s h) ∙ room-read (countAt t z s) noRegion (setIn s (zoneAt t z) .records) i l
+    record-read z s i (h, l) =
+        ap (λ (xs : List Region). getD xs i noRegion) (side-read z s h)
+        ∙ room-read (countAt t z s) noRegion (setIn s (zoneAt t z) .records) i l
 
     id-read : (z : ℕ) → z < t .count → getD (tableOf t) z noZone .id ≡ zoneAt t z .id
     unfolding zoneOf
@@ -192,35 +218,50 @@ module _ (lim : Limits) where
 
     -- a configuration that the check finds sound has its GIC among its regions
     gic-inside : check lim c ≡ Sound → c .gic < c .count
-    gic-inside e = leb-false _ _ (false-of _ (λ b. ⊎-elim (λ a. c1-faulty (gives-c1 lim c a ∙ e)) (λ a. c2-faulty (gives-c2 lim c a b ∙ e)) (holds-or-fails _)))
+    gic-inside e =
+        leb-false _ _
+        (false-of _
+        (λ b. ⊎-elim (λ a. c1-faulty (gives-c1 lim c a ∙ e)) (λ a. c2-faulty (gives-c2 lim c a b ∙ e))
+        (holds-or-fails _)))
 
     -- ---- yes means that each condition holds
     zero-set : (s : StoredSet) → zeroSet s ≡ true → (s .count ≡ 0) × ((i : ℕ) → getD (s .records) i noRegion ≡ noRegion)
     unfolding zeroSet
     zero-set s e =
-        let h = parts _ e in
-        (eqb-true _ _ (h .0), λ i. unused-zero _ (not-true _ (all-beyond (λ (r : Region). not (used r)) (s .records) noRegion 0 unused-record (sym (none-all used (s .records)) ∙ h .1 .0) i (omega arith))))
+        let h = parts _ e in (
+          eqb-true _ _ (h .0),
+          λ i. unused-zero _
+              (not-true _
+              (all-beyond (λ (r : Region). not (used r)) (s .records) noRegion 0 unused-record
+              (sym (none-all used (s .records)) ∙ h .1 .0) i (omega arith))),
+        )
 
     rest-zero : (s : StoredSet) → restZero s ≡ true → (i : ℕ) → s .count ≤ i → getD (s .records) i noRegion ≡ noRegion
     unfolding restZero
     rest-zero s e i h =
-        unused-zero _ (not-true _ (all-beyond (λ (r : Region). not (used r)) (s .records) noRegion (s .count) unused-record (sym (none-all used (drop (s .count) (s .records))) ∙ e) i h))
+        unused-zero _
+        (not-true _
+        (all-beyond (λ (r : Region). not (used r)) (s .records) noRegion (s .count) unused-record
+        (sym (none-all used (drop (s .count) (s .records))) ∙ e) i h))
 
     set-tidy : tidy t ≡ true → (z : ℕ) (s : Side) → z < t .count → restZero (setIn s (zoneAt t z)) ≡ true
     unfolding tidy tidyZone setIn
     set-tidy e z s h = by s (parts _ (all-below tidyZone (t .zones) noStored (t .count) past-tidy (parts _ e .0) z h))
       where
-        by : (s : Side) → Holds (restZero (zoneAt t z .cpu) ∷ restZero (zoneAt t z .iommu) ∷ []) → restZero (setIn s (zoneAt t z)) ≡ true
+        by : (s : Side) → Holds (restZero (zoneAt t z .cpu) ∷ restZero (zoneAt t z .iommu) ∷ [])
+            → restZero (setIn s (zoneAt t z)) ≡ true
         by Cpu p = p .0
         by Iommu p = p .1 .0
 
-    zone-zero : tidy t ≡ true → (z : ℕ) → t .count ≤ z → (zoneAt t z .id ≡ 0) × ((s : Side) → (countAt t z s ≡ 0) × ((i : ℕ) → recordAt t z s i ≡ noRegion))
+    zone-zero : tidy t ≡ true → (z : ℕ) → t .count ≤ z
+        → (zoneAt t z .id ≡ 0) × ((s : Side) → (countAt t z s ≡ 0) × ((i : ℕ) → recordAt t z s i ≡ noRegion))
     unfolding tidy zeroZone setIn
     zone-zero e z h =
         let p = parts _ (all-beyond zeroZone (t .zones) noStored (t .count) past-zero (parts _ e .1 .0) z h) in
         (eqb-true _ _ (p .0), λ s. by s p)
       where
-        by : (s : Side) → Holds (eqb (zoneAt t z .id) 0 ∷ zeroSet (zoneAt t z .cpu) ∷ zeroSet (zoneAt t z .iommu) ∷ []) → (countAt t z s ≡ 0) × ((i : ℕ) → recordAt t z s i ≡ noRegion)
+        by : (s : Side) → Holds (eqb (zoneAt t z .id) 0 ∷ zeroSet (zoneAt t z .cpu) ∷ zeroSet (zoneAt t z .iommu) ∷ [])
+            → (countAt t z s ≡ 0) × ((i : ℕ) → recordAt t z s i ≡ noRegion)
         by Cpu p = zero-set (zoneAt t z .cpu) (p .1 .0)
         by Iommu p = zero-set (zoneAt t z .iommu) (p .1 .1 .0)
 
@@ -246,7 +287,8 @@ module _ (lim : Limits) where
           formed = λ z i m. device-formed cc zs ok z (recordAt t z Iommu i) (table-has z (m .0)) (stands z Iommu i m);
           zonesApart = λ y z s u i j ne m n na nb.
               no-clash-means cc (recordAt t y s i) (recordAt t z u j)
-              (never-clash cc zs ok y z (table-has y (m .0)) (table-has z (n .0)) ne _ _ (in-zone (getD zs y noZone) s _ (stands y s i m)) (in-zone (getD zs z noZone) u _ (stands z u j n)))
+              (never-clash cc zs ok y z (table-has y (m .0)) (table-has z (n .0)) ne _ _
+              (in-zone (getD zs y noZone) s _ (stands y s i m)) (in-zone (getD zs z noZone) u _ (stands z u j n)))
               (λ q. na (q ∙ g)) (λ q. nb (q ∙ g));
         }
 
@@ -258,14 +300,18 @@ module _ (lim : Limits) where
       abbrev zoneIn : ℕ → Zone
       zoneIn z = getD (tableOf t) z noZone
 
-      each-region : (p : Region → Bool) (z : ℕ) (s : Side) → z < t .count → ((i : ℕ) → Held t z s i → p (recordAt t z s i) ≡ true) → all p (sideOf s (zoneIn z)) ≡ true
+      each-region : (p : Region → Bool) (z : ℕ) (s : Side) → z < t .count
+          → ((i : ℕ) → Held t z s i → p (recordAt t z s i) ≡ true) → all p (sideOf s (zoneIn z)) ≡ true
       each-region p z s h f =
-          all-make p (sideOf s (zoneIn z)) noRegion (λ i l. let m : i < countAt t z s = omega (arith, side-length z s h) in ap p (record-read z s i (h, m)) ∙ f i (h, m))
+          all-make p (sideOf s (zoneIn z)) noRegion
+          (λ i l. let m : i < countAt t z s = omega (arith, side-length z s h) in ap p (record-read z s i (h, m))
+          ∙ f i (h, m))
 
       region-configured : (r : Region) → (i : ℕ) × (i < c .count) × (at c i ≡ r) → configured cc r ≡ true
       unfolding configured configOf
       region-configured r (i, h, q) =
-          any-make (regionEq r) (room (c .count) noRegion (c .records)) noRegion i (omega (arith, length-room (c .count) noRegion (c .records)))
+          any-make (regionEq r) (room (c .count) noRegion (c .records)) noRegion i
+          (omega (arith, length-room (c .count) noRegion (c .records)))
           (ap (regionEq r) (room-read (c .count) noRegion (c .records) i h ∙ q) ∙ equal-refl r)
 
       set-sound : (z : ℕ) (s : Side) → z < t .count → soundSet lim cc (sideOf s (zoneIn z)) ≡ true
@@ -282,7 +328,9 @@ module _ (lim : Limits) where
                     (λ i j a b.
                     let m : i < countAt t z s = omega (arith, side-length z s h) in
                     let n : j < countAt t z s = omega (arith, side-length z s h) in
-                    not-fails _ (ap₂ guestOverlap (record-read z s i (h, m)) (record-read z s j (h, n)) ∙ k .guestApart z s i j (h, m) (h, n) (λ e. omega arith))),
+                    not-fails _
+                    (ap₂ guestOverlap (record-read z s i (h, m)) (record-read z s j (h, n))
+                    ∙ k .guestApart z s i j (h, m) (h, n) (λ e. omega arith))),
                 tt,
               ),
             ),
@@ -300,7 +348,8 @@ module _ (lim : Limits) where
               (
                 set-sound z Iommu h,
                 (
-                  each-region (offGic cc) z Cpu h (λ i m. not-fails _ (ap (physOverlap (recordAt t z Cpu i)) (gic-read gic) ∙ k .offGic z i m)),
+                  each-region (offGic cc) z Cpu h
+                      (λ i m. not-fails _ (ap (physOverlap (recordAt t z Cpu i)) (gic-read gic) ∙ k .offGic z i m)),
                   (each-region (wellFormed (lim .iommuPage)) z Iommu h (λ i m. k .formed z i m), tt),
                 ),
               ),
@@ -319,40 +368,63 @@ module _ (lim : Limits) where
               none-make (clash cc (recordAt t y s i)) (sideOf u (zoneIn z)) noRegion
               (λ j b. let n : j < countAt t z u = omega (arith, side-length z u l) in
               ap (clash cc (recordAt t y s i)) (record-read z u j (l, n))
-              ∙ means-no-clash cc _ _ (λ na nb. k .zonesApart y z s u i j ne m (l, n) (λ q. na (q ∙ sym (gic-read gic))) (λ q. nb (q ∙ sym (gic-read gic)))))
+              ∙ means-no-clash cc _ _
+              (λ na nb. k .zonesApart y z s u i j ne m (l, n) (λ q. na (q ∙ sym (gic-read gic)))
+              (λ q. nb (q ∙ sym (gic-read gic)))))
 
           half : (s : Side) → all none-clashes (sideOf s (zoneIn y)) ≡ true
-          half s = each-region none-clashes y s h (λ i m. not-fails _ (any-append (clash cc (recordAt t y s i)) (zoneIn z .cpu) (zoneIn z .iommu) ∙ false-both _ _ (clear s Cpu i m) (clear s Iommu i m)))
+          half s =
+              each-region none-clashes y s h
+              (λ i m. not-fails _
+              (any-append (clash cc (recordAt t y s i)) (zoneIn z .cpu) (zoneIn z .iommu)
+              ∙ false-both _ _ (clear s Cpu i m) (clear s Iommu i m)))
 
       table-sound : sound lim cc (tableOf t) ≡ true
       table-sound =
           let few : t .count ≤ lim .zones = k .fewZones in
           parts-sound lim cc (tableOf t) record {
             few = omega (arith, length-table t);
-            zones = all-make (soundZone lim cc) (tableOf t) noZone (λ z h. zone-sound z (omega (arith, length-table t)));
+            zones =
+                all-make (soundZone lim cc) (tableOf t) noZone (λ z h. zone-sound z (omega (arith, length-table t)));
             ids = pairs-make idsDiffer (tableOf t) noZone
                 (λ y z h l.
                 let a : y < t .count = omega (arith, length-table t) in
                 let b : z < t .count = omega (arith, length-table t) in
-                not-fails _ (ne-eqb _ _ (λ q. k .idsDiffer y z a b (λ e. omega arith) (sym (id-read y a) ∙ q ∙ id-read z b))));
-            disjoint = pairs-make (zonesApart cc) (tableOf t) noZone (λ y z h l. zones-apart y z (omega (arith, length-table t)) (omega (arith, length-table t)) (λ e. omega arith));
+                not-fails _
+                (ne-eqb _ _ (λ q. k .idsDiffer y z a b (λ e. omega arith) (sym (id-read y a) ∙ q ∙ id-read z b))));
+            disjoint =
+                pairs-make (zonesApart cc) (tableOf t) noZone
+                (λ y z h l. zones-apart y z (omega (arith, length-table t)) (omega (arith, length-table t))
+                (λ e. omega arith));
           }
 
-      set-rest : (s : StoredSet) → ((i : ℕ) → s .count ≤ i → getD (s .records) i noRegion ≡ noRegion) → restZero s ≡ true
+      set-rest : (s : StoredSet) → ((i : ℕ) → s .count ≤ i → getD (s .records) i noRegion ≡ noRegion)
+          → restZero s ≡ true
       unfolding restZero
-      set-rest s f = none-all used (drop (s .count) (s .records)) ∙ all-beyond-make (λ (r : Region). not (used r)) (s .records) noRegion (s .count) (λ i h. not-fails _ (zero-unused _ (f i h)))
+      set-rest s f =
+          none-all used (drop (s .count) (s .records))
+          ∙ all-beyond-make (λ (r : Region). not (used r)) (s .records) noRegion (s .count)
+          (λ i h. not-fails _ (zero-unused _ (f i h)))
 
-      set-zero : (s : StoredSet) → (s .count ≡ 0) × ((i : ℕ) → getD (s .records) i noRegion ≡ noRegion) → zeroSet s ≡ true
+      set-zero : (s : StoredSet) → (s .count ≡ 0) × ((i : ℕ) → getD (s .records) i noRegion ≡ noRegion)
+          → zeroSet s ≡ true
       unfolding zeroSet
-      set-zero s (e, f) = whole _ (eq-eqb _ _ e, (not-fails _ (none-make used (s .records) noRegion (λ i h. zero-unused _ (f i))), tt))
+      set-zero s (e, f) =
+          whole _ (eq-eqb _ _ e, (not-fails _ (none-make used (s .records) noRegion (λ i h. zero-unused _ (f i))), tt))
 
       table-tidy : tidy t ≡ true
       unfolding tidy tidyZone zeroZone setIn
       table-tidy =
           whole _ (
-            all-below-make tidyZone (t .zones) noStored (t .count) (λ z h. whole _ (set-rest (zoneAt t z .cpu) (λ i l. k .restZero z Cpu i h (omega arith)), (set-rest (zoneAt t z .iommu) (λ i l. k .restZero z Iommu i h (omega arith)), tt))),
+            all-below-make tidyZone (t .zones) noStored (t .count)
+                (λ z h. whole _ (
+                  set-rest (zoneAt t z .cpu) (λ i l. k .restZero z Cpu i h (omega arith)),
+                  (set-rest (zoneAt t z .iommu) (λ i l. k .restZero z Iommu i h (omega arith)), tt),
+                )),
             (
-              all-beyond-make zeroZone (t .zones) noStored (t .count) (λ z h. let (id, sets) = k .zonesZero z h in whole _ (eq-eqb _ _ id, (set-zero _ (sets Cpu), (set-zero _ (sets Iommu), tt)))),
+              all-beyond-make zeroZone (t .zones) noStored (t .count)
+                  (λ z h. let (id, sets) = k .zonesZero z h in whole _
+                  (eq-eqb _ _ id, (set-zero _ (sets Cpu), (set-zero _ (sets Iommu), tt)))),
               tt,
             ),
           )
@@ -371,17 +443,21 @@ module _ (lim : Limits) where
 
   -- ---- sound tables
   pub no-address-in-two-zones : NoAddressInTwoZones lim
-  no-address-in-two-zones s t ok y z x h l ne (a, ma, pa) (b, mb, pb) = shared-by-gic (configOf s) a b x (never-clash (configOf s) t (ok .table) y z h l ne a b ma mb) pa pb
+  no-address-in-two-zones s t ok y z x h l ne (a, ma, pa) (b, mb, pb) =
+      shared-by-gic (configOf s) a b x (never-clash (configOf s) t (ok .table) y z h l ne a b ma mb) pa pb
 
   pub no-cpu-on-gic : NoCpuOnGic lim
   no-cpu-on-gic s t ok z x h (r, m, p) g =
-      true≢false (sym (overlap-shared (r .p .0) (r .size) (gicOf (configOf s) .p .0) (gicOf (configOf s) .size) .1 (x, (p, g))) ∙ off-gic (configOf s) t (ok .table) z r h m)
+      true≢false (sym
+      (overlap-shared (r .p .0) (r .size) (gicOf (configOf s) .p .0) (gicOf (configOf s) .size) .1 (x, (p, g)))
+      ∙ off-gic (configOf s) t (ok .table) z r h m)
 
   pub inv-zone-ids : InvZoneIds lim
   inv-zone-ids s t ok y z h l e = one-id (configOf s) t (ok .table) y z h l e
 
   -- a configured region is well formed and in reach
-  configured-valid : (s : StoredConfig) → Passed lim s → (r : Region) → configured (configOf s) r ≡ true → (wellFormed (lim .page) r ≡ true) × (inReach lim r ≡ true)
+  configured-valid : (s : StoredConfig) → Passed lim s → (r : Region) → configured (configOf s) r ≡ true
+      → (wellFormed (lim .page) r ≡ true) × (inReach lim r ≡ true)
   configured-valid s p r e =
       let ok : SoundConfiguration lim (configOf s) = passed lim s (p .0) (p .1) in
       let (i, l, q) = configured-at lim (configOf s) ok r e in
@@ -396,7 +472,8 @@ module _ (lim : Limits) where
     (λ i j a b ne. guest-apart (configOf s) t (ok .table) z side h i j a b ne),
   )
     where
-      formed-on : (side : Side) (r : Region) → In r (sideOf side (getD t z noZone)) → wellFormed (lim .page) r ≡ true → wellFormed (pageOf lim side) r ≡ true
+      formed-on : (side : Side) (r : Region) → In r (sideOf side (getD t z noZone)) → wellFormed (lim .page) r ≡ true
+          → wellFormed (pageOf lim side) r ≡ true
       formed-on Cpu r m e = e
       formed-on Iommu r m e = device-formed (configOf s) t (ok .table) z r h m
 
@@ -409,7 +486,8 @@ module _ (lim : Limits) where
   inv-cpu-disjoint-from-gic s t ok z r h m = off-gic (configOf s) t (ok .table) z r h m
 
   pub inv-cross-zone-non-gic-disjoint : InvCrossZoneNonGicDisjoint lim
-  inv-cross-zone-non-gic-disjoint s t ok y z a b h l ne ma mb na nb = no-clash-means (configOf s) a b (never-clash (configOf s) t (ok .table) y z h l ne a b ma mb) na nb
+  inv-cross-zone-non-gic-disjoint s t ok y z a b h l ne ma mb na nb =
+      no-clash-means (configOf s) a b (never-clash (configOf s) t (ok .table) y z h l ne a b ma mb) na nb
 
   pub empty-is-sound : EmptyIsSound lim
   unfolding sound all pairwise

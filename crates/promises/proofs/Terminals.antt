@@ -1,4 +1,5 @@
--- Demand 3 for the terminals of the rules.
+-- Demand 3 for the terminals of the rules: they have the five laws, and the
+-- machine's planner has the states that the rules give the planner.
 use Prim.Native.Nat.{ℕ, zero, suc, _+_, _-_, _<_}
 use native.Mathlib.Omega.{arith}
 use mathlib.Core.List.{List, [], map}
@@ -31,17 +32,23 @@ editionRead (got p t) = p .marks .edition
 editionRead (bad k t) = 0
 
 module _ (lim : Limits) where
-  one-edition : (s t : Terminal) (b : List ℕ) → (p : Plan) × PlanFor lim s b p → (p : Plan) × PlanFor lim t b p → s .edition ≡ t .edition
+  one-edition : (s t : Terminal) (b : List ℕ) → (p : Plan) × PlanFor lim s b p → (p : Plan) × PlanFor lim t b p
+      → s .edition ≡ t .edition
   unfolding editionRead
   one-edition s t b (p, (f, x)) (q, (g, y)) = x .edition ∙ ap editionRead (sym f ∙ g) ∙ sym (y .edition)
 
   plan-leads : Sayable lim → (s : State Held) (q : List Asked) → SoundHeld lim (s .table) → MayAsk lim (terminal s) q
-      → (terminals lim .number s (terminals lim .encode s q) ≡ 0) × (terminals lim .after s (terminals lim .encode s q) ≡ record { edition = suc (s .edition); table = terminals lim .next (s .table) q })
+      → (terminals lim .number s (terminals lim .encode s q) ≡ 0)
+      × (terminals lim .after s (terminals lim .encode s q)
+      ≡ record { edition = suc (s .edition); table = terminals lim .next (s .table) q })
   plan-leads say s q ok may =
       let below : s .edition < lastEdition = may .edition in
       let n : s .edition + 1 ≡ suc (s .edition) = omega arith in
-      let e = plan-is-accepted lim (terminal s) (planBytes lim (terminal s) q) (planFor (terminal s) q) (ok .stands) (plan-reads lim say (terminal s) q (ok .records) (ok .stands) may, plan-for-base (terminal s) q) (λ l. omega arith) (may .accepted) in
-      (ap (λ (a : Applied). a .outcome .number) e, ap (λ (a : Applied). stateOf (a .state)) e ∙ (λ i. record { edition = n i; table = terminals lim .next (s .table) q }))
+      let e = plan-is-accepted lim (terminal s) (planBytes lim (terminal s) q) (planFor (terminal s) q) (ok .stands) (plan-reads lim say (terminal s) q (ok .records) (ok .stands) may, plan-for-base (terminal s) q) (λ l. omega arith) (may .accepted) in (
+        ap (λ (a : Applied). a .outcome .number) e,
+        ap (λ (a : Applied). stateOf (a .state)) e
+            ∙ (λ i. record { edition = n i; table = terminals lim .next (s .table) q }),
+      )
 
   next-sound : (h : Held) (q : List Asked) → SoundHeld lim h → SoundHeld lim (terminals lim .next h q)
   next-sound h q ok =
@@ -98,13 +105,23 @@ module _ (lim : Limits) where
       (λ i. terminal (record { edition = e i; table = t i }))
 
   -- deliveries in turn, to the state and to the terminal
-  in-turn : (s : State Held) (bs : List (List ℕ)) → runs (λ (t : Terminal) (b : List ℕ). apply lim t b .state) (terminal s) bs ≡ terminal (runs (terminals lim .after) s bs)
-  in-turn s bs = sym (runs-seen (λ (x : State Held). terminal x) (terminals lim .after) (λ (t : Terminal) (b : List ℕ). apply lim t b .state) (λ x b. refl) s bs)
+  in-turn : (s : State Held) (bs : List (List ℕ))
+      → runs (λ (t : Terminal) (b : List ℕ). apply lim t b .state) (terminal s) bs
+      ≡ terminal (runs (terminals lim .after) s bs)
+  in-turn s bs =
+      sym (runs-seen (λ (x : State Held). terminal x) (terminals lim .after)
+      (λ (t : Terminal) (b : List ℕ). apply lim t b .state) (λ x b. refl) s bs)
 
   pub lower-terminal-is-behind : LowerTerminalIsBehind lim
   lower-terminal-is-behind say c ok asked g h l =
       let j : ℕ = terminalIn lim c asked g .edition in
       let k : ℕ = terminalIn lim c asked h .edition in
-      in-turn (world (terminals lim) (planner lim c asked) g .state) (map (planFile lim c asked) (places (suc j) (k - j)))
-      ∙ ap (λ (f : ℕ → List ℕ). terminal (runs (terminals lim .after) (world (terminals lim) (planner lim c asked) g .state) (map f (places (suc j) (k - j))))) (λ x i. file-at c asked i x)
-      ∙ ap terminal (lower-is-behind (terminals lim) (terminals-are-lawful say) (planner lim c asked) (start-sound c asked ok) g h l)
+      in-turn (world (terminals lim) (planner lim c asked) g .state)
+      (map (planFile lim c asked) (places (suc j) (k - j)))
+      ∙ ap (λ (f : ℕ → List ℕ). terminal
+      (runs (terminals lim .after) (world (terminals lim) (planner lim c asked) g .state)
+      (map f (places (suc j) (k - j)))))
+      (λ x i. file-at c asked i x)
+      ∙ ap terminal
+      (lower-is-behind (terminals lim) (terminals-are-lawful say) (planner lim c asked)
+      (start-sound c asked ok) g h l)

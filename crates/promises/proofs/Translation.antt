@@ -1,4 +1,5 @@
--- Translation.
+-- Translation: 0 is answered by the first region that covers the address, and in a sound set no other covers it; two
+-- zones that come out at one byte hold overlapping regions there, and in a sound table such a region is the GIC.
 use Prim.Native.Nat.{ℕ, _+_, _-_, _≤_, _<_}
 use native.Mathlib.Decide.{decLt}
 use native.Mathlib.Omega.{arith}
@@ -66,12 +67,15 @@ module _ (t : List Zone) (id : ℕ) (side : Side) (a : ℕ) where
 
     comes-out : translation t id side a .phys .0 ≡ physIn a (coveringIn a xs)
     unfolding translation translatedAs xs
-    comes-out = ap (λ (b : Bool). cond b (physIn a (coveringIn a (setAt t (find id t) side))) 0) (eq-eqb _ 0 (sym number ∙ e))
+    comes-out =
+        ap (λ (b : Bool). cond b (physIn a (coveringIn a (setAt t (find id t) side))) 0) (eq-eqb _ 0 (sym number ∙ e))
 
   -- a region of the set that covers the address makes the answer 0
-  translates : ltb highestId id ≡ false → present id t ≡ true → any (coversGuest a) xs ≡ true → translation t id side a .number ≡ 0
+  translates : ltb highestId id ≡ false → present id t ≡ true → any (coversGuest a) xs ≡ true
+      → translation t id side a .number ≡ 0
   unfolding translationRules xs
-  translates low there some = number ∙ sym (quiet-answer (translationRules t id side a) 0 (low, (not-holds _ there, (not-holds _ some, tt))))
+  translates low there some =
+      number ∙ sym (quiet-answer (translationRules t id side a) 0 (low, (not-holds _ there, (not-holds _ some, tt))))
 
 pub stays-inside : StaysInside
 unfolding xs coveringIn
@@ -97,7 +101,8 @@ unfolding sideOf
 none-held Cpu = refl
 none-held Iommu = refl
 
-pub set-there : (t : List Zone) (id : ℕ) (side : Side) (i : ℕ) → i < length (setAt t (find id t) side) → present id t ≡ true
+pub set-there : (t : List Zone) (id : ℕ) (side : Side) (i : ℕ) → i < length (setAt t (find id t) side)
+    → present id t ≡ true
 unfolding setAt
 set-there t id side i h =
     true-of (present id t)
@@ -109,16 +114,21 @@ set-there t id side i h =
 in-held : (r : Region) (xs : List Region) → In r xs → heldIn r xs ≡ true
 in-held r xs (i, l, q) = any-make (regionEq r) xs noRegion i l (ap (regionEq r) q ∙ equal-refl r)
 
-held-by : (t : List Zone) (k : ℕ) (side : Side) (r : Region) → In r (setAt t k side) → In r (regionsOf (getD t k noZone))
+held-by : (t : List Zone) (k : ℕ) (side : Side) (r : Region) → In r (setAt t k side)
+    → In r (regionsOf (getD t k noZone))
 unfolding setAt sideOf
 held-by t k side r m = let (i, l, q) = held-at (regionsOf (getD t k noZone)) r (held-either (getD t k noZone) r (by side (in-held r (setAt t k side) m))) in (i, l, sym q)
   where
-    by : (s : Side) → heldIn r (setAt t k s) ≡ true → (heldIn r (getD t k noZone .cpu) ≡ true) ⊎ (heldIn r (getD t k noZone .iommu) ≡ true)
+    by : (s : Side) → heldIn r (setAt t k s) ≡ true
+        → (heldIn r (getD t k noZone .cpu) ≡ true) ⊎ (heldIn r (getD t k noZone .iommu) ≡ true)
     by Cpu h = inl h
     by Iommu h = inr h
 
 module _ (lim : Limits) where
-  pub one-covers : (c : Configuration) (t : List Zone) → SoundTable lim c t → (z : ℕ) (side : Side) (a i j : ℕ) → z < length t → i < length (setAt t z side) → j < length (setAt t z side) → coversGuest a (getD (setAt t z side) i noRegion) ≡ true → coversGuest a (getD (setAt t z side) j noRegion) ≡ true → i ≡ j
+  pub one-covers : (c : Configuration) (t : List Zone) → SoundTable lim c t → (z : ℕ) (side : Side) (a i j : ℕ)
+      → z < length t → i < length (setAt t z side) → j < length (setAt t z side)
+      → coversGuest a (getD (setAt t z side) i noRegion) ≡ true
+      → coversGuest a (getD (setAt t z side) j noRegion) ≡ true → i ≡ j
   unfolding soundSet
   one-covers c t ok z side a i j h li lj ci cj =
       elim (decLt i j) [
@@ -127,11 +137,19 @@ module _ (lim : Limits) where
             elim (decLt j i) [ yes m ↦ absurd (apart j i m li cj ci) | no m ↦ omega arith ]
       ]
     where
-      apart : (k m : ℕ) → k < m → m < length (setAt t z side) → coversGuest a (getD (setAt t z side) k noRegion) ≡ true → coversGuest a (getD (setAt t z side) m noRegion) ≡ true → ⊥
+      apart : (k m : ℕ) → k < m → m < length (setAt t z side) → coversGuest a (getD (setAt t z side) k noRegion) ≡ true
+          → coversGuest a (getD (setAt t z side) m noRegion) ≡ true → ⊥
       apart k m l u ck cm =
           let p = parts _ (set-sound lim c t ok z side h) in
           true≢false
-          (sym (overlap-shared _ _ _ _ .1 (a, (covers-parts a (getD (setAt t z side) k noRegion) ck, covers-parts a (getD (setAt t z side) m noRegion) cm)))
+          (sym
+          (overlap-shared _ _ _ _ .1 (
+            a,
+            (
+              covers-parts a (getD (setAt t z side) k noRegion) ck,
+              covers-parts a (getD (setAt t z side) m noRegion) cm,
+            ),
+          ))
           ∙ not-true _ (pairs-at guestApart (setAt t z side) noRegion (p .1 .1 .0) k m l u))
 
   pub only-one-covers : OnlyOneCovers lim
@@ -158,7 +176,9 @@ module _ (lim : Limits) where
       let (q, mq, cq, pq) = stays-inside t z other b x (eb, hb) in
       let py = zone-there t y one a ea in
       let pz = zone-there t z other b eb in
-      no-address-in-two-zones lim s t ok (find y t) (find z t) x (there lim s t ok y py) (there lim s t ok z pz) (other-place lim s t ok z y pz py ne) (r, held-by t (find y t) one r mr, pr) (q, held-by t (find z t) other q mq, pq)
+      no-address-in-two-zones lim s t ok (find y t) (find z t) x (there lim s t ok y py) (there lim s t ok z pz)
+      (other-place lim s t ok z y pz py ne) (r, held-by t (find y t) one r mr, pr)
+      (q, held-by t (find z t) other q mq, pq)
 
   pub one-to-one : OneToOne lim
   unfolding soundSet coveringIn physIn xs
@@ -175,11 +195,15 @@ module _ (lim : Limits) where
       let same : ra ≡ rb = overlap-same lim c (config-ok lim s t ok) ra rb (all-at (configured c) zs noRegion all-configured _ (within t id side a ea)) (all-at (configured c) zs noRegion all-configured _ (within t id side b eb)) (overlap-shared _ _ _ _ .1 (x, (lies-in a x ra ca pa, lies-in b x rb cb pb))) in
       equal-from a b ra rb ca cb same (pa ∙ sym pb)
     where
-      equal-from : (a b : ℕ) (r q : Region) → coversGuest a r ≡ true → coversGuest b q ≡ true → r ≡ q → physIn a r ≡ physIn b q → a ≡ b
+      equal-from : (a b : ℕ) (r q : Region) → coversGuest a r ≡ true → coversGuest b q ≡ true → r ≡ q
+          → physIn a r ≡ physIn b q → a ≡ b
       equal-from a b r q ca cb e h = let (la, ua) = covers-parts a r ca in let (lb, ub) = covers-parts b q cb in omega (arith, ap (λ (k : Region). k .v .0) e, ap (λ (k : Region). k .p .0) e)
 
   -- ---- upstream's properties
-  isolated : (s : StoredConfig) (t : List Zone) (ok : SoundUnder lim s t) (zid : ℕ) (side : Side) (set : RegionSet) (v : ℕ) → present zid t ≡ true → ((r : Region) → set r ≡ heldIn r (setAt t (find zid t) side)) → contains-vaddr set v → Isolated t zid side set v
+  isolated : (s : StoredConfig) (t : List Zone) (ok : SoundUnder lim s t) (zid : ℕ) (side : Side) (set : RegionSet)
+      (v : ℕ)
+      → present zid t ≡ true → ((r : Region) → set r ≡ heldIn r (setAt t (find zid t) side)) → contains-vaddr set v
+      → Isolated t zid side set v
   unfolding xs
   isolated s t ok zid side set v p same (r, m, k) =
       let (i, l, q) = held-at (setAt t (find zid t) side) r (sym (same r) ∙ m) in

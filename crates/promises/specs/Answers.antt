@@ -1,5 +1,6 @@
--- "The first number that applies", for every kind of answer: the document's tables, line by line in its order, each a number with its place and the condition
--- under which it is given. An answer is given exactly when its line's condition holds and no earlier line's does.
+-- "The first number that applies", for every kind of answer: the document's tables, line by line in its order, each a
+-- number with its place and the condition under which it is given. An answer is given exactly when its line's condition
+-- holds and no earlier line's does.
 use Prim.Native.Nat.{ℕ, _+_, _-_, _%_, _≤_, _<_}
 use mathlib.Core.Bool.{true, false}
 use mathlib.Core.List.{List, [], _∷_}
@@ -68,16 +69,21 @@ SomeIn xs P = (x : Region) × In x xs × P x
 abbrev pub SomeZone : List Zone → (ℕ → Zone → Type 0) → Type 0
 SomeZone t P = (z : ℕ) × (z < length t) × P z (getD t z noZone)
 
--- 14, for the zone at k: a CPU region against all CPU sets and the other zones' IOMMU sets; an IOMMU region against the other zones' two sets, unless either
--- region is the GIC
+-- 14, for the zone at k: a CPU region against all CPU sets and the other zones' IOMMU sets; an IOMMU region against the
+-- other zones' two sets, unless either region is the GIC
 abbrev pub ForbiddenFor : Configuration → ℕ → Side → Region → List Zone → Type 0
-ForbiddenFor c k Cpu r t = SomeZone t (λ z y. SomeIn (y .cpu) (MeetsPhys r)) ⊎ SomeZone t (λ z y. (z ≡ k → ⊥) × SomeIn (y .iommu) (MeetsPhys r))
-ForbiddenFor c k Iommu r t = SomeZone t (λ z y. (z ≡ k → ⊥) × SomeIn (regionsOf y) (λ x. (r ≡ gicOf c → ⊥) × ((x ≡ gicOf c → ⊥) × MeetsPhys r x)))
+ForbiddenFor c k Cpu r t =
+    SomeZone t (λ z y. SomeIn (y .cpu) (MeetsPhys r))
+    ⊎ SomeZone t (λ z y. (z ≡ k → ⊥) × SomeIn (y .iommu) (MeetsPhys r))
+ForbiddenFor c k Iommu r t =
+    SomeZone t
+    (λ z y. (z ≡ k → ⊥) × SomeIn (regionsOf y) (λ x. (r ≡ gicOf c → ⊥) × ((x ≡ gicOf c → ⊥) × MeetsPhys r x)))
 
 -- the numbers of each kind, in the document's order
 abbrev pub kindLines : Limits → Configuration → List Zone → ℕ → Kind → List (Line ℕ)
 kindLines l c t id AddZone = 5 given HasZone id t ∷ 7 given (l .zones ≤ length t) ∷ []
-kindLines l c t id RemoveZone = 6 given (HasZone id t → ⊥) ∷ 8 given ((setAt t (find id t) Cpu ≡ []) × (setAt t (find id t) Iommu ≡ []) → ⊥) ∷ []
+kindLines l c t id RemoveZone =
+    6 given (HasZone id t → ⊥) ∷ 8 given ((setAt t (find id t) Cpu ≡ []) × (setAt t (find id t) Iommu ≡ []) → ⊥) ∷ []
 kindLines l c t id (Insert s r) =
     6 given (HasZone id t → ⊥)
     ∷ 9 given (IsWellFormed (pageOf l s) r → ⊥)
@@ -94,7 +100,9 @@ kindLines l c t id NoRequest = []
 
 -- 3 and 4 come first for all; 0 where no number applies
 abbrev pub RequestSays : Limits → Configuration → List Zone → Request → ℕ → Type 0
-RequestSays l c t q = FirstOf (3 given (q .kind ≡ NoRequest) ∷ 4 given (highestId < q .zone) ∷ kindLines l c t (q .zone) (q .kind)) (λ n. 0 ≡ n)
+RequestSays l c t q =
+    FirstOf (3 given (q .kind ≡ NoRequest) ∷ 4 given (highestId < q .zone) ∷ kindLines l c t (q .zone) (q .kind))
+    (λ n. 0 ≡ n)
 
 -- the number of a request at a table that stands
 abbrev pub RefusalIsExact : Limits → Type 0
@@ -102,7 +110,9 @@ RefusalIsExact l = (c : Configuration) (t : List Zone) (q : Request) → Exactly
 
 -- from outside
 abbrev pub AnswerIsExact : Limits → Type 0
-AnswerIsExact l = (c : StoredConfig) (t : StoredTable) (q : Request) → Exactly (answer l c t q) (FirstOf (standingLines (λ n. n) l c t) (RequestSays l (configOf c) (tableOf t) q))
+AnswerIsExact l =
+    (c : StoredConfig) (t : StoredTable) (q : Request)
+    → Exactly (answer l c t q) (FirstOf (standingLines (λ n. n) l c t) (RequestSays l (configOf c) (tableOf t) q))
 
 -- ---- translation
 -- a number with physical address 0
@@ -111,15 +121,23 @@ nowhere n = record { number = n; phys = record { 0 = 0 } }
 
 -- 4, 6 and 18; then 0 with p + (address - v) of a region of that set that covers the address
 abbrev pub translationLines : List Zone → ℕ → Side → ℕ → List (Line Translated)
-translationLines t id s a = nowhere 4 given (highestId < id) ∷ nowhere 6 given (HasZone id t → ⊥) ∷ nowhere 18 given (SomeIn (setAt t (find id t) s) (λ r. CoversGuest r a) → ⊥) ∷ []
+translationLines t id s a =
+    nowhere 4 given (highestId < id) ∷ nowhere 6 given (HasZone id t → ⊥)
+    ∷ nowhere 18 given (SomeIn (setAt t (find id t) s) (λ r. CoversGuest r a) → ⊥) ∷ []
 
 -- the region that covers the address puts it there
 abbrev pub ComesOut : List Zone → ℕ → Side → ℕ → Translated → Type 0
-ComesOut t id s a o = (r : Region) × In r (setAt t (find id t) s) × CoversGuest r a × (record { number = 0; phys = record { 0 = r .p .0 + (a - r .v .0) } } ≡ o)
+ComesOut t id s a o =
+    (r : Region) × In r (setAt t (find id t) s) × CoversGuest r a
+    × (record { number = 0; phys = record { 0 = r .p .0 + (a - r .v .0) } } ≡ o)
 
 -- from outside
 abbrev pub TranslatedIsExact : Limits → Type 0
-TranslatedIsExact l = (c : StoredConfig) (t : StoredTable) (id : ℕ) (s : Side) (a : Guest) → Exactly (translated l c t id s a) (FirstOf (standingLines nowhere l c t) (FirstOf (translationLines (tableOf t) id s (a .0)) (ComesOut (tableOf t) id s (a .0))))
+TranslatedIsExact l =
+    (c : StoredConfig) (t : StoredTable) (id : ℕ) (s : Side) (a : Guest)
+    → Exactly (translated l c t id s a)
+    (FirstOf (standingLines nowhere l c t)
+    (FirstOf (translationLines (tableOf t) id s (a .0)) (ComesOut (tableOf t) id s (a .0))))
 
 -- ---- runs
 -- what stands past the end of the requests
@@ -133,21 +151,27 @@ numberOf l c t qs i = refusal l c (runs (next l c) t (take i qs)) (getD qs i noA
 -- all are accepted, and the place is their number; or request i is the first that is refused, and the place is i
 pub data Ends (l : Limits) (c : Configuration) (t : List Zone) (qs : List Request) : Outcome → Type 0 where
   allAccepted : ((j : ℕ) → j < length qs → numberOf l c t qs j ≡ 0) → Ends l c t qs (plain 0 (length qs))
-  twentySeven : (i : ℕ) → i < length qs → ((j : ℕ) → j < i → numberOf l c t qs j ≡ 0) → (numberOf l c t qs i ≡ 0 → ⊥) → Ends l c t qs (record { number = 27; place = i; inner = numberOf l c t qs i })
+  twentySeven : (i : ℕ) → i < length qs → ((j : ℕ) → j < i → numberOf l c t qs j ≡ 0) → (numberOf l c t qs i ≡ 0 → ⊥)
+      → Ends l c t qs (record { number = 27; place = i; inner = numberOf l c t qs i })
 
 -- from outside
 abbrev pub RunAnswerIsExact : Limits → Type 0
-RunAnswerIsExact l = (c : StoredConfig) (t : StoredTable) (qs : List Request) → Exactly (runAnswer l c t qs) (FirstOf (standingLines (λ n. plain n 0) l c t) (Ends l (configOf c) (tableOf t) qs))
+RunAnswerIsExact l =
+    (c : StoredConfig) (t : StoredTable) (qs : List Request)
+    → Exactly (runAnswer l c t qs) (FirstOf (standingLines (λ n. plain n 0) l c t) (Ends l (configOf c) (tableOf t) qs))
 
 -- ---- plans
--- what reading the bytes says: 20 or 21 at the offset of a field; 22 at the first byte after section 4; or a plan, of which Then speaks
+-- what reading the bytes says: 20 or 21 at the offset of a field; 22 at the first byte after section 4; or a plan, of
+-- which Then speaks
 pub data Reading (l : Limits) (b : List ℕ) (Then : Plan → Outcome → Type 0) : Outcome → Type 0 where
   twenty : (at : ℕ) → at ≤ length b → planFormat l .read b ≡ bad 20 (drop at b) → Reading l b Then (plain 20 at)
   twentyOne : (at : ℕ) → at ≤ length b → planFormat l .read b ≡ bad 21 (drop at b) → Reading l b Then (plain 21 at)
-  twentyTwo : (p : Plan) (at : ℕ) → at < length b → planFormat l .read b ≡ got p (drop at b) → Reading l b Then (plain 22 at)
+  twentyTwo : (p : Plan) (at : ℕ) → at < length b → planFormat l .read b ≡ got p (drop at b)
+      → Reading l b Then (plain 22 at)
   reads : (p : Plan) (o : Outcome) → planFormat l .read b ≡ got p [] → Then p o → Reading l b Then o
 
--- 23 to 26 of a plan at a terminal: its regions or its GIC position differ from the terminal's, its edition does, there is no next edition, its zones differ
+-- 23 to 26 of a plan at a terminal: its regions or its GIC position differ from the terminal's, its edition does, there
+-- is no next edition, its zones differ
 abbrev pub baseLines : Terminal → Plan → List (Line Outcome)
 baseLines s p =
     plain 23 0 given ((configOf (s .config) .regions ≡ p .regions) × (configOf (s .config) .gic ≡ p .marks .gic) → ⊥)
@@ -162,11 +186,17 @@ AtTerminal l s p = FirstOf (baseLines s p) (Ends l (configOf (s .config)) (table
 
 -- at a terminal: 1 and 2 of its own state, before any byte is read
 abbrev pub ApplyIsExact : Limits → Type 0
-ApplyIsExact l = (s : Terminal) (b : List ℕ) → Exactly (apply l s b .outcome) (FirstOf (standingLines (λ n. plain n 0) l (s .config) (s .table)) (Reading l b (AtTerminal l s)))
+ApplyIsExact l =
+    (s : Terminal) (b : List ℕ)
+    → Exactly (apply l s b .outcome)
+    (FirstOf (standingLines (λ n. plain n 0) l (s .config) (s .table)) (Reading l b (AtTerminal l s)))
 
 -- a plan alone: 1 and 2 of its own base, 25, and 27 or 0 by its own configuration and zones
 abbrev pub Alone : Limits → Plan → Outcome → Type 0
-Alone l p = FirstOf (standingLines (λ n. plain n 0) l (baseOf l p .config) (baseOf l p .table)) (FirstOf (plain 25 0 given (p .marks .edition ≡ lastEdition) ∷ []) (Ends l (record { regions = p .regions; gic = p .marks .gic }) (p .zones) (requestsOf p)))
+Alone l p =
+    FirstOf (standingLines (λ n. plain n 0) l (baseOf l p .config) (baseOf l p .table))
+    (FirstOf (plain 25 0 given (p .marks .edition ≡ lastEdition) ∷ [])
+    (Ends l (record { regions = p .regions; gic = p .marks .gic }) (p .zones) (requestsOf p)))
 
 -- alone: 20, 21, 22 come first
 abbrev pub AloneIsExact : Limits → Type 0
@@ -174,7 +204,9 @@ AloneIsExact l = (b : List ℕ) → Exactly (answerAlone l b) (Reading l b (Alon
 
 -- so the program never answers 23, 24 or 26
 abbrev pub NeverAlone : Limits → Type 0
-NeverAlone l = (b : List ℕ) → (answerAlone l b .number ≡ 23 → ⊥) × (answerAlone l b .number ≡ 24 → ⊥) × (answerAlone l b .number ≡ 26 → ⊥)
+NeverAlone l =
+    (b : List ℕ)
+    → (answerAlone l b .number ≡ 23 → ⊥) × (answerAlone l b .number ≡ 24 → ⊥) × (answerAlone l b .number ≡ 26 → ⊥)
 
 -- ---- where neither 1 nor 2 applies, the outside forms are the inner ones
 pub record OutsideIsInside (l : Limits) (c : StoredConfig) (t : StoredTable) : Type 0 where
@@ -197,6 +229,9 @@ pub data Finds (l : Limits) (s : StoredConfig) : ℕ → ℕ → ℕ → Type 0 
   c5 : (i : ℕ) → Means l s (OutOfReach i) → Finds l s 5 i 0
   c6 : (i k : ℕ) → Means l s (Overlap i k) → Finds l s 6 i k
 
--- number, place and earlier place are told exactly when that is found; a stored configuration has a record for each region that there is room for
+-- number, place and earlier place are told exactly when that is found; a stored
+-- configuration has a record for each region that there is room for
 abbrev pub CheckNumbersAreExact : Limits → Type 0
-CheckNumbersAreExact l = (s : StoredConfig) → length (s .records) ≡ l .regions → (n i k : ℕ) → ((checkNumber (check l s) ≡ n) × (checkPlace (check l s) ≡ i) × (checkEarlier (check l s) ≡ k)) ↔ Finds l s n i k
+CheckNumbersAreExact l =
+    (s : StoredConfig) → length (s .records) ≡ l .regions → (n i k : ℕ)
+    → ((checkNumber (check l s) ≡ n) × (checkPlace (check l s) ≡ i) × (checkEarlier (check l s) ≡ k)) ↔ Finds l s n i k

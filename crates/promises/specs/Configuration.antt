@@ -46,12 +46,16 @@ abbrev pub Means : Limits → StoredConfig → Checked → Type 0
 Means l s Sound = Opening l s × ((i : ℕ) → i < s .count → Fit l s i)
 Means l s BadCount = (s .count ≡ 0) ⊎ (l .regions < s .count)
 Means l s BadGic = RightCount l s × (s .count ≤ s .gic)
-Means l s (NotZero k) = RightCount l s × (s .gic < s .count) × (s .count ≤ k) × (k < l .regions) × (at s k ≡ noRegion → ⊥) × ZeroUpTo s k
+Means l s (NotZero k) =
+    RightCount l s × (s .gic < s .count) × (s .count ≤ k) × (k < l .regions) × (at s k ≡ noRegion → ⊥) × ZeroUpTo s k
 Means l s (Malformed i) = Reached l s i × (wellFormed (l .page) (at s i) ≡ false)
 Means l s (OutOfReach i) = Reached l s i × (wellFormed (l .page) (at s i) ≡ true) × (inReach l (at s i) ≡ false)
-Means l s (Overlap i k) = Reached l s i × (wellFormed (l .page) (at s i) ≡ true) × (inReach l (at s i) ≡ true) × (k < i) × (physOverlap (at s i) (at s k) ≡ true) × ((j : ℕ) → j < k → physOverlap (at s i) (at s j) ≡ false)
+Means l s (Overlap i k) =
+    Reached l s i × (wellFormed (l .page) (at s i) ≡ true) × (inReach l (at s i) ≡ true) × (k < i)
+    × (physOverlap (at s i) (at s k) ≡ true) × ((j : ℕ) → j < k → physOverlap (at s i) (at s j) ≡ false)
 
--- the check gives an answer exactly when it is so; a stored configuration has a record for each region that there is room for
+-- the check gives an answer exactly when it is so; a stored
+-- configuration has a record for each region that there is room for
 abbrev pub CheckIsExact : Limits → Type 0
 CheckIsExact l = (s : StoredConfig) → length (s .records) ≡ l .regions → (f : Checked) → (check l s ≡ f) ↔ Means l s f
 
@@ -61,11 +65,16 @@ Passed l s = (length (s .records) ≡ l .regions) × (check l s ≡ Sound)
 
 -- all its regions are valid
 abbrev pub AllRegionsValid : Limits → Type 0
-AllRegionsValid l = (s : StoredConfig) → Passed l s → (i : ℕ) → i < length (configOf s .regions) → (wellFormed (l .page) (getD (configOf s .regions) i noRegion) ≡ true) × (inReach l (getD (configOf s .regions) i noRegion) ≡ true)
+AllRegionsValid l =
+    (s : StoredConfig) → Passed l s → (i : ℕ) → i < length (configOf s .regions)
+    → (wellFormed (l .page) (getD (configOf s .regions) i noRegion) ≡ true)
+    × (inReach l (getD (configOf s .regions) i noRegion) ≡ true)
 
 -- no two of its positions overlap physically
 abbrev pub AllRegionsDisjoint : Limits → Type 0
-AllRegionsDisjoint l = (s : StoredConfig) → Passed l s → (i j : ℕ) → i < length (configOf s .regions) → j < length (configOf s .regions) → (i ≡ j → ⊥) → physOverlap (getD (configOf s .regions) i noRegion) (getD (configOf s .regions) j noRegion) ≡ false
+AllRegionsDisjoint l =
+    (s : StoredConfig) → Passed l s → (i j : ℕ) → i < length (configOf s .regions) → j < length (configOf s .regions)
+    → (i ≡ j → ⊥) → physOverlap (getD (configOf s .regions) i noRegion) (getD (configOf s .regions) j noRegion) ≡ false
 
 -- the GIC is one of them
 abbrev pub GicRegionInAllRegions : Limits → Type 0

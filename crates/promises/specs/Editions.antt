@@ -1,5 +1,6 @@
--- Demand 3: a planner and a terminal start alike. Plans are lost, repeated, reordered and mixed with noise, and the terminal restarts at editions that it once
--- held. All the same it is at some edition k with exactly the planner's table of k.
+-- Demand 3: a planner and a terminal start alike. Plans are lost, repeated, reordered and mixed with noise, and the
+-- terminal restarts at editions that it once held. All the same it is at some edition k with exactly the planner's
+-- table of k.
 use Prim.Native.Nat.{ℕ, zero, suc, _-_, _≤_, _<_}
 use mathlib.Core.List.{List, [], _∷_, map}
 use mathlib.Core.Path.{_≡_}
@@ -41,9 +42,11 @@ pub record Lawful (m : Machine) : Type 0 where
   pub tells : (s t : State (m .Table)) (b : m .Bytes) → m .PlanFor s b → m .PlanFor t b → s .edition ≡ t .edition
   -- the plan for requests that a sound state accepts is accepted, and leads where the rules lead, one edition higher
   pub leads : (s : State (m .Table)) (q : m .Requests) → m .Sound (s .table) → m .Accepts s q
-      → (m .number s (m .encode s q) ≡ 0) × (m .after s (m .encode s q) ≡ record { edition = suc (s .edition); table = m .next (s .table) q })
+      → (m .number s (m .encode s q) ≡ 0)
+      × (m .after s (m .encode s q) ≡ record { edition = suc (s .edition); table = m .next (s .table) q })
   -- and that table is sound
-  pub keeps : (s : State (m .Table)) (q : m .Requests) → m .Sound (s .table) → m .Accepts s q → m .Sound (m .next (s .table) q)
+  pub keeps : (s : State (m .Table)) (q : m .Requests) → m .Sound (s .table) → m .Accepts s q
+      → m .Sound (m .next (s .table) q)
 
 -- ---- what happens
 pub data Event (Bytes : Type 0) : Type 0 where
@@ -101,8 +104,8 @@ module _ (m : Machine) where
     happens w (noise b) = taken w b
     happens w (restart i) = record { made = w .made; state = getD (w .held) i (at 0); held = w .held }
 
-    -- a plan is made where the rules accept its requests; any plan made so far may come, at any time and any number of times; noise is what is no plan for the
-    -- terminal's base at that moment
+    -- a plan is made where the rules accept its requests; any plan made so far may come, at any time and any number of
+    -- times; noise is what is no plan for the terminal's base at that moment
     abbrev pub Legal : World → Event (m .Bytes) → Type 0
     Legal w makes = m .Accepts (at (w .made)) (p .asked (suc (w .made)))
     Legal w (plan i) = (1 ≤ i) × (i ≤ w .made)
@@ -127,7 +130,8 @@ module _ (m : Machine) where
       -- it is not ahead, and has exactly the planner's table of k
       pub behind : k ≤ made
       pub same : s ≡ at k
-      -- plan k + 1 is accepted and brings exactly k + 1: this shuts out a machine that refuses all, and one that stands still
+      -- plan k + 1 is accepted and brings exactly k + 1: this shuts out a
+      -- machine that refuses all, and one that stands still
       pub onward : k < made → (m .number s (planOf (suc k)) ≡ 0) × (m .after s (planOf (suc k)) ≡ at (suc k))
       -- every other plan is refused, and so is all noise: these shut out a machine that accepts all
       pub others : (i : ℕ) → 1 ≤ i → i ≤ made → (i ≡ suc k → ⊥) → Refuses s (planOf i)
@@ -140,11 +144,14 @@ module _ (m : Machine) where
     -- ---- in plain words
     -- a terminal that is at the planner's edition k has the planner's table of k
     abbrev pub PlannersTable : Type 0
-    PlannersTable = m .Sound (p .start) → (h : History) → (k : ℕ) → world h .state .edition ≡ k → world h .state .table ≡ tableAt k
+    PlannersTable =
+        m .Sound (p .start) → (h : History) → (k : ℕ) → world h .state .edition ≡ k → world h .state .table ≡ tableAt k
 
     -- two terminals of one planner, each with its own history: equal editions, equal tables
     abbrev pub EqualEditionsEqualTables : Type 0
-    EqualEditionsEqualTables = m .Sound (p .start) → (g h : History) → world g .state .edition ≡ world h .state .edition → world g .state .table ≡ world h .state .table
+    EqualEditionsEqualTables =
+        m .Sound (p .start) → (g h : History) → world g .state .edition ≡ world h .state .edition
+        → world g .state .table ≡ world h .state .table
 
     -- plans j + 1 to k, in turn
     abbrev pub missing : ℕ → ℕ → List (m .Bytes)
@@ -152,8 +159,16 @@ module _ (m : Machine) where
 
     -- a terminal is never ahead of the planner, and the plans that it has missed, in turn, bring it level
     abbrev pub NeverAhead : Type 0
-    NeverAhead = m .Sound (p .start) → (h : History) → (world h .state .edition ≤ world h .made) × (runs (m .after) (world h .state) (missing (world h .state .edition) (world h .made)) ≡ at (world h .made))
+    NeverAhead =
+        m .Sound (p .start) → (h : History)
+        → (world h .state .edition ≤ world h .made)
+        × (runs (m .after) (world h .state) (missing (world h .state .edition) (world h .made))
+        ≡ at (world h .made))
 
-    -- of two terminals the one at the lower edition is behind: the plans between the two editions, in turn, bring it to the other's state
+    -- of two terminals the one at the lower edition is behind: the plans
+    -- between the two editions, in turn, bring it to the other's state
     abbrev pub LowerIsBehind : Type 0
-    LowerIsBehind = m .Sound (p .start) → (g h : History) → world g .state .edition < world h .state .edition → runs (m .after) (world g .state) (missing (world g .state .edition) (world h .state .edition)) ≡ world h .state
+    LowerIsBehind =
+        m .Sound (p .start) → (g h : History) → world g .state .edition < world h .state .edition
+        → runs (m .after) (world g .state) (missing (world g .state .edition) (world h .state .edition))
+        ≡ world h .state

@@ -1,4 +1,5 @@
--- Families of terminals: each has its own limits, and every promise above holds for each. Here is what a terminal does with a plan that was made for other limits.
+-- Families of terminals: each has its own limits, and every promise above holds for each. Here is what a terminal does
+-- with a plan that was made for other limits.
 use Prim.Native.Nat.{ℕ, _+_, _<_}
 use mathlib.Core.Bool.{false}
 use mathlib.Core.List.{List, [], _∷_, _++_}
@@ -34,7 +35,8 @@ pub record Meets (own wide : Limits) (s : Terminal) (b : List ℕ) (p : Plan) : 
   pub bytes : Bytes b
   pub reads : readPlan wide b ≡ got p []
 
--- where the counts of a plan stand, and which of them are above a family's limits, in file order: the regions, the zones, the two sets of each zone, the requests
+-- where the counts of a plan stand, and which of them are above a family's limits, in file order: the regions, the
+-- zones, the two sets of each zone, the requests
 abbrev pub zonesAt : Plan → ℕ
 zonesAt p = marksSize + regionsSize (length (p .regions))
 
@@ -51,16 +53,21 @@ unfoldable pub countsAbove : Limits → Plan → List (Rule ℕ)
 countsAbove l p =
     marksSize when ltb (l .regions) (length (p .regions))
     ∷ zonesAt p when ltb (l .zones) (length (p .zones))
-    ∷ (along zoneSize (setsAbove l) (zonesAt p + shortSize) (p .zones) ++ requestsAt p when ltb (l .requests) (length (p .asked)) ∷ [])
+    ∷ (along zoneSize (setsAbove l) (zonesAt p + shortSize) (p .zones)
+    ++ requestsAt p when ltb (l .requests) (length (p .asked))
+    ∷ [])
 
 -- the first count above its own limits is refused, where it stands
 abbrev pub AboveIsRefused : Limits → Limits → Type 0
 AboveIsRefused own wide = (s : Terminal) (b : List ℕ) (p : Plan) → Meets own wide s b p
-    → (k : ℕ) → Applies (countsAbove own p) (0 when false) k → Refuses21 own s b (getD (countsAbove own p) k (0 when false) .0)
+    → (k : ℕ) → Applies (countsAbove own p) (0 when false) k
+    → Refuses21 own s b (getD (countsAbove own p) k (0 when false) .0)
 
 -- with no count above its own limits it reads the plan alike
 abbrev pub WithinIsRead : Limits → Limits → Type 0
-WithinIsRead own wide = (s : Terminal) (b : List ℕ) (p : Plan) → Meets own wide s b p → Silent (countsAbove own p) (0 when false) → readPlan own b ≡ got p []
+WithinIsRead own wide =
+    (s : Terminal) (b : List ℕ) (p : Plan) → Meets own wide s b p → Silent (countsAbove own p) (0 when false)
+    → readPlan own b ≡ got p []
 
 -- ---- there are such: a sound terminal on the document's limits, and limits that allow one more of each
 abbrev pub oneMore : Limits → Limits
@@ -78,7 +85,8 @@ oneMore l = record {
 abbrev pub MetWith : (Plan → Type 0) → Type 0
 MetWith P = (b : List ℕ) × (p : Plan) × Meets limits (oneMore limits) deskTerminal b p × P p
 
--- each kind of count is the first above the limits in some plan: the regions (0), the zones (1); with one zone, its CPU set (2), its IOMMU set (3), the requests (4)
+-- each kind of count is the first above the limits in some plan: the regions (0), the zones (1); with one zone, its CPU
+-- set (2), its IOMMU set (3), the requests (4)
 abbrev pub AboveIsMet : Type 0
 AboveIsMet = (k : ℕ) → k < 5 → MetWith (λ p. Applies (countsAbove limits p) (0 when false) k)
 
@@ -90,7 +98,8 @@ WithinIsMet = MetWith (λ p. Silent (countsAbove limits p) (0 when false))
 abbrev pub widePages : Limits
 widePages = record { page = limits .page; iommuPage = 0x10000; guestReach = limits .guestReach; physReach = limits .physReach; regions = limits .regions; zones = limits .zones; inSet = limits .inSet; requests = limits .requests }
 
--- a region of one page of 4 KiB, configured beside the GIC, and asked for on both sides in zone 5; and the desk's region A, which is a multiple of either page
+-- a region of one page of 4 KiB, configured beside the GIC, and asked for on both sides in zone 5; and the desk's
+-- region A, which is a multiple of either page
 abbrev pub narrow : Region
 narrow = regionOf 0x40000000 0x90001000 0x1000
 
@@ -100,7 +109,8 @@ narrowConfig = record { count = 3; gic = 2; records = room (limits .regions) noR
 abbrev pub askedBoth : List Request
 askedBoth = insert Cpu narrow 5 ∷ insert Iommu narrow 5 ∷ insert Iommu A 5 ∷ []
 
--- the configuration is sound for both families; the document's accepts the narrow region for devices and then has no room for A there; the other answers 9, and accepts A
+-- the configuration is sound for both families; the document's accepts the narrow region for devices and then has no
+-- room for A there; the other answers 9, and accepts A
 abbrev pub WidePagesShown : Type 0
 WidePagesShown =
     (check limits narrowConfig ≡ Sound)

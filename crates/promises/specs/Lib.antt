@@ -1,4 +1,5 @@
--- The promises: what follows from the rules alone. Each is a statement here, and its proof stands in proofs/ under the same file name.
+-- The promises: what follows from the rules alone. Each is a statement here,
+-- and its proof stands in proofs/ under the same file name.
 pub mod Addresses
 pub mod Configuration
 pub mod Tables

@@ -1,5 +1,5 @@
--- A past that there is, so that demand 3 speaks of something: two plans are made; the first comes twice, then noise, the second, the first once more where its
--- table fits again, and a restart.
+-- A past that there is, so that demand 3 speaks of something: two plans are made; the first comes twice, then noise,
+-- the second, the first once more where its table fits again, and a restart.
 use Prim.Native.Nat.{ℕ, zero, suc}
 use mathlib.Core.List.{List, [], _∷_}
 use mathlib.Core.Path.{_≡_}
@@ -32,10 +32,15 @@ events = makes ∷ plan 1 ∷ plan 1 ∷ makes ∷ noise [] ∷ plan 2 ∷ plan 
 unfoldable pub numbers : World (terminals limits) → List (Event (List ℕ)) → List ℕ
 numbers w [] = []
 numbers w (makes ∷ es) = numbers (happens (terminals limits) deskPlanner w makes) es
-numbers w (plan i ∷ es) = terminals limits .number (w .state) (planOf (terminals limits) deskPlanner i) ∷ numbers (happens (terminals limits) deskPlanner w (plan i)) es
-numbers w (noise b ∷ es) = terminals limits .number (w .state) b ∷ numbers (happens (terminals limits) deskPlanner w (noise b)) es
+numbers w (plan i ∷ es) =
+    terminals limits .number (w .state) (planOf (terminals limits) deskPlanner i)
+    ∷ numbers (happens (terminals limits) deskPlanner w (plan i)) es
+numbers w (noise b ∷ es) =
+    terminals limits .number (w .state) b ∷ numbers (happens (terminals limits) deskPlanner w (noise b)) es
 numbers w (restart i ∷ es) = numbers (happens (terminals limits) deskPlanner w (restart i)) es
 
 -- all of it is legal; each plan is accepted once; and the restart leaves the terminal at edition 1 with zone 5
 abbrev pub PastShown : Type 0
-PastShown = AllLegal (terminals limits) deskPlanner start events × (numbers start events ≡ 0 ∷ 24 ∷ 20 ∷ 0 ∷ 24 ∷ []) × (terminal (runs (happens (terminals limits) deskPlanner) start events .state) ≡ with5 1)
+PastShown =
+    AllLegal (terminals limits) deskPlanner start events × (numbers start events ≡ 0 ∷ 24 ∷ 20 ∷ 0 ∷ 24 ∷ [])
+    × (terminal (runs (happens (terminals limits) deskPlanner) start events .state) ≡ with5 1)

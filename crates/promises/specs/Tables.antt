@@ -46,20 +46,25 @@ pub record Conditions (l : Limits) (c : StoredConfig) (t : StoredTable) : Type 0
   pub idsDiffer : (y z : ℕ) → y < t .count → z < t .count → (y ≡ z → ⊥) → zoneAt t y .id ≡ zoneAt t z .id → ⊥
   -- every unused record or zone is zero
   pub restZero : (z : ℕ) (s : Side) (i : ℕ) → z < t .count → countAt t z s ≤ i → recordAt t z s i ≡ noRegion
-  pub zonesZero : (z : ℕ) → t .count ≤ z → (zoneAt t z .id ≡ 0) × ((s : Side) → (countAt t z s ≡ 0) × ((i : ℕ) → recordAt t z s i ≡ noRegion))
+  pub zonesZero : (z : ℕ) → t .count ≤ z
+      → (zoneAt t z .id ≡ 0) × ((s : Side) → (countAt t z s ≡ 0) × ((i : ℕ) → recordAt t z s i ≡ noRegion))
   -- every region is configured
   pub configured : (z : ℕ) (s : Side) (i : ℕ) → Held t z s i → (k : ℕ) × (k < c .count) × (at c k ≡ recordAt t z s i)
   -- no set has two regions that overlap in guest addresses
-  pub guestApart : (z : ℕ) (s : Side) (i j : ℕ) → Held t z s i → Held t z s j → (i ≡ j → ⊥) → guestOverlap (recordAt t z s i) (recordAt t z s j) ≡ false
+  pub guestApart : (z : ℕ) (s : Side) (i j : ℕ) → Held t z s i → Held t z s j → (i ≡ j → ⊥)
+      → guestOverlap (recordAt t z s i) (recordAt t z s j) ≡ false
   -- no CPU region overlaps the GIC physically; every IOMMU region is well formed by the page of devices
   pub offGic : (z i : ℕ) → Held t z Cpu i → physOverlap (recordAt t z Cpu i) (at c (c .gic)) ≡ false
   pub formed : (z i : ℕ) → Held t z Iommu i → wellFormed (l .iommuPage) (recordAt t z Iommu i) ≡ true
   -- regions other than the GIC in two different zones never overlap physically
-  pub zonesApart : (y z : ℕ) (s u : Side) (i j : ℕ) → (y ≡ z → ⊥) → Held t y s i → Held t z u j → (recordAt t y s i ≡ at c (c .gic) → ⊥) → (recordAt t z u j ≡ at c (c .gic) → ⊥) → physOverlap (recordAt t y s i) (recordAt t z u j) ≡ false
+  pub zonesApart : (y z : ℕ) (s u : Side) (i j : ℕ) → (y ≡ z → ⊥) → Held t y s i → Held t z u j
+      → (recordAt t y s i ≡ at c (c .gic) → ⊥) → (recordAt t z u j ≡ at c (c .gic) → ⊥)
+      → physOverlap (recordAt t y s i) (recordAt t z u j) ≡ false
 
 -- the check says yes exactly then, under a configuration that its check finds sound
 abbrev pub TableCheckIsExact : Limits → Type 0
-TableCheckIsExact l = (c : StoredConfig) (t : StoredTable) → (checkTable l c t ≡ true) ↔ ((check l c ≡ Sound) × Conditions l c t)
+TableCheckIsExact l =
+    (c : StoredConfig) (t : StoredTable) → (checkTable l c t ≡ true) ↔ ((check l c ≡ Sound) × Conditions l c t)
 
 -- ---- sound tables
 -- the region stands in the set
@@ -85,34 +90,51 @@ pub record SoundUnder (l : Limits) (s : StoredConfig) (t : List Zone) : Type 0 w
 -- ---- isolation in bytes
 -- no address outside the GIC region is held by two zones
 abbrev pub NoAddressInTwoZones : Limits → Type 0
-NoAddressInTwoZones l = (s : StoredConfig) (t : List Zone) → SoundUnder l s t → (y z x : ℕ) → y < length t → z < length t → (y ≡ z → ⊥) → HeldBy t y x → HeldBy t z x → CoversPhys (gicOf (configOf s)) x
+NoAddressInTwoZones l =
+    (s : StoredConfig) (t : List Zone) → SoundUnder l s t → (y z x : ℕ) → y < length t → z < length t → (y ≡ z → ⊥)
+    → HeldBy t y x → HeldBy t z x → CoversPhys (gicOf (configOf s)) x
 
 -- no CPU region covers an address of the GIC
 abbrev pub NoCpuOnGic : Limits → Type 0
-NoCpuOnGic l = (s : StoredConfig) (t : List Zone) → SoundUnder l s t → (z x : ℕ) → z < length t → CpuReaches t z x → CoversPhys (gicOf (configOf s)) x → ⊥
+NoCpuOnGic l =
+    (s : StoredConfig) (t : List Zone) → SoundUnder l s t → (z x : ℕ) → z < length t → CpuReaches t z x
+    → CoversPhys (gicOf (configOf s)) x → ⊥
 
 -- ---- upstream's invariants
 -- inv_zone_ids: an id names one zone
 abbrev pub InvZoneIds : Limits → Type 0
-InvZoneIds l = (s : StoredConfig) (t : List Zone) → SoundUnder l s t → (y z : ℕ) → y < length t → z < length t → getD t y noZone .id ≡ getD t z noZone .id → y ≡ z
+InvZoneIds l =
+    (s : StoredConfig) (t : List Zone) → SoundUnder l s t → (y z : ℕ) → y < length t → z < length t
+    → getD t y noZone .id ≡ getD t z noZone .id → y ≡ z
 
 -- inv_zones_wf: every region of either set is well formed and in reach, and no two of one set overlap in guest addresses
 abbrev pub InvZonesWf : Limits → Type 0
 InvZonesWf l = (s : StoredConfig) (t : List Zone) → SoundUnder l s t → (z : ℕ) (side : Side) → z < length t
-    → ((r : Region) → In r (sideOf side (getD t z noZone)) → (wellFormed (pageOf l side) r ≡ true) × (inReach l r ≡ true))
-    × ((i j : ℕ) → i < length (sideOf side (getD t z noZone)) → j < length (sideOf side (getD t z noZone)) → (i ≡ j → ⊥) → guestOverlap (getD (sideOf side (getD t z noZone)) i noRegion) (getD (sideOf side (getD t z noZone)) j noRegion) ≡ false)
+    → ((r : Region) → In r (sideOf side (getD t z noZone))
+    → (wellFormed (pageOf l side) r ≡ true) × (inReach l r ≡ true))
+    × ((i j : ℕ) → i < length (sideOf side (getD t z noZone)) → j < length (sideOf side (getD t z noZone)) → (i ≡ j → ⊥)
+    → guestOverlap (getD (sideOf side (getD t z noZone)) i noRegion)
+    (getD (sideOf side (getD t z noZone)) j noRegion)
+    ≡ false)
 
 -- inv_regions_in_all_regions: every region of every zone is configured
 abbrev pub InvRegionsInAllRegions : Limits → Type 0
-InvRegionsInAllRegions l = (s : StoredConfig) (t : List Zone) → SoundUnder l s t → (z : ℕ) (r : Region) → z < length t → In r (regionsOf (getD t z noZone)) → In r (configOf s .regions)
+InvRegionsInAllRegions l =
+    (s : StoredConfig) (t : List Zone) → SoundUnder l s t → (z : ℕ) (r : Region) → z < length t
+    → In r (regionsOf (getD t z noZone)) → In r (configOf s .regions)
 
 -- inv_cpu_disjoint_from_gic: no CPU region overlaps the GIC physically
 abbrev pub InvCpuDisjointFromGic : Limits → Type 0
-InvCpuDisjointFromGic l = (s : StoredConfig) (t : List Zone) → SoundUnder l s t → (z : ℕ) (r : Region) → z < length t → In r (getD t z noZone .cpu) → physOverlap r (gicOf (configOf s)) ≡ false
+InvCpuDisjointFromGic l =
+    (s : StoredConfig) (t : List Zone) → SoundUnder l s t → (z : ℕ) (r : Region) → z < length t
+    → In r (getD t z noZone .cpu) → physOverlap r (gicOf (configOf s)) ≡ false
 
 -- inv_cross_zone_non_gic_disjoint: regions of two zones, neither of them the GIC, do not overlap physically
 abbrev pub InvCrossZoneNonGicDisjoint : Limits → Type 0
-InvCrossZoneNonGicDisjoint l = (s : StoredConfig) (t : List Zone) → SoundUnder l s t → (y z : ℕ) (a b : Region) → y < length t → z < length t → (y ≡ z → ⊥) → In a (regionsOf (getD t y noZone)) → In b (regionsOf (getD t z noZone)) → (a ≡ gicOf (configOf s) → ⊥) → (b ≡ gicOf (configOf s) → ⊥) → physOverlap a b ≡ false
+InvCrossZoneNonGicDisjoint l =
+    (s : StoredConfig) (t : List Zone) → SoundUnder l s t → (y z : ℕ) (a b : Region) → y < length t → z < length t
+    → (y ≡ z → ⊥) → In a (regionsOf (getD t y noZone)) → In b (regionsOf (getD t z noZone))
+    → (a ≡ gicOf (configOf s) → ⊥) → (b ≡ gicOf (configOf s) → ⊥) → physOverlap a b ≡ false
 
 -- initialize: the empty table is sound under every configuration
 abbrev pub EmptyIsSound : Limits → Type 0

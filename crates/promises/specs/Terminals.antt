@@ -87,19 +87,33 @@ module _ (l : Limits) (c : StoredConfig) (asked : ℕ → List Asked) where
   pub record Follows (made : ℕ) (s : Terminal) (k : ℕ) : Type 0 where
     pub behind : k ≤ made
     pub same : s ≡ planned l c asked k
-    pub onward : k < made → (apply l s (planFile l c asked (suc k)) .outcome .number ≡ 0) × (apply l s (planFile l c asked (suc k)) .state ≡ planned l c asked (suc k))
+    pub onward : k < made
+        → (apply l s (planFile l c asked (suc k)) .outcome .number ≡ 0)
+        × (apply l s (planFile l c asked (suc k)) .state ≡ planned l c asked (suc k))
     pub others : (i : ℕ) → 1 ≤ i → i ≤ made → (i ≡ suc k → ⊥) → TurnsAway l s (planFile l c asked i)
     pub stray : (b : List ℕ) → ((p : Plan) → PlanFor l s b p → ⊥) → TurnsAway l s b
 
--- whatever happened, the terminal is at some edition k with exactly the planner's table of k; plan k + 1 brings k + 1; all else is refused and changes nothing
+-- whatever happened, the terminal is at some edition k with exactly the planner's table of k; plan k + 1 brings k + 1;
+-- all else is refused and changes nothing
 abbrev pub TerminalsFollow : Limits → Type 0
-TerminalsFollow l = Sayable l → (c : StoredConfig) → Passed l c → (asked : ℕ → List Asked) (h : Past l c asked) → (k : ℕ) × Follows l c asked (madeIn l c asked h) (terminalIn l c asked h) k
+TerminalsFollow l =
+    Sayable l → (c : StoredConfig) → Passed l c → (asked : ℕ → List Asked) (h : Past l c asked)
+    → (k : ℕ) × Follows l c asked (madeIn l c asked h) (terminalIn l c asked h) k
 
 -- two terminals of one planner: equal editions, equal terminals
 abbrev pub EqualEditionsEqualTerminals : Limits → Type 0
-EqualEditionsEqualTerminals l = Sayable l → (c : StoredConfig) → Passed l c → (asked : ℕ → List Asked) (g h : Past l c asked) → terminalIn l c asked g .edition ≡ terminalIn l c asked h .edition → terminalIn l c asked g ≡ terminalIn l c asked h
+EqualEditionsEqualTerminals l =
+    Sayable l → (c : StoredConfig) → Passed l c → (asked : ℕ → List Asked) (g h : Past l c asked)
+    → terminalIn l c asked g .edition ≡ terminalIn l c asked h .edition
+    → terminalIn l c asked g ≡ terminalIn l c asked h
 
 -- the one at the lower edition is behind: the plans between the two editions, in turn, bring it to the other
 abbrev pub LowerTerminalIsBehind : Limits → Type 0
-LowerTerminalIsBehind l = Sayable l → (c : StoredConfig) → Passed l c → (asked : ℕ → List Asked) (g h : Past l c asked) → terminalIn l c asked g .edition < terminalIn l c asked h .edition
-    → runs (λ (s : Terminal) (b : List ℕ). apply l s b .state) (terminalIn l c asked g) (map (planFile l c asked) (places (suc (terminalIn l c asked g .edition)) (terminalIn l c asked h .edition - terminalIn l c asked g .edition))) ≡ terminalIn l c asked h
+LowerTerminalIsBehind l =
+    Sayable l → (c : StoredConfig) → Passed l c → (asked : ℕ → List Asked) (g h : Past l c asked)
+    → terminalIn l c asked g .edition < terminalIn l c asked h .edition
+    → runs (λ (s : Terminal) (b : List ℕ). apply l s b .state) (terminalIn l c asked g)
+    (map (planFile l c asked)
+    (places (suc (terminalIn l c asked g .edition))
+    (terminalIn l c asked h .edition - terminalIn l c asked g .edition)))
+    ≡ terminalIn l c asked h

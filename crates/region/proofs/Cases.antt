@@ -1,4 +1,5 @@
--- What each return of the functions on numbers answers.
+-- A difference in place of a sum that could wrap: start ≤ last - size says start + size ≤ last where size ≤ last, and
+-- two ranges that are not empty overlap where the later start lies less than the earlier one's size past it.
 use Prim.Native.Nat.{ℕ, _+_, _-_, _≤_, _<_, min, max}
 use native.Mathlib.Omega.{arith}
 use mathlib.Core.Bool.{false}

@@ -1,3 +1,5 @@
+-- Each return but the last is past the end, where a byte counts as 0; the
+-- index is added up only where it is known to lie within.
 use borrow.Author.Needs.{needs}
 use Rattle.fields.proofs.Numbers.{none-there, none-after}
 use Rattle.fields.proofs.byte_after.Statement.{statement}

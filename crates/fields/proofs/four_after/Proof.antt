@@ -1,3 +1,4 @@
+-- Four bytes one behind the other spell the number; a skip of at most 4 keeps their sums in range.
 use borrow.Author.Needs.{needs}
 use Rattle.fields.proofs.Numbers.{four-there}
 use Rattle.fields.proofs.four_after.Statement.{statement}

@@ -1,3 +1,4 @@
+-- The number of 4 bytes is that of the four bytes with none skipped.
 use borrow.Author.Needs.{needs}
 use Rattle.fields.proofs.Numbers.{at-start}
 use Rattle.fields.proofs.u32_at.Statement.{statement}

@@ -1,3 +1,5 @@
+-- The number of 8 bytes is that of the low four and 2^32 times that of
+-- the high four; each half is below 2^32, so nothing wraps.
 use borrow.Author.Needs.{needs}
 use Rattle.fields.proofs.Numbers.{eight-bytes}
 use Rattle.fields.proofs.u64_at.Statement.{statement}

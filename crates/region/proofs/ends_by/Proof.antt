@@ -1,3 +1,4 @@
+-- Two cases: the size alone is past the last address, or what is left of it bounds the start.
 use Rattle.region.proofs.Cases.{ends-past, ends-within}
 use Rattle.region.proofs.ends_by.Statement.{statement}
 use Rattle.region.proofs.ends_by.Tie as tie

@@ -1,3 +1,4 @@
+-- Each return is one test of the conjunction: guest end, then physical end.
 use borrow.Author.Needs.{needs}
 use Rattle.lists.proofs.Tests.{conjunction}
 use Rattle.rules.specs.Regions.{inReach}

@@ -1,3 +1,4 @@
+-- By which start comes first: an empty range overlaps nothing, and the distance of the starts tells the rest.
 use borrow.Author.Needs.{needs}
 use Rattle.region.proofs.Cases.{none-of-n, none-of-m, from-a, from-b}
 use Rattle.region.proofs.overlap.Statement.{statement}

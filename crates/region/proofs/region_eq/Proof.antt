@@ -1,3 +1,4 @@
+-- Each return is one test of the conjunction: guest start, physical start, size.
 use Rattle.lists.proofs.Tests.{conjunction}
 use Rattle.rules.specs.Regions.{regionEq}
 use Rattle.region.proofs.region_eq.Statement.{statement}

@@ -1,3 +1,4 @@
+-- Each return is one test of the conjunction: a size above 0, then three multiples of a page.
 use Rattle.lists.proofs.Tests.{conjunction}
 use Rattle.rules.specs.Regions.{wellFormed}
 use Rattle.region.proofs.well_formed.Statement.{statement}

@@ -1,4 +1,4 @@
--- What a walker finds in three steps is what the marks section reads: by how far the bytes go, and whether the count is 2.
+-- Three steps of a walker are what the marks section reads: by how far the bytes go, and whether the count is 2.
 use Prim.Native.Nat.{ℕ, _≤_, _<_}
 use native.Mathlib.Omega.{arith}
 use mathlib.Core.Bool.{true, false}
@@ -49,6 +49,11 @@ module _ (count gic edition : Found) where
         edition-named m e = rw (c, eq-eqb n 2 two, g, e)
 
 -- ---- three steps from the start
+-- to unfold this name is to unfold what a step and the reading of the marks are made of
+markParts : Unit {0}
+unfolding stepAt foundOf placeBehind judged orCut editionAnswer readHeaded readCount readAs readBoth then when
+markParts = tt
+
 by-size : {P : Type 0} (k n : ℕ) → (k ≤ n → P) → (n < k → P) → P
 by-size k n most less = ⊎-elim (λ h. most (leb-true k n h)) (λ h. less (leb-false k n h)) (holds-or-fails (leb k n))
 
@@ -70,30 +75,32 @@ two-alone n = ⊎-elim (λ h. equal (eqb-true n 2 h)) (λ h. other (eqb-false n 
 
 module _ (b : List ℕ) where
   abbrev pub walked : Edition
-  walked = judged (stepAt b 0 .found) (stepAt b (stepAt b 0 .at) .found) (stepAt b (stepAt b (stepAt b 0 .at) .at) .found)
+  walked =
+      judged (stepAt b 0 .found) (stepAt b (stepAt b 0 .at) .found) (stepAt b (stepAt b (stepAt b 0 .at) .at) .found)
 
   abbrev count : ℕ
   count = little (part 0 4 b)
 
   no-count : length b < 4 → walked ≡ editionOf b
-  unfolding stepAt foundOf placeBehind judged orCut editionAnswer readHeaded readCount then
+  unfolding markParts
   no-count l = rw (no-number b 0 l) (ap (Bad 20) (place b 0 (omega arith)))
 
   other-count : 4 ≤ length b → eqb count 2 ≡ false → walked ≡ editionOf b
-  unfolding stepAt foundOf placeBehind judged orCut editionAnswer readHeaded readCount then when
+  unfolding markParts
   other-count l f = rw (a-number b 0 l, two-alone count, f) (ap (Bad 21) (place b 0 (omega arith)))
 
   module _ (l : 4 ≤ length b) (t : eqb count 2 ≡ true) where
     no-gic : length b < 8 → walked ≡ editionOf b
-    unfolding stepAt foundOf placeBehind judged orCut editionAnswer readHeaded readCount readAs readBoth then when
+    unfolding markParts
     no-gic m = rw (a-number b 0 l, two-alone count, t, no-number b 4 m) (ap (Bad 20) (place b 4 l))
 
     no-edition : 8 ≤ length b → length b < 12 → walked ≡ editionOf b
-    unfolding stepAt foundOf placeBehind judged orCut editionAnswer readHeaded readCount readAs readBoth then when
-    no-edition m n = rw (a-number b 0 l, two-alone count, t, a-number b 4 m, no-number b 8 n) (ap (Bad 20) (place b 8 m))
+    unfolding markParts
+    no-edition m n =
+        rw (a-number b 0 l, two-alone count, t, a-number b 4 m, no-number b 8 n) (ap (Bad 20) (place b 8 m))
 
     named : 12 ≤ length b → walked ≡ editionOf b
-    unfolding stepAt foundOf placeBehind judged orCut editionAnswer readHeaded readCount readAs readBoth then when
+    unfolding markParts
     named n = rw (a-number b 0 l, two-alone count, t, a-number b 4 (omega arith), a-number b 8 n)
 
   two-marks : 4 ≤ length b → eqb count 2 ≡ true → walked ≡ editionOf b

@@ -1,4 +1,4 @@
--- A walker's step, by how many bytes are there.
+-- A walker's step is a number read at its place: there where four bytes are left, missing where not, also past the end.
 use Prim.Native.Nat.{ℕ, _+_, _-_, _≤_, _<_}
 use native.Mathlib.Omega.{arith}
 use mathlib.Core.List.{List}
@@ -23,7 +23,9 @@ module _ (s : List ℕ) (at : ℕ) where
 
   pub a-number : at + 4 ≤ length s → readNumber 4 (drop at s) ≡ got (little (part at 4 s)) (drop (at + 4) s)
   unfolding part
-  a-number l = number-there 4 (drop at s) (omega (arith, length-drop at s)) ∙ ap (got (little (take 4 (drop at s)))) (drop-drop 4 at s)
+  a-number l =
+      number-there 4 (drop at s) (omega (arith, length-drop at s))
+      ∙ ap (got (little (take 4 (drop at s)))) (drop-drop 4 at s)
 
   missing : length s < at + 4 → _≡_ {A = Step} (record { found = Missing; at = at }) (stepAt s at)
   unfolding stepAt foundOf placeBehind
@@ -32,9 +34,11 @@ module _ (s : List ℕ) (at : ℕ) where
   pub step-past : length s < at → _≡_ {A = Step} (record { found = Missing; at = at }) (stepAt s at)
   step-past l = missing (omega arith)
 
-  pub step-short : at ≤ length s → length s - at < 4 → _≡_ {A = Step} (record { found = Missing; at = at }) (stepAt s at)
+  pub step-short : at ≤ length s → length s - at < 4
+      → _≡_ {A = Step} (record { found = Missing; at = at }) (stepAt s at)
   step-short h l = missing (omega arith)
 
-  pub step-there : at ≤ length s → 4 ≤ length s - at → (n : ℕ) → n ≡ little (part at 4 s) → _≡_ {A = Step} (record { found = Number n; at = at + 4 }) (stepAt s at)
+  pub step-there : at ≤ length s → 4 ≤ length s - at → (n : ℕ) → n ≡ little (part at 4 s)
+      → _≡_ {A = Step} (record { found = Number n; at = at + 4 }) (stepAt s at)
   unfolding stepAt foundOf placeBehind
   step-there h l n e = ap (λ (m : ℕ). stepOf (got m (drop (at + 4) s))) e ∙ sym (ap stepOf (a-number (omega arith)))

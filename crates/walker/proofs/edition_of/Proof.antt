@@ -1,8 +1,9 @@
--- `walker::edition_of` meets its contract: a walk of its MIR, by hand. `new` makes a walker, three calls of `next` move it, each passed the
--- walker that stands in the answer before, and `judge` is passed what the three found. Of the callees the walk knows their contracts alone.
--- A further mark is one more block for its `next`, one more local for what it found, and every position moved by its three locals.
--- In a local of a body MIR erases the lifetime of the struct's type, so a value is shown to have the type at `erased`: what the struct owns
--- does not say the lifetime's name.
+-- `walker::edition_of` meets its contract: a walk of its MIR, by hand. `new` makes a walker, three calls of `next` move
+-- it, each passed the walker that stands in the answer before, and `judge` is passed what the three found. Of the
+-- callees the walk knows their contracts alone. A further mark is one more block for its `next`, one more local for
+-- what it found, and every position moved by its three locals. In a local of a body MIR erases the lifetime of the
+-- struct's type, so a value is shown to have the type at `erased`: what the struct owns does not say the lifetime's
+-- name.
 use mathlib.Core.Path.{_≡_, refl, ap, _∙_}
 use Prim.Native.Nat.{ℕ}
 use mathlib.Core.List.{List, [], _∷_}

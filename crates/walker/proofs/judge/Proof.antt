@@ -1,4 +1,4 @@
--- Each return is one case of `judged`.
+-- Each return is one case of `judged`: which of the three findings is missing, and whether the count is 2.
 use Rattle.walker.proofs.Editions.{count-cut, count-other, gic-cut, edition-cut, edition-named}
 use borrow.Author.Needs.{needs}
 use Rattle.walker.proofs.judge.Statement.{statement}

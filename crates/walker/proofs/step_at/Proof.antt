@@ -1,4 +1,4 @@
--- Each return is one case of how many bytes are there.
+-- Each return is one case of how many bytes are there: the place past the end, fewer than four, or four.
 use Rattle.walker.proofs.Steps.{step-past, step-short, step-there}
 use borrow.Author.Needs.{needs}
 use Rattle.walker.proofs.step_at.Statement.{statement}

@@ -1,5 +1,6 @@
--- `walker::Walker::new` meets its contract: a walk of its MIR, by hand. A walker is made of the slice passed and 0, in the result's local.
--- A slice is Copy, so what it owns is had twice: for the exit, and inside the walker, beside the facts of its place.
+-- `walker::Walker::new` meets its contract: a walk of its MIR, by hand. A walker is made of the slice passed and 0, in
+-- the result's local. A slice is Copy, so what it owns is had twice: for the exit, and inside the walker, beside the
+-- facts of its place.
 use mathlib.Core.Path.{refl}
 use Prim.Native.Nat.{ℕ}
 use mathlib.Core.List.{List, [], _∷_}

@@ -1,5 +1,6 @@
--- `walker::Walker::next` meets its contract: a walk of its MIR, by hand. The walker is taken apart, `step_at` is called on the slice and the place, and the answer is made of what it found and a walker at the new place.
--- The walker is Copy: what it owns is had three times, for the callee, for the exit, and for the walker in the answer.
+-- `walker::Walker::next` meets its contract: a walk of its MIR, by hand. The walker is taken apart, `step_at` is called
+-- on the slice and the place, and the answer is made of what it found and a walker at the new place. The walker is
+-- Copy: what it owns is had three times, for the callee, for the exit, and for the walker in the answer.
 use mathlib.Core.Path.{_≡_, refl, _∙_, ap, subst}
 use Prim.Native.Nat.{_<_, _^_}
 use mathlib.Core.List.{[], _∷_}

@@ -1,4 +1,5 @@
--- Demand 3 of the code.
+-- Demand 3 of the code: what the words hold after a call is what the rules' terminal holds after the delivery, so the
+-- laws of the rules' terminals are laws of the code, and the demand over any lawful machine gives it of the words.
 use Prim.Native.Nat.{ℕ, zero, suc, _-_}
 use native.Mathlib.Omega.{arith}
 use mathlib.Core.List.{List, [], _∷_, map}
@@ -59,7 +60,9 @@ module _ (h : Words) (q : List Asked) (ok : Stands (h .config .words) (h .table 
   ran = ranAt limits (storedConfig (h .config .words)) (storedTable (h .table .words)) q .table
 
   ran-sound : SoundTable limits (configIn (h .config .words)) ran
-  ran-sound = run-from-keeps limits (configIn (h .config .words)) 0 (tableOf (storedTable (h .table .words))) (requestsFrom q) (stands-well limits (storedConfig (h .config .words)) (storedTable (h .table .words)) ok .1)
+  ran-sound =
+      run-from-keeps limits (configIn (h .config .words)) 0 (tableOf (storedTable (h .table .words))) (requestsFrom q)
+      (stands-well limits (storedConfig (h .config .words)) (storedTable (h .table .words)) ok .1)
 
   ran-back : tableOf (store limits ran) ≡ ran
   ran-back = table-back limits (configIn (h .config .words)) ran ran-sound
@@ -76,7 +79,9 @@ now s = terminalIn (lent s)
 module _ (f : Code) (meets : Meets f) where
   module _ (s : editions.State Words) (b : List ℕ) where
     number-is : f (lent s) b .outcome .number ≡ saysTo (now s) b .number
-    number-is = ap (λ (o : Outcome). o .number) (lending-is-faithful .answer (lent s) b (f (lent s) b .outcome) (f (lent s) b .state) (meets (lent s) b))
+    number-is =
+        ap (λ (o : Outcome). o .number)
+        (lending-is-faithful .answer (lent s) b (f (lent s) b .outcome) (f (lent s) b .state) (meets (lent s) b))
 
     moves : f (lent s) b .outcome .number ≡ 0 → f (lent s) b .state ≡ stateFor (lent s) (leaves (now s) b)
     moves = lending-is-faithful .accepted (lent s) b (f (lent s) b .outcome) (f (lent s) b .state) (meets (lent s) b)
@@ -84,8 +89,11 @@ module _ (f : Code) (meets : Meets f) where
     stays : (f (lent s) b .outcome .number ≡ 0 → ⊥) → f (lent s) b .state ≡ lent s
     stays = lending-is-faithful .refused (lent s) b (f (lent s) b .outcome) (f (lent s) b .state) (meets (lent s) b)
 
-  plan-leads : (s : editions.State Words) (q : List Asked) → terminalsOf f .Sound (s .table) → terminalsOf f .Accepts s q
-      → (terminalsOf f .number s (terminalsOf f .encode s q) ≡ 0) × (terminalsOf f .after s (terminalsOf f .encode s q) ≡ record { edition = suc (s .edition); table = terminalsOf f .next (s .table) q })
+  plan-leads : (s : editions.State Words) (q : List Asked) → terminalsOf f .Sound (s .table)
+      → terminalsOf f .Accepts s q
+      → (terminalsOf f .number s (terminalsOf f .encode s q) ≡ 0)
+      × (terminalsOf f .after s (terminalsOf f .encode s q)
+      ≡ record { edition = suc (s .edition); table = terminalsOf f .next (s .table) q })
   plan-leads s q ok may =
       let b : List ℕ = planBytes limits (now s) q in
       let full : SoundHeld limits (stateOf (now s) .table) = record { records = all-records (s .table .config .words); stands = ok } in
@@ -132,7 +140,8 @@ module _ (c : Config) (asked : ℕ → List Asked) (f : Code) where
   start-stands : ConfigPassed (c .words) → terminalsOf f .Sound (planner c asked f .start)
   start-stands e =
       ap (λ (t : StoredTable). standing limits (storedConfig (c .words)) t) (table-view [])
-      ∙ stored-stands limits (storedConfig (c .words)) [] e (sound-parts limits (configIn (c .words)) [] (empty-is-sound limits (configIn (c .words))))
+      ∙ stored-stands limits (storedConfig (c .words)) [] e
+      (sound-parts limits (configIn (c .words)) [] (empty-is-sound limits (configIn (c .words))))
 
 pub code-follows : CodeFollows
 code-follows f meets c ok asked h =
@@ -170,29 +179,40 @@ module _ (f : Code) (meets : Meets f) (c : Config) (asked : ℕ → List Asked) 
   plan-same : (i : ℕ) → planOf (terminalsOf f) mine i ≡ planOf (terminals limits) theirs i
   plan-same i = ap (λ (s : editions.State Held). planBytes limits (terminal s) (asked i)) (at-same (i - 1))
 
-  taken-same : (w : World (terminalsOf f)) (b d : List ℕ) → b ≡ d → seen (taken (terminalsOf f) w b) ≡ taken (terminals limits) (seen w) d
+  taken-same : (w : World (terminalsOf f)) (b d : List ℕ) → b ≡ d
+      → seen (taken (terminalsOf f) w b) ≡ taken (terminals limits) (seen w) d
   taken-same w b d e =
       let s : view (kept (f (lent (w .state)) b .state)) ≡ stateOf (leaves (now (w .state)) d) = ap stateOf (lending-is-faithful .next (lent (w .state)) b (f (lent (w .state)) b .outcome) (f (lent (w .state)) b .state) (meets (lent (w .state)) b) ∙ ap (leaves (now (w .state))) e) in
       (λ i. record { made = w .made; state = s i; held = s i ∷ map view (w .held) })
 
-  event-same : (w : World (terminalsOf f)) (e : Event (List ℕ)) → seen (happens (terminalsOf f) mine w e) ≡ happens (terminals limits) theirs (seen w) e
+  event-same : (w : World (terminalsOf f)) (e : Event (List ℕ))
+      → seen (happens (terminalsOf f) mine w e) ≡ happens (terminals limits) theirs (seen w) e
   unfolding happens
   event-same w makes = refl
-  event-same w (plan i) = taken-same w (planOf (terminalsOf f) mine i) (planOf (terminals limits) theirs i) (plan-same i)
+  event-same w (plan i) =
+      taken-same w (planOf (terminalsOf f) mine i) (planOf (terminals limits) theirs i) (plan-same i)
   event-same w (noise b) = taken-same w b b refl
   event-same w (restart i) =
       let s : view (getD (w .held) i (at (terminalsOf f) mine 0)) ≡ getD (map view (w .held)) i (at (terminals limits) theirs 0) = sym (List·getD-map view (w .held) i (at (terminalsOf f) mine 0)) ∙ ap (getD (map view (w .held)) i) (at-same 0) in
       (λ j. record { made = w .made; state = s j; held = map view (w .held) })
 
-  event-legal : (w : World (terminalsOf f)) (e : Event (List ℕ)) → Legal (terminals limits) theirs (seen w) e → Legal (terminalsOf f) mine w e
-  event-legal w makes a = subst (λ (s : editions.State Held). MayAsk limits (terminal s) (asked (suc (w .made)))) (sym (at-same (w .made))) a
+  event-legal : (w : World (terminalsOf f)) (e : Event (List ℕ)) → Legal (terminals limits) theirs (seen w) e
+      → Legal (terminalsOf f) mine w e
+  event-legal w makes a =
+      subst (λ (s : editions.State Held). MayAsk limits (terminal s) (asked (suc (w .made))))
+      (sym (at-same (w .made))) a
   event-legal w (plan i) a = a
   event-legal w (noise b) a = a
   event-legal w (restart i) a = let n : length (map view (w .held)) ≡ length (w .held) = length-map (w .held) view in omega arith
 
-  all-legal : (w : World (terminalsOf f)) (es : List (Event (List ℕ))) → AllLegal (terminals limits) theirs (seen w) es → AllLegal (terminalsOf f) mine w es
+  all-legal : (w : World (terminalsOf f)) (es : List (Event (List ℕ))) → AllLegal (terminals limits) theirs (seen w) es
+      → AllLegal (terminalsOf f) mine w es
   all-legal w [] l = tt
-  all-legal w (e ∷ es) (a, l) = (event-legal w e a, all-legal (happens (terminalsOf f) mine w e) es (subst (λ (v : World (terminals limits)). AllLegal (terminals limits) theirs v es) (sym (event-same w e)) l))
+  all-legal w (e ∷ es) (a, l) = (
+    event-legal w e a,
+    all-legal (happens (terminalsOf f) mine w e) es
+        (subst (λ (v : World (terminals limits)). AllLegal (terminals limits) theirs v es) (sym (event-same w e)) l),
+  )
 
   begin-same : seen (begin (terminalsOf f) mine) ≡ begin (terminals limits) theirs
   begin-same = λ i. record { made = 0; state = at-same 0 i; held = at-same 0 i ∷ [] }
@@ -203,11 +223,19 @@ code-goes-along f meets c asked (es, l) =
     let t = theirs f meets c asked in
     let ok = all-legal f meets c asked (begin (terminalsOf f) m) es (subst (λ (v : World (terminals limits)). AllLegal (terminals limits) t v es) (sym (begin-same f meets c asked)) l) in
     let e : seen f meets c asked (runs (happens (terminalsOf f) m) (begin (terminalsOf f) m) es) ≡ runs (happens (terminals limits) t) (begin (terminals limits) t) es =
-    runs-seen (seen f meets c asked) (happens (terminalsOf f) m) (happens (terminals limits) t) (event-same f meets c asked) (begin (terminalsOf f) m) es ∙ ap (λ (v : World (terminals limits)). runs (happens (terminals limits) t) v es) (begin-same f meets c asked) in
-    ((es, ok), refl, ap (λ (v : World (terminals limits)). v .made) e, ap (λ (v : World (terminals limits)). terminal (v .state)) e)
+    runs-seen (seen f meets c asked) (happens (terminalsOf f) m) (happens (terminals limits) t)
+    (event-same f meets c asked) (begin (terminalsOf f) m) es
+    ∙ ap (λ (v : World (terminals limits)). runs (happens (terminals limits) t) v es)
+    (begin-same f meets c asked) in (
+      (es, ok),
+      refl,
+      ap (λ (v : World (terminals limits)). v .made) e,
+      ap (λ (v : World (terminals limits)). terminal (v .state)) e,
+    )
 
 -- the planner's words are the same whichever code runs
-same-words : (c : Config) (asked : ℕ → List Asked) (f g : Code) (k : ℕ) → tableAt (terminalsOf f) (planner c asked f) k ≡ tableAt (terminalsOf g) (planner c asked g) k
+same-words : (c : Config) (asked : ℕ → List Asked) (f g : Code) (k : ℕ)
+    → tableAt (terminalsOf f) (planner c asked f) k ≡ tableAt (terminalsOf g) (planner c asked g) k
 unfolding tableAt
 same-words c asked f g zero = refl
 same-words c asked f g (suc k) = ap (λ (h : Words). terminalsOf f .next h (asked (suc k))) (same-words c asked f g k)
@@ -223,15 +251,24 @@ pub lower-words-are-behind : LowerWordsAreBehind
 lower-words-are-behind f meets c ok asked p q l =
     let j : ℕ = stateIn c asked f p .edition in
     let k : ℕ = stateIn c asked f q .edition in
-    ap (λ (g : ℕ → List ℕ). runs (λ (s : State) (b : List ℕ). f s b .state) (stateIn c asked f p) (map g (places (suc j) (k - j)))) (λ x i. sym (file-at c asked f i) x)
-    ∙ sym (runs-seen lent (terminalsOf f .after) (λ (s : State) (b : List ℕ). f s b .state) (λ s b. refl) (world (terminalsOf f) (planner c asked f) p .state) (missing (terminalsOf f) (planner c asked f) j k))
-    ∙ ap lent (lower-is-behind (terminalsOf f) (code-laws f meets) (planner c asked f) (start-stands c asked f ok) p q l)
+    ap (λ (g : ℕ → List ℕ). runs (λ (s : State) (b : List ℕ). f s b .state) (stateIn c asked f p)
+    (map g (places (suc j) (k - j))))
+    (λ x i. sym (file-at c asked f i) x)
+    ∙ sym (runs-seen lent (terminalsOf f .after) (λ (s : State) (b : List ℕ). f s b .state) (λ s b. refl)
+    (world (terminalsOf f) (planner c asked f) p .state) (missing (terminalsOf f) (planner c asked f) j k))
+    ∙ ap lent
+    (lower-is-behind (terminalsOf f) (code-laws f meets) (planner c asked f) (start-stands c asked f ok) p q l)
 
 -- ---- the past that there is
 -- the rules' past under a configuration: legal, and its end
 abbrev Shown : StoredConfig → Type 0
-Shown c = AllLegal (terminals limits) (promised.planner limits c askedFor) (begin (terminals limits) (promised.planner limits c askedFor)) events
-    × (terminal (runs (happens (terminals limits) (promised.planner limits c askedFor)) (begin (terminals limits) (promised.planner limits c askedFor)) events .state) ≡ with5 1)
+Shown c =
+    AllLegal (terminals limits) (promised.planner limits c askedFor)
+    (begin (terminals limits) (promised.planner limits c askedFor)) events
+    × (terminal
+    (runs (happens (terminals limits) (promised.planner limits c askedFor))
+    (begin (terminals limits) (promised.planner limits c askedFor)) events .state)
+    ≡ with5 1)
 
 shown : Shown (storedConfig (deskConfig .words))
 shown = subst Shown (sym (config-view (record { regions = G ∷ []; gic = 0 }))) (past-shown .0, past-shown .2)

@@ -104,36 +104,56 @@ module _ (c : Config) (asked : ℕ → List Asked) where
       -- it is not ahead, and its words hold exactly the planner's state of k
       pub behind : k ≤ made
       pub holds : terminalIn s ≡ plannedAt k
-      -- a call with plan k + 1 answers 0 and leaves words that hold k + 1; one with any other plan, or with noise, leaves every word
-      pub onward : k < made → (f s (planAt (suc k)) .outcome .number ≡ 0) × (terminalIn (f s (planAt (suc k)) .state) ≡ plannedAt (suc k))
+      -- a call with plan k + 1 answers 0 and leaves words that hold k + 1; one
+      -- with any other plan, or with noise, leaves every word
+      pub onward : k < made
+          → (f s (planAt (suc k)) .outcome .number ≡ 0) × (terminalIn (f s (planAt (suc k)) .state) ≡ plannedAt (suc k))
       pub others : (i : ℕ) → 1 ≤ i → i ≤ made → (i ≡ suc k → ⊥) → TurnsAway f s (planAt i)
       pub stray : (b : List ℕ) → ((p : Plan) → PlanFor limits (terminalIn s) b p → ⊥) → TurnsAway f s b
 
 -- whatever happened, the words hold exactly the planner's state of some edition
 abbrev pub CodeFollows : Type 0
-CodeFollows = (f : Code) → Meets f → (c : Config) → ConfigPassed (c .words) → (asked : ℕ → List Asked) (h : Past c asked f) → (k : ℕ) × Follows c asked f (madeIn c asked f h) (stateIn c asked f h) k
+CodeFollows =
+    (f : Code) → Meets f → (c : Config) → ConfigPassed (c .words) → (asked : ℕ → List Asked) (h : Past c asked f)
+    → (k : ℕ) × Follows c asked f (madeIn c asked f h) (stateIn c asked f h) k
 
--- and every history of the rules' terminals is one of the code's: the same events are legal, and in the end there are as many plans and the words hold the
--- rules' terminal
+-- and every history of the rules' terminals is one of the code's: the same events are legal, and in the end there are
+-- as many plans and the words hold the rules' terminal
 abbrev pub CodeGoesAlong : Type 0
-CodeGoesAlong = (f : Code) → Meets f → (c : Config) (asked : ℕ → List Asked) (h : promised.Past limits (storedConfig (c .words)) asked)
-    → (g : Past c asked f) × (g .0 ≡ h .0) × (madeIn c asked f g ≡ promised.madeIn limits (storedConfig (c .words)) asked h) × (terminalIn (stateIn c asked f g) ≡ promised.terminalIn limits (storedConfig (c .words)) asked h)
+CodeGoesAlong =
+    (f : Code) → Meets f
+    → (c : Config) (asked : ℕ → List Asked) (h : promised.Past limits (storedConfig (c .words)) asked)
+    → (g : Past c asked f) × (g .0 ≡ h .0)
+    × (madeIn c asked f g ≡ promised.madeIn limits (storedConfig (c .words)) asked h)
+    × (terminalIn (stateIn c asked f g) ≡ promised.terminalIn limits (storedConfig (c .words)) asked h)
 
 -- two terminals of one planner, each with its own code and history: equal editions, equal words
 abbrev pub EqualEditionsEqualWords : Type 0
-EqualEditionsEqualWords = (f g : Code) → Meets f → Meets g → (c : Config) → ConfigPassed (c .words) → (asked : ℕ → List Asked) (p : Past c asked f) (q : Past c asked g)
+EqualEditionsEqualWords =
+    (f g : Code) → Meets f → Meets g → (c : Config) → ConfigPassed (c .words)
+    → (asked : ℕ → List Asked) (p : Past c asked f) (q : Past c asked g)
     → stateIn c asked f p .edition ≡ stateIn c asked g q .edition → stateIn c asked f p ≡ stateIn c asked g q
 
--- the one at the lower edition is behind: calls with the plans between the two editions, in turn, bring its words to the other's
+-- the one at the lower edition is behind: calls with the plans between
+-- the two editions, in turn, bring its words to the other's
 abbrev pub LowerWordsAreBehind : Type 0
-LowerWordsAreBehind = (f : Code) → Meets f → (c : Config) → ConfigPassed (c .words) → (asked : ℕ → List Asked) (p q : Past c asked f) → stateIn c asked f p .edition < stateIn c asked f q .edition
-    → runs (λ (s : State) (b : List ℕ). f s b .state) (stateIn c asked f p) (map (planAt c asked) (places (suc (stateIn c asked f p .edition)) (stateIn c asked f q .edition - stateIn c asked f p .edition))) ≡ stateIn c asked f q
+LowerWordsAreBehind =
+    (f : Code) → Meets f → (c : Config) → ConfigPassed (c .words) → (asked : ℕ → List Asked) (p q : Past c asked f)
+    → stateIn c asked f p .edition < stateIn c asked f q .edition
+    → runs (λ (s : State) (b : List ℕ). f s b .state) (stateIn c asked f p)
+    (map (planAt c asked)
+    (places (suc (stateIn c asked f p .edition))
+    (stateIn c asked f q .edition - stateIn c asked f p .edition)))
+    ≡ stateIn c asked f q
 
 -- ---- a past that there is
 -- the words of the whole plan's configuration
 abbrev pub deskConfig : Config
 deskConfig = record { words = wordsOfConfig (record { regions = G ∷ []; gic = 0 }) }
 
--- the events of `PastShown`, with every kind among them, are a history of the code, and the words then hold edition 1 with zone 5
+-- the events of `PastShown`, with every kind among them, are a history of
+-- the code, and the words then hold edition 1 with zone 5
 abbrev pub CodePastShown : Type 0
-CodePastShown = (f : Code) → Meets f → (g : Past deskConfig askedFor f) × (g .0 ≡ events) × (terminalIn (stateIn deskConfig askedFor f g) ≡ with5 1)
+CodePastShown =
+    (f : Code) → Meets f
+    → (g : Past deskConfig askedFor f) × (g .0 ≡ events) × (terminalIn (stateIn deskConfig askedFor f g) ≡ with5 1)

@@ -1,5 +1,6 @@
--- `terminal::apply_in` meets its contract: a walk of its MIR, by hand. The borrow is opened, the whole state is read and passed to `plan::apply` by value, the state
--- that it answers is stored, and the borrow is closed at it. The borrow stays open over the call. Of `plan::apply` the walk knows its contract, and of `applied` nothing.
+-- `terminal::apply_in` meets its contract: a walk of its MIR, by hand. The borrow is opened, the whole state is read
+-- and passed to `plan::apply` by value, the state that it answers is stored, and the borrow is closed at it. The borrow
+-- stays open over the call. Of `plan::apply` the walk knows its contract, and of `applied` nothing.
 use mathlib.Core.Path.{_≡_, refl, _∙_, ap, subst}
 use Prim.Native.Nat.{ℕ}
 use mathlib.Core.List.{[], _∷_, List}

@@ -1,4 +1,5 @@
--- What the loops of the table check go by, place by place.
+-- The loops of the table check: at a place, what is left gives the whole answer; a reader returns the zone or record at
+-- that place, so each turn is one test of the definition.
 use Prim.Native.Nat.{ℕ, _+_, _-_, _≤_, _<_}
 use native.Mathlib.Nat.{sub-zero}
 use native.Mathlib.Omega.{arith}

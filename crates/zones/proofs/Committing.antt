@@ -1,4 +1,5 @@
--- What a change asks of the table, and what it leaves.
+-- A change that was decided can be made: it names a place that is there, with room where it needs some; what is then
+-- written is the words of the changed table.
 use Prim.Native.Nat.{ℕ, _<_}
 use mathlib.Core.List.{List}
 use mathlib.Core.Path.{_≡_}

@@ -1,4 +1,5 @@
--- The configuration's check: its rules as the code meets them.
+-- The configuration's check as the code meets it: its tests in order are the rules', and the records at the positions
+-- are those that the rules look at.
 use Prim.Native.Nat.{ℕ, _≤_, _<_}
 use native.Mathlib.Omega.{arith}
 use mathlib.Core.Bool.{Bool, true, false, not}

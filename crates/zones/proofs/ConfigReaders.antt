@@ -1,4 +1,5 @@
--- What the readers of a configuration return, where the check finds it sound.
+-- Where the check finds a configuration sound its count and GIC position are within limits, so what the readers return
+-- is what the configuration says.
 use Prim.Native.Nat.{ℕ, _≤_, _<_}
 use native.Mathlib.Omega.{arith}
 use mathlib.Core.List.{List}

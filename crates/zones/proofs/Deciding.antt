@@ -1,4 +1,5 @@
--- What the tests of `decide` say of the table, and what each of its returns answers.
+-- Each return of `decide` is one rule: the search before it says whether the
+-- rule's test holds, and the rules before it are known to be silent.
 use Prim.Native.Nat.{ℕ, _+_, _≤_, _<_}
 use native.Mathlib.Omega.{arith}
 use mathlib.Core.Bool.{Bool, true, false, not, _&&_, _||_}

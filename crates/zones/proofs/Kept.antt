@@ -1,4 +1,5 @@
--- What the words of a table hold after a call, and that they stand.
+-- After a call the words hold what the rules leave, and stand: an accepted request writes the words of a sound table, a
+-- refused one nothing; calls in turn follow from one call.
 use Prim.Native.Nat.{ℕ}
 use native.Mathlib.Decide.{ℕ-discrete}
 use mathlib.Core.Bool.{Bool, false, cond}

@@ -1,4 +1,5 @@
--- What the readers and searches of the table return.
+-- A reader returns the word at its place, which is what the view has there; a search returns the first index, since
+-- what is left gives the whole answer.
 use Prim.Native.Nat.{ℕ, _+_, _*_, _≤_, _<_}
 use native.Mathlib.Omega.{arith}
 use mathlib.Core.Bool.{Bool, true, false}

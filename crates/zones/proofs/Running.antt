@@ -1,4 +1,5 @@
--- Runs of requests.
+-- A run: at request i the words hold the table that the requests before it
+-- leave, and what is left of the requests gives the whole outcome.
 use Prim.Native.Nat.{ℕ, suc, _+_, _-_, _*_, _/_, _≤_, _<_}
 use native.Mathlib.Omega.{arith}
 use mathlib.Core.Bool.{Bool, true, false, cond}

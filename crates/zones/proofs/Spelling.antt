@@ -1,4 +1,5 @@
--- The words of a configuration and of a table, and what is stored in them.
+-- The words of a configuration and of a table hold what they were made of:
+-- counted lists one behind the other, each read back where it stands.
 use Prim.Native.Nat.{ℕ, suc, _+_, _-_, _*_, _≤_}
 use native.Mathlib.Nat.{suc-mul}
 use native.Mathlib.Omega.{arith}

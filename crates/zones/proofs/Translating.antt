@@ -1,4 +1,5 @@
--- Translation.
+-- Translation: a region of one byte overlaps exactly the regions that cover its address, so the search by overlap finds
+-- the covering one; in reach, no sum wraps.
 use Prim.Native.Nat.{ℕ, _+_, _-_, _^_, _≤_, _<_}
 use native.Mathlib.Omega.{arith}
 use mathlib.Core.Bool.{Bool, true, false, cond, not}

@@ -1,4 +1,5 @@
--- What the writers leave, over plain values: the needs cite these by `search`.
+-- A writer changes the words of one set or of one zone and leaves those
+-- around them, so what it leaves is the words of the changed table.
 use Prim.Native.Nat.{ℕ, _+_, _-_, _*_, _≤_, _<_}
 use native.Mathlib.Omega.{arith}
 use mathlib.Core.List.{List, [], _∷_, _++_, append-nil}

@@ -1,3 +1,4 @@
+-- Each return is one rule of the position: C4, C5, then C6 at the first earlier record that overlaps.
 use borrow.Author.Needs.{needs}
 use Rattle.lists.proofs.Rules.{rules}
 use Rattle.lists.proofs.Tests.{told-not}

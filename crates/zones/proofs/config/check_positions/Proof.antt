@@ -1,3 +1,4 @@
+-- Invariant: the rules of the positions from i on give the whole answer.
 use Prim.Native.Nat.{_≤_, _-_}
 use native.Mathlib.Nat.{sub-zero}
 use mathlib.Core.List.{flatMap}

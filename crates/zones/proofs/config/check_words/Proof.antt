@@ -1,3 +1,4 @@
+-- Each return is one rule: C1, C2, C3 at the first used record past the count, then what the positions say.
 use borrow.Author.Needs.{needs}
 use Rattle.lists.proofs.Rules.{rules}
 use Rattle.lists.proofs.Tests.{alternatives}

@@ -1,3 +1,4 @@
+-- A position below the count is one of the records, which the reader reads.
 use borrow.Author.Needs.{needs}
 use Rattle.zones.proofs.ConfigReaders.{position-in, region-is}
 use Rattle.zones.proofs.config.config_region.Statement.{statement}

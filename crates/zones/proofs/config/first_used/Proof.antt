@@ -1,3 +1,4 @@
+-- Invariant: the first used record from i on is the first from n on.
 use Prim.Native.Nat.{_≤_, _-_}
 use mathlib.Core.Path.{_≡_}
 use borrow.Author.Needs.{needs}

@@ -1,3 +1,4 @@
+-- The check bounds the GIC's position, so the word is that number.
 use borrow.Author.Needs.{needs}
 use Rattle.zones.proofs.ConfigReaders.{gic-is}
 use Rattle.zones.proofs.config.gic_position.Statement.{statement}

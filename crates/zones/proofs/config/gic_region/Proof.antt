@@ -1,3 +1,4 @@
+-- The GIC's position is below the count, so its record is the configuration's GIC.
 use borrow.Author.Needs.{needs}
 use Rattle.zones.proofs.ConfigReaders.{gic-region-is}
 use Rattle.zones.proofs.config.gic_region.Statement.{statement}

@@ -1,3 +1,4 @@
+-- A region is configured exactly where the search stops before the count.
 use borrow.Author.Needs.{needs}
 use Rattle.zones.proofs.ConfigReaders.{configured-is}
 use Rattle.zones.proofs.config.is_configured.Statement.{statement}

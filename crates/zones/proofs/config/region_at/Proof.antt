@@ -1,3 +1,4 @@
+-- The record stands wholly within the words, since the position is below the most there can be.
 use borrow.Author.Needs.{needs}
 use Rattle.zones.proofs.Records.{record-read}
 use Rattle.zones.proofs.config.region_at.Statement.{statement}

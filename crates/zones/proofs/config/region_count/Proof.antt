@@ -1,3 +1,4 @@
+-- The check bounds the count, so the word is the number of regions.
 use borrow.Author.Needs.{needs}
 use Rattle.zones.proofs.ConfigReaders.{count-is}
 use Rattle.zones.proofs.config.region_count.Statement.{statement}

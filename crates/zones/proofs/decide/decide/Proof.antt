@@ -1,3 +1,4 @@
+-- By kind; each has its own function, and numbers that make no request answer 3.
 use borrow.Author.Needs.{needs}
 use Rattle.zones.proofs.Deciding.{kind-add, kind-drop, kind-insert, kind-cut, kind-none}
 use Rattle.zones.proofs.decide.decide.Statement.{statement}

@@ -1,3 +1,4 @@
+-- Each return is one rule: 4, 5 by the search for the id, 7 by the count.
 use borrow.Author.Needs.{needs}
 use Rattle.lists.proofs.Rules.{rules}
 use Rattle.lists.proofs.Tests.{tests}

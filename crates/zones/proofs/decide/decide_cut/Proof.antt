@@ -1,3 +1,4 @@
+-- Each return is one rule: 4, 6 by the search for the id, 17 by the search for the region.
 use borrow.Author.Needs.{needs}
 use borrow.Author.Tests.{lt-ltb, le-ltb}
 use Rattle.lists.proofs.Rules.{rules}

@@ -1,3 +1,4 @@
+-- Each return is one rule: 4, 6 by the search for the id, 8 by the lengths of the two sets.
 use borrow.Author.Needs.{needs}
 use borrow.Author.Tests.{lt-ltb, le-ltb}
 use Rattle.lists.proofs.Rules.{rules}

@@ -1,3 +1,4 @@
+-- Rules in stages: 4 and 6 here, 9 to 12 and 13 to 16 by a callee each; a stage that answers 0 is passed over.
 use borrow.Author.Needs.{needs}
 use borrow.Author.Tests.{lt-ltb, le-ltb}
 use Rattle.lists.proofs.Rules.{rule-skip, rules}

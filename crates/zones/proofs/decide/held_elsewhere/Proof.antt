@@ -1,3 +1,4 @@
+-- The first holder is another zone, or it is the zone at z and the next holder after it tells.
 use borrow.Author.Needs.{needs}
 use Rattle.zones.proofs.Deciding.{elsewhere-first, elsewhere-later}
 use Rattle.zones.proofs.decide.held_elsewhere.Statement.{statement}

@@ -1,3 +1,4 @@
+-- Each return is one of the two sets: a length above 0.
 use borrow.Author.Needs.{needs}
 use Rattle.zones.proofs.Deciding.{cpu-holds, iommu-holds}
 use Rattle.zones.proofs.decide.holds_any.Statement.{statement}

@@ -1,3 +1,4 @@
+-- Two cases: the GIC is exempt, and any other region is forbidden where another zone holds it.
 use borrow.Author.Needs.{needs}
 use Rattle.zones.proofs.Deciding.{gic-shared, private-shared}
 use Rattle.zones.proofs.decide.is_forbidden.Statement.{statement}

@@ -1,3 +1,4 @@
+-- By side: 12 is asked of the CPU alone.
 use borrow.Author.Needs.{needs}
 use Rattle.zones.proofs.Deciding.{gic-cpu, gic-iommu}
 use Rattle.zones.proofs.decide.on_gic.Statement.{statement}

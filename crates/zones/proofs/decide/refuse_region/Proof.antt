@@ -1,3 +1,4 @@
+-- Each return is one rule: 9, 10, 11, 12.
 use borrow.Author.Needs.{needs}
 use Rattle.lists.proofs.Rules.{rules}
 use Rattle.lists.proofs.Tests.{told, told-not}

@@ -1,3 +1,4 @@
+-- Each return is one rule: 13, 14 by who holds the region, 15, 16.
 use borrow.Author.Needs.{needs}
 use Rattle.lists.proofs.Rules.{rules}
 use Rattle.rules.specs.Requests.{setRules}

@@ -1,3 +1,4 @@
+-- Two cases: the region is zero, or it is not and the numbers make no request.
 use borrow.Author.Needs.{needs}
 use Rattle.zones.proofs.Running.{bare-used, bare-zero}
 use Rattle.zones.proofs.run.bare.Statement.{statement}

@@ -1,3 +1,4 @@
+-- Each return is one rule: the kinds 1 to 6 in order, then none.
 use borrow.Author.Needs.{needs}
 use Rattle.lists.proofs.Rules.{rules}
 use Rattle.lists.proofs.Tests.{tests}

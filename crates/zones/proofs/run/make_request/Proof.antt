@@ -1,3 +1,4 @@
+-- The zone as it is, and the kind that the number and the region make.
 use borrow.Author.Needs.{needs}
 use Rattle.zones.proofs.Running.{made}
 use Rattle.zones.proofs.run.make_request.Statement.{statement}

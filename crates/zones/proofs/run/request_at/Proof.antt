@@ -1,3 +1,4 @@
+-- The five fields lie within the request's bytes, and a request below the number of whole ones within the bytes.
 use borrow.Author.Needs.{needs}
 use Rattle.zones.proofs.Running.{request-read}
 use Rattle.zones.proofs.run.request_at.Statement.{statement}

@@ -1,3 +1,4 @@
+-- 1 and 2 first; a table that stands is ready for the loop.
 use borrow.Author.Needs.{needs}
 use Rattle.zones.proofs.Running.{none-run, all-run}
 use Rattle.zones.proofs.Stepping.{stands-ready}

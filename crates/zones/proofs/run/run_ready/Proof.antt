@@ -1,3 +1,4 @@
+-- Invariant: the table is sound, and the requests from i on, at what the words hold, give the whole run.
 use Prim.Native.Nat.{_-_, _*_, _≤_}
 use borrow.Author.Needs.{needs}
 use Rattle.rules.specs.Limits.{limits}

@@ -1,3 +1,4 @@
+-- Invariant: whether region i is apart from those from j on is the whole answer.
 use Prim.Native.Nat.{_-_, _≤_}
 use mathlib.Core.Path.{_≡_}
 use borrow.Author.Needs.{needs}

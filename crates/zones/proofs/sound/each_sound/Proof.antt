@@ -1,3 +1,4 @@
+-- Invariant: whether the zones from z on are sound is the whole answer.
 use Prim.Native.Nat.{_-_, _≤_}
 use mathlib.Core.Path.{_≡_}
 use borrow.Author.Needs.{needs}

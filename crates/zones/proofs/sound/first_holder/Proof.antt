@@ -1,3 +1,4 @@
+-- Invariant: the first holder from i on is the first from z on.
 use Prim.Native.Nat.{_-_, max, _≤_}
 use mathlib.Core.Path.{_≡_}
 use borrow.Author.Needs.{needs}

@@ -1,3 +1,4 @@
+-- Invariant: whether the configured regions from k on are each held well is the whole answer.
 use Prim.Native.Nat.{_-_, _≤_}
 use mathlib.Core.Path.{_≡_}
 use borrow.Author.Needs.{needs}

@@ -1,3 +1,4 @@
+-- A region is held at most once exactly where no zone after its first holder holds it.
 use borrow.Author.Needs.{needs}
 use Rattle.zones.proofs.Checking.{once-is}
 use Rattle.zones.proofs.sound.held_once.Statement.{statement}

@@ -1,3 +1,4 @@
+-- Two cases: position k is the GIC's, or its region must be held at most once.
 use borrow.Author.Needs.{needs}
 use Rattle.zones.proofs.Checking.{held-gic, held-other}
 use Rattle.zones.proofs.sound.held_well.Statement.{statement}

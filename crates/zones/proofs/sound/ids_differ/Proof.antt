@@ -1,3 +1,4 @@
+-- Invariant: whether the ids from z on are each found first at their own place is the whole answer.
 use Prim.Native.Nat.{_-_, _≤_}
 use mathlib.Core.Path.{_≡_}
 use borrow.Author.Needs.{needs}

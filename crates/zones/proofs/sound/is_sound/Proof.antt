@@ -1,3 +1,4 @@
+-- Two cases: the configuration has a fault, or the table is judged under one that has none.
 use borrow.Author.Needs.{needs}
 use Rattle.zones.proofs.ConfigCheck.{is-sound, is-fault, config-told}
 use Rattle.zones.proofs.Stored.{config-fault}

@@ -1,3 +1,4 @@
+-- Invariant: whether the CPU regions from i on keep off the GIC is the whole answer.
 use Prim.Native.Nat.{_-_, _≤_}
 use mathlib.Core.Path.{_≡_}
 use borrow.Author.Needs.{needs}

@@ -1,3 +1,4 @@
+-- Invariant: whether the regions from i on are configured is the whole answer.
 use Prim.Native.Nat.{_-_, _≤_}
 use mathlib.Core.Path.{_≡_}
 use borrow.Author.Needs.{needs}

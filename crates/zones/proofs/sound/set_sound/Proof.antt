@@ -1,3 +1,4 @@
+-- Each return is one test of the conjunction: configured, then apart in guest addresses.
 use borrow.Author.Needs.{needs}
 use Rattle.lists.proofs.Tests.{conjunction}
 use Rattle.rules.specs.Tables.{soundSet}

@@ -1,3 +1,4 @@
+-- Each return is one rule: 1, 2, or neither.
 use borrow.Author.Needs.{needs}
 use Rattle.zones.proofs.ConfigCheck.{is-sound, is-fault, config-told}
 use Rattle.zones.proofs.Stored.{config-first, table-second, both-stand}

@@ -1,3 +1,4 @@
+-- Words that are not packed are not tidy; packed ones hold the table that the readers find.
 use borrow.Author.Needs.{needs}
 use Rattle.zones.proofs.Stored.{words-fault, table-judged, packed-within}
 use Rattle.zones.proofs.sound.table_sound.Statement.{statement}

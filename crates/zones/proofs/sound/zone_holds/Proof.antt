@@ -1,3 +1,4 @@
+-- Each return is one of the two sets: the search stops before its length.
 use borrow.Author.Needs.{needs}
 use Rattle.zones.proofs.Checking.{zone-within, side-within, held-cpu, held-iommu}
 use Rattle.zones.proofs.sound.zone_holds.Statement.{statement}

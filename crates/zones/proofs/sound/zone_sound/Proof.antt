@@ -1,3 +1,4 @@
+-- Each return is one test of the conjunction: the id, the two sets, off the GIC.
 use borrow.Author.Needs.{needs}
 use Rattle.lists.proofs.Tests.{conjunction}
 use Rattle.rules.specs.Tables.{soundZone}

@@ -1,3 +1,4 @@
+-- Each return is one test of the conjunction: each zone, the ids, and that no two zones share a region.
 use borrow.Author.Needs.{needs}
 use Rattle.lists.proofs.Tests.{conjunction}
 use Rattle.rules.specs.Tables.{sound}

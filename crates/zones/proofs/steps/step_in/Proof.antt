@@ -1,3 +1,4 @@
+-- 1 and 2 first; a table that stands is ready for the request.
 use borrow.Author.Needs.{needs}
 use Rattle.zones.proofs.Stepping.{before-any, stands-ready, request-done}
 use Rattle.zones.proofs.steps.step_in.Statement.{statement}

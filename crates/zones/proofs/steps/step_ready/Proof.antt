@@ -1,3 +1,4 @@
+-- What is decided is allowed, so it can be made; its number and what it leaves are the rules'.
 use borrow.Author.Needs.{needs}
 use Rattle.zones.proofs.Stepping.{decided-allowed, decided-number, decided-table}
 use Rattle.zones.proofs.steps.step_ready.Statement.{statement}

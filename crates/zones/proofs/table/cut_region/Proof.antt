@@ -1,3 +1,4 @@
+-- The gap in the set is closed over its own words, and its count is one less.
 use native.Mathlib.Omega.{arith}
 use borrow.Author.Needs.{needs}
 use Rattle.zones.proofs.Writers.{packed-long, cut-words, set-within}

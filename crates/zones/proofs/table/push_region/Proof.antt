@@ -1,3 +1,4 @@
+-- The record is written at the first free place of the set, and its count is one more.
 use borrow.Author.Needs.{needs}
 use Rattle.zones.proofs.Writers.{push-words}
 use Rattle.zones.proofs.table.push_region.Statement.{statement}

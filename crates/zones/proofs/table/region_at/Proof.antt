@@ -1,3 +1,4 @@
+-- The record lies within its set's words.
 use borrow.Author.Needs.{needs}
 use Rattle.zones.proofs.Readers.{record-word}
 use Rattle.zones.proofs.table.region_at.Statement.{statement}

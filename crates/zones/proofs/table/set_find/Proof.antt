@@ -1,3 +1,4 @@
+-- The records of the set stand behind its count.
 use borrow.Author.Needs.{needs}
 use Rattle.zones.proofs.Readers.{set-records}
 use Rattle.zones.proofs.table.set_find.Statement.{statement}

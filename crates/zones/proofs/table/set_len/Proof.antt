@@ -1,3 +1,4 @@
+-- The length is the set's count.
 use borrow.Author.Needs.{needs}
 use Rattle.zones.proofs.Readers.{len-word}
 use Rattle.zones.proofs.table.set_len.Statement.{statement}

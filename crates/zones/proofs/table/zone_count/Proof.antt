@@ -1,3 +1,4 @@
+-- The number of zones is the first word.
 use borrow.Author.Needs.{needs}
 use Rattle.zones.proofs.Readers.{count-word}
 use Rattle.zones.proofs.table.zone_count.Statement.{statement}

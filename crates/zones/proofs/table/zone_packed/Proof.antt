@@ -1,3 +1,4 @@
+-- Each return is one test of the conjunction: the CPU set, then the IOMMU set.
 use borrow.Author.Needs.{needs}
 use Rattle.lists.proofs.Tests.{conjunction}
 use Rattle.zones.specs.Packing.{zonePacked}

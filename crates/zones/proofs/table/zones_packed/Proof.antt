@@ -1,3 +1,4 @@
+-- Invariant: whether the zones from z on are packed is the whole answer.
 use Prim.Native.Nat.{_-_, _≤_}
 use native.Mathlib.Nat.{sub-zero}
 use mathlib.Core.Path.{_≡_}

@@ -1,3 +1,4 @@
+-- A region of one byte overlaps exactly those that cover its address.
 use borrow.Author.Needs.{needs}
 use Rattle.zones.proofs.Translating.{covering-found}
 use Rattle.zones.proofs.translation.find_covering.Statement.{statement}

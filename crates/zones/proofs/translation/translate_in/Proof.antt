@@ -1,3 +1,4 @@
+-- 1 and 2 first; the regions of a table that stands are in reach.
 use borrow.Author.Needs.{needs}
 use Rattle.zones.proofs.Translating.{none-translated, now-translated, near-now}
 use Rattle.zones.proofs.translation.translate_in.Statement.{statement}

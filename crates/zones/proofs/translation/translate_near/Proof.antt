@@ -1,3 +1,4 @@
+-- Each return is one rule: 4, 6, 18, then the covering region; it is in reach, so the sum does not wrap.
 use borrow.Author.Needs.{needs}
 use Rattle.zones.proofs.Checking.{zone-within, side-within}
 use Rattle.zones.proofs.Deciding.{found-at}

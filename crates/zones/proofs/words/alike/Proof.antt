@@ -1,3 +1,4 @@
+-- By the way in which regions are compared.
 use borrow.Author.Needs.{needs}
 use Rattle.zones.proofs.Records.{alike-told}
 use Rattle.zones.proofs.words.alike.Statement.{statement}

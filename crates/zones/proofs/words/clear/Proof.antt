@@ -1,3 +1,4 @@
+-- Invariant: the words from `at` up to k are zero, and the others as they were.
 use Prim.Native.Nat.{_-_, _≤_}
 use mathlib.Core.Path.{_≡_, refl}
 use borrow.Author.Needs.{needs}

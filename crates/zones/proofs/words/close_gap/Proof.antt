@@ -1,3 +1,4 @@
+-- Moving down and then clearing what is left over closes the gap.
 use borrow.Author.Needs.{needs}
 use Rattle.zones.proofs.Moves.{gap-closed}
 use Rattle.zones.proofs.words.close_gap.Statement.{statement}

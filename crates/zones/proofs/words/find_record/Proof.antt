@@ -1,3 +1,4 @@
+-- Invariant: the first record alike from i on is the first of all.
 use Prim.Native.Nat.{_-_, _≤_}
 use mathlib.Core.Path.{_≡_}
 use borrow.Author.Needs.{needs}

@@ -1,3 +1,4 @@
+-- Used is not equal to the zero region.
 use mathlib.Core.Bool.{not}
 use mathlib.Core.Path.{ap}
 use borrow.Author.Needs.{needs}

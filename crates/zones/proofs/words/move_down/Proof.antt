@@ -1,3 +1,4 @@
+-- Invariant: from `at` up to k stand the words `width` further on, and the others as they were.
 use Prim.Native.Nat.{_+_, _-_, _≤_}
 use mathlib.Core.Path.{_≡_, refl}
 use borrow.Author.Needs.{needs}

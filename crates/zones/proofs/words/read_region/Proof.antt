@@ -1,3 +1,4 @@
+-- The three words lie within the slice.
 use borrow.Author.Needs.{needs}
 use Rattle.zones.proofs.Records.{read-record}
 use Rattle.zones.proofs.words.read_region.Statement.{statement}

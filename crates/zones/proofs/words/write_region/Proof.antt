@@ -1,3 +1,4 @@
+-- Three stores one behind the other are the record's words at its place.
 use native.Mathlib.Omega.{arith}
 use borrow.Author.Needs.{needs}
 use lib.ListN.{length-set}

@@ -1,3 +1,4 @@
+-- Invariant: whether the words from k on are zero is the whole answer.
 use Prim.Native.Nat.{_-_, _≤_}
 use mathlib.Core.Path.{_≡_, refl}
 use borrow.Author.Needs.{needs}

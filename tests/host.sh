@@ -7,6 +7,7 @@
 #   EMULATOR     empty on x86-64, else the command that runs an x86-64 program
 #   SANITIZERS   after find_sanitizers, the C compiler's options for the sanitizers that run here
 #   CARGO        what builds the Rust crates
+#   work         after need_work, a folder for a test's own files, which is removed when the test ends
 
 root=$(cd "$(dirname "${BASH_SOURCE[0]}")/.." && pwd)
 LIBRARY_DIR=${PEATMITTEN_LIB_DIR:-$root/target/staticlib}
@@ -15,6 +16,11 @@ RUST_TARGET=x86_64-unknown-linux-gnu
 say_failed() {
     echo "$test_name: FAILED: $*" >&2
     exit 1
+}
+
+need_work() {
+    work=$(mktemp -d)
+    trap 'rm -rf "$work"' EXIT
 }
 
 # The functions that the header declares, one a line.
@@ -101,4 +107,8 @@ find_cargo() {
         fi
     done
     return 1
+}
+
+need_rust() {
+    find_cargo || say_failed "no Rust compiler here builds for x86-64 (tests/install_cross.sh installs one)"
 }

@@ -5,8 +5,7 @@ set -euo pipefail
 test_name=install
 . "$(dirname "$0")/host.sh"
 need_c
-work=$(mktemp -d)
-trap 'rm -rf "$work"' EXIT
+need_work
 version=$(cat "$root/VERSION")
 
 # Of pkg-config where it is there; else of the file itself.
@@ -69,7 +68,7 @@ check_versions() {
 check_rust() {
     local runner=()
     [ -z "$EMULATOR" ] || runner=(CARGO_TARGET_X86_64_UNKNOWN_LINUX_GNU_RUNNER="$EMULATOR")
-    find_cargo || say_failed "no Rust compiler here builds for x86-64 (tests/install_cross.sh installs one)"
+    need_rust
     (cd "$root/rust" && CARGO_TARGET_DIR=$work/rust PEATMITTEN_LIB_DIR=$work/usr/lib CARGO_TARGET_X86_64_UNKNOWN_LINUX_GNU_LINKER=$CC \
         env "${runner[@]}" "$CARGO" test --offline --locked --quiet --target "$RUST_TARGET" --package peatmitten --test typed) >"$work/tested" 2>&1 ||
         { cat "$work/tested" >&2; say_failed "the Rust crate with the installed library"; }

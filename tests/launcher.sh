@@ -4,8 +4,7 @@
 set -euo pipefail
 test_name=launcher
 . "$(dirname "$0")/host.sh"
-work=$(mktemp -d)
-trap 'rm -rf "$work"' EXIT
+need_work
 launcher=$root/peatmitten
 plans=$root/examples
 

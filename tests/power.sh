@@ -7,9 +7,8 @@ test_name=power
 . "$(dirname "$0")/host.sh"
 need_library
 need_c
-find_cargo || say_failed "no Rust compiler here builds for x86-64 (tests/install_cross.sh installs one)"
-work=$(mktemp -d)
-trap 'rm -rf "$work"' EXIT
+need_rust
+need_work
 state=$work/state
 first=$root/examples/first.plan
 second=$work/second.plan

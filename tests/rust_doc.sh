@@ -4,9 +4,8 @@ set -euo pipefail
 test_name=rust_doc
 . "$(dirname "$0")/host.sh"
 need_c
-find_cargo || say_failed "no Rust compiler here builds for x86-64 (tests/install_cross.sh installs one)"
-work=$(mktemp -d)
-trap 'rm -rf "$work"' EXIT
+need_rust
+need_work
 mkdir "$work/empty"
 export CARGO_TARGET_DIR=$work/target CARGO_TARGET_X86_64_UNKNOWN_LINUX_GNU_LINKER=$CC PEATMITTEN_LIB_DIR=$work/empty
 cd "$root/rust"

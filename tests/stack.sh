@@ -5,8 +5,7 @@ test_name=stack
 . "$(dirname "$0")/host.sh"
 need_library
 need_c
-work=$(mktemp -d)
-trap 'rm -rf "$work"' EXIT
+need_work
 pairs=()
 
 # A plan that does not read whole, or whose contents are unsound, has no base; at a state of its own it would take less stack.

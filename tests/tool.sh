@@ -6,8 +6,7 @@ test_name=tool
 . "$(dirname "$0")/host.sh"
 need_library
 need_c
-work=$(mktemp -d)
-trap 'rm -rf "$work"' EXIT
+need_work
 launcher=$root/peatmitten
 plans=$root/examples
 state=$work/state

@@ -5,8 +5,7 @@ test_name=words
 . "$(dirname "$0")/host.sh"
 need_library
 need_c
-work=$(mktemp -d)
-trap 'rm -rf "$work"' EXIT
+need_work
 
 cat >"$work/words.c" <<'TEXT'
 #include <stdio.h>

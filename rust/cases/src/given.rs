@@ -33,6 +33,16 @@ pub fn zone(id: u32, cpu: &[Region], iommu: &[Region]) -> Zone {
     Zone { id, cpu: cpu.to_vec(), iommu: iommu.to_vec() }
 }
 
+/// A zone: its id and the configured regions of its CPU and of its IOMMU set, by their positions.
+pub type Held<'a> = (u32, &'a [u64], &'a [u64]);
+
+/// The words of zones whose regions are given by position; `region` says which one stands there.
+pub fn held_words(zones: &[Held], region: fn(u64) -> Region) -> TableWords {
+    let regions = |positions: &[u64]| positions.iter().map(|&k| region(k)).collect::<Vec<_>>();
+    let zones: Vec<Zone> = zones.iter().map(|(id, cpu, iommu)| zone(*id, &regions(cpu), &regions(iommu))).collect();
+    table_words(&zones)
+}
+
 /// A request for a whole zone, or one whose region is zero.
 pub fn of_zone(kind: u32, zone: u32) -> Record {
     Record { kind, zone, region: Region::ZERO }

@@ -6,7 +6,7 @@ use ordinary::{ConfigWords, Record, Region, TableWords, Zone};
 
 use crate::book::Book;
 use crate::drawn::{poke_config, poke_table, sound_config};
-use crate::given::{config_words, of_region, of_zone, table_words, with_p, with_size, with_v, with_word, zone, P};
+use crate::given::{config_words, held_words, of_region, of_zone, table_words, with_p, with_size, with_v, with_word, Held, P};
 use crate::given::{A, ADD_ZONE, B, C, CPU_INSERT, CPU_REMOVE, G, IOMMU_INSERT, IOMMU_REMOVE, REMOVE_ZONE};
 use crate::rng::Rng;
 
@@ -51,16 +51,9 @@ fn region(k: u64) -> Region {
     Region::new(v, 0x8000_0000 + k * 2 * PAGE, PAGE)
 }
 
-fn regions(positions: &[u64]) -> Vec<Region> {
-    positions.iter().map(|&k| region(k)).collect()
-}
-
 fn config() -> ConfigWords {
     config_words(&(0..=GIC_TWIN).map(region).collect::<Vec<_>>(), 0)
 }
-
-/// A zone: its id and the configured regions of its CPU and of its IOMMU set, by their positions.
-type Held<'a> = (u32, &'a [u64], &'a [u64]);
 
 const FIVE: Held = (5, &[1, 2], &[1, 0]);
 const SIX: Held = (6, &[3], &[0, 4]);
@@ -69,8 +62,7 @@ const SIX: Held = (6, &[3], &[0, 4]);
 const ALL: [u64; MAX_IN_SET] = [1, 2, 3, 4, 5, 6, 7, 8, 9, 10, 11, 12, 13, 14, 15, 16];
 
 fn table(zones: &[Held]) -> TableWords {
-    let zones: Vec<Zone> = zones.iter().map(|(id, cpu, iommu)| zone(*id, &regions(cpu), &regions(iommu))).collect();
-    table_words(&zones)
+    held_words(zones, region)
 }
 
 fn base() -> TableWords {

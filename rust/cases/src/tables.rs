@@ -5,7 +5,7 @@ use ordinary::limits::{MAX_IN_SET, MAX_REGIONS, MAX_ZONES, PAGE};
 use ordinary::{ConfigWords, Region, Side, TableWords, Zone, TABLE_WORDS};
 
 use crate::book::Book;
-use crate::given::{config_words, table_words, with_size, with_word, zone, A, B, C, G, P, SIZE, V};
+use crate::given::{config_words, held_words, table_words, with_size, with_word, zone, Held, A, B, C, G, P, SIZE, V};
 use crate::rng::Rng;
 
 pub fn add(book: &mut Book) {
@@ -27,10 +27,6 @@ fn region(k: u64) -> Region {
     Region::new(0x4000_0000 + k.min(62) * 2 * PAGE, p, PAGE)
 }
 
-fn regions(positions: &[u64]) -> Vec<Region> {
-    positions.iter().map(|&k| region(k)).collect()
-}
-
 fn config() -> ConfigWords {
     config_of(MAX_REGIONS as u64)
 }
@@ -39,15 +35,11 @@ fn config_of(count: u64) -> ConfigWords {
     config_words(&(0..count).map(region).collect::<Vec<_>>(), 0)
 }
 
-/// A zone: its id and the configured regions of its CPU and of its IOMMU set, by their positions.
-type Held<'a> = (u32, &'a [u64], &'a [u64]);
-
 const FIVE: Held = (5, &[1, 2], &[1, 0]);
 const SIX: Held = (6, &[3], &[0]);
 
 fn table(zones: &[Held]) -> TableWords {
-    let zones: Vec<Zone> = zones.iter().map(|(id, cpu, iommu)| zone(*id, &regions(cpu), &regions(iommu))).collect();
-    table_words(&zones)
+    held_words(zones, region)
 }
 
 fn base() -> TableWords {

@@ -88,11 +88,11 @@ judged-by false false false true o = refl
 judged-by false false false false o = refl
 
 -- ---- a run that ended with o, and left r's table
-ran-is : (s : State) (o : Outcome) (r : Run) → tableOf (store limits (r .table)) ≡ r .table → ran s o (wordsOf (r .table)) ≡ inWords s (rules.applied limits (terminalIn s) o r)
-unfolding ran inWords rules.applied moved
+ran-is : (s : State) (o : Outcome) (r : Run) → tableOf (store limits (r .table)) ≡ r .table → ran s o (wordsOf (r .table)) ≡ inWords s (rules.settled limits (terminalIn s) o r)
+unfolding ran inWords rules.settled moved
 ran-is s o r back = by (eqb (o .number) 0) refl
   where
-    by : (x : Bool) → eqb (o .number) 0 ≡ x → ran s o (wordsOf (r .table)) ≡ inWords s (rules.applied limits (terminalIn s) o r)
+    by : (x : Bool) → eqb (o .number) 0 ≡ x → ran s o (wordsOf (r .table)) ≡ inWords s (rules.settled limits (terminalIn s) o r)
     by true h =
         ap (λ (t : Bool). cond t (record { outcome = o; state = record { config = s .config; table = record { words = wordsOf (r .table) }; edition = s .edition + 1 } }) (record { outcome = o; state = s })) h
         ∙ (λ i. record { outcome = o; state = record { config = s .config; table = record { words = wordsOf (sym back i) }; edition = s .edition + 1 } })
@@ -124,7 +124,7 @@ module _ (s : State) (b : List ℕ) (p : Plan) (t : List ℕ) (e : readPlan limi
         ∙ judged-by _ _ _ _ (ended done)
 
     -- the run: its table is sound, so its words are those of what is stored
-    run-is : ranPlan s stretch ≡ inWords s (rules.applied limits (terminalIn s) (ended done) done)
+    run-is : ranPlan s stretch ≡ inWords s (rules.settled limits (terminalIn s) (ended done) done)
     unfolding runAnswer runWords
     run-is =
         let q : requestsIn stretch ≡ requestsOf p = requests-same b p t e in
@@ -136,22 +136,22 @@ module _ (s : State) (b : List ℕ) (p : Plan) (t : List ℕ) (e : readPlan limi
         back = let (ok, sound) = stands-well limits (terminalIn s .config) (terminalIn s .table) z in table-back limits (configOf (terminalIn s .config)) (done .table) (run-from-keeps limits (configOf (terminalIn s .config)) 0 (tableOf (terminalIn s .table)) (requestsOf p) sound)
 
     -- by the number of the base
-    sound-is : applyBase s says stretch ≡ inWords s (rules.applied limits (terminalIn s) (judged (terminalIn s) p done) done)
-    unfolding applyBase rules.applied
+    sound-is : applyBase s says stretch ≡ inWords s (rules.settled limits (terminalIn s) (judged (terminalIn s) p done) done)
+    unfolding applyBase rules.settled
     sound-is = by (eqb (baseNumber s says) 0) refl
       where
         answer : Bool → Applied
-        answer x = inWords s (rules.applied limits (terminalIn s) (cond x (ended done) (plain (baseNumber s says) 0)) done)
+        answer x = inWords s (rules.settled limits (terminalIn s) (cond x (ended done) (plain (baseNumber s says) 0)) done)
 
-        by : (x : Bool) → eqb (baseNumber s says) 0 ≡ x → applyBase s says stretch ≡ inWords s (rules.applied limits (terminalIn s) (judged (terminalIn s) p done) done)
-        by true h = ap (λ (x : Bool). cond x (ranPlan s stretch) (turnedAway s (baseNumber s says) 0)) h ∙ run-is ∙ sym (ap answer h) ∙ sym (ap (λ (o : Outcome). inWords s (rules.applied limits (terminalIn s) o done)) judged-is)
+        by : (x : Bool) → eqb (baseNumber s says) 0 ≡ x → applyBase s says stretch ≡ inWords s (rules.settled limits (terminalIn s) (judged (terminalIn s) p done) done)
+        by true h = ap (λ (x : Bool). cond x (ranPlan s stretch) (turnedAway s (baseNumber s says) 0)) h ∙ run-is ∙ sym (ap answer h) ∙ sym (ap (λ (o : Outcome). inWords s (rules.settled limits (terminalIn s) o done)) judged-is)
         by false h =
             let ne : baseNumber s says ≡ 0 → ⊥ = eqb-false _ _ h in
             ap (λ (x : Bool). cond x (ranPlan s stretch) (turnedAway s (baseNumber s says) 0)) h
             ∙ away-sound s (baseNumber s says) 0 z
             ∙ sym (refused-in-words s (plain (baseNumber s says) 0) (terminalIn s) ne)
             ∙ sym (ap (λ (x : Bool). inWords s (cond x (record { outcome = plain (baseNumber s says) 0; state = moved limits (terminalIn s) done }) (record { outcome = plain (baseNumber s says) 0; state = terminalIn s }))) (ne-eqb _ 0 ne))
-            ∙ sym (ap answer h) ∙ sym (ap (λ (o : Outcome). inWords s (rules.applied limits (terminalIn s) o done)) judged-is)
+            ∙ sym (ap answer h) ∙ sym (ap (λ (o : Outcome). inWords s (rules.settled limits (terminalIn s) o done)) judged-is)
 
   -- an unsound state: the run answers what turning away answers
   unsound-is : (own s ≡ 0 → ⊥) → applyBase s says stretch ≡ record { outcome = plain (own s) 0; state = s }
@@ -238,8 +238,8 @@ module _ (s : State) (b : List ℕ) where
   stayed : (o : Outcome) → (o .number ≡ 0 → ⊥) → terminalIn (inWords s (record { outcome = o; state = terminalIn s }) .state) ≡ terminalIn s
   stayed o ne = ap (λ (a : Applied). terminalIn (a .state)) (refused-in-words s o (terminalIn s) ne)
 
-  went : (o : Outcome) (r : Run) → tableOf (store limits (r .table)) ≡ r .table → terminalIn (inWords s (rules.applied limits (terminalIn s) o r) .state) ≡ rules.applied limits (terminalIn s) o r .state
-  unfolding rules.applied moved inWords
+  went : (o : Outcome) (r : Run) → tableOf (store limits (r .table)) ≡ r .table → terminalIn (inWords s (rules.settled limits (terminalIn s) o r) .state) ≡ rules.settled limits (terminalIn s) o r .state
+  unfolding rules.settled moved inWords
   went o r back = by (eqb (o .number) 0) refl
     where
       either : Bool → rules.Applied

@@ -49,7 +49,7 @@ use Rattle.rules.proofs.Regions.{equal-same, equal-refl}
 use Rattle.rules.proofs.Run.{run-all, run-stops}
 use Rattle.rules.proofs.Sections.{own-config, own-zones}
 use Rattle.rules.proofs.Translation.{covers-parts, parts-cover, same-distance}
-use Rattle.promises.specs.Answers.{standingLines, HasZone, IsWellFormed, IsInReach, MeetsPhys, MeetsGuest, SomeIn, SomeZone, ForbiddenFor, kindLines, RequestSays, RefusalIsExact, AnswerIsExact, ComesOut, TranslatedIsExact, noAsk, numberOf, RunAnswerIsExact, allAccepted, twentySeven, Ends, twenty, twentyOne, twentyTwo, reads, Reading, AtTerminal, ApplyIsExact, Alone, AloneIsExact, NeverAlone, StandingIsInside, Stands, nothing, c1, c2, c3, c4, c5, c6, Finds, CheckNumbersAreExact}
+use Rattle.promises.specs.Answers.{standingLines, HasZone, IsWellFormed, IsInReach, MeetsPhys, MeetsGuest, SomeIn, SomeZone, ForbiddenFor, kindLines, RequestSays, RefusalIsExact, AnswerIsExact, ComesOut, TranslatedIsExact, noAsk, numberAt, RunAnswerIsExact, allAccepted, twentySeven, Ends, twenty, twentyOne, twentyTwo, reads, Reading, AtTerminal, ApplyIsExact, Alone, AloneIsExact, NeverAlone, StandingIsInside, Stands, nothing, c1, c2, c3, c4, c5, c6, Finds, CheckNumbersAreExact}
 use Rattle.promises.specs.Configuration.{Means}
 use Rattle.promises.specs.Plans.{runOf}
 use Rattle.promises.specs.Tables.{In}
@@ -319,13 +319,13 @@ module _ (lim : Limits) where
     ends-so o (twentySeven i h f ne) =
         let e : 0 + i ≡ i = omega arith in
         ap ended (run-stops lim c noAsk 0 t qs i h f ne)
-        ∙ (λ x. record { number = cond (ne-eqb (numberOf lim c t qs i) 0 ne x) 0 27; place = e x; inner = numberOf lim c t qs i })
+        ∙ (λ x. record { number = cond (ne-eqb (numberAt lim c t qs i) 0 ne x) 0 27; place = e x; inner = numberAt lim c t qs i })
 
     some-end : (o : Outcome) × Ends lim c t qs o
     some-end =
         ⊎-elim (λ f. (plain 0 (length qs), allAccepted (λ j h. eqb-true _ _ (f j h))))
-        (λ (i, h, e, f). (record { number = 27; place = i; inner = numberOf lim c t qs i }, twentySeven i h (λ j m. eqb-true _ _ (f j m)) (eqb-false _ _ e)))
-        (first-failing (λ j. eqb (numberOf lim c t qs j) 0) (length qs))
+        (λ (i, h, e, f). (record { number = 27; place = i; inner = numberAt lim c t qs i }, twentySeven i h (λ j m. eqb-true _ _ (f j m)) (eqb-false _ _ e)))
+        (first-failing (λ j. eqb (numberAt lim c t qs j) 0) (length qs))
 
     ends-exactly : Exactly (ended (run lim c t qs)) (Ends lim c t qs)
     ends-exactly = exactly (ended (run lim c t qs)) (Ends lim c t qs) some-end ends-so

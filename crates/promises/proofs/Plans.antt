@@ -11,7 +11,7 @@ use lib.Dec.{eqb}
 use lib.ListN.{length, take, drop, length-append, length-take, take-append-drop}
 use lib.Seq.{take-all}
 use Rattle.formats.specs.Formats.{got, bad, Out, then, readBoth, readAs, readFile}
-use Rattle.rules.specs.Applying.{lastEdition, plain, judged, moved, applied, applyRead, apply, answerRead, answerAlone, Terminal, Applied}
+use Rattle.rules.specs.Applying.{lastEdition, plain, judged, moved, settled, applyRead, apply, answerRead, answerAlone, Terminal, Applied}
 use Rattle.rules.specs.Configuration.{configOf, Configuration}
 use Rattle.rules.specs.Limits.{Limits}
 use Rattle.rules.specs.Plan.{requestsOf, readPlan, Plan}
@@ -53,16 +53,16 @@ module _ (lim : Limits) where
     either : Bool → Applied
     either b = cond b (record { outcome = o; state = moved lim s r }) (record { outcome = o; state = s })
 
-    stays-by : (applied lim s o r .outcome .number ≡ 0 → ⊥) → applied lim s o r .state ≡ s
-    unfolding applied either
+    stays-by : (settled lim s o r .outcome .number ≡ 0 → ⊥) → settled lim s o r .state ≡ s
+    unfolding settled either
     stays-by = by (eqb (o .number) 0) refl
       where
         by : (b : Bool) → eqb (o .number) 0 ≡ b → (either b .outcome .number ≡ 0 → ⊥) → either b .state ≡ s
         by true e ne = absurd (ne (eqb-true _ _ e))
         by false e ne = refl
 
-    pub outcome-by : applied lim s o r .outcome ≡ o
-    unfolding applied either
+    pub outcome-by : settled lim s o r .outcome ≡ o
+    unfolding settled either
     outcome-by = by (eqb (o .number) 0)
       where
         by : (b : Bool) → either b .outcome ≡ o
@@ -106,7 +106,7 @@ module _ (lim : Limits) where
       by false h o g e = absurd (eqb-false _ _ h e)
 
   pub plan-is-accepted : PlanIsAccepted lim
-  unfolding apply applyRead applied moved
+  unfolding apply applyRead settled moved
   plan-is-accepted s b p st (g, f) last inner =
       let r : Run = runOf lim s p in
       let n : r .place ≡ length (requestsOf p) = run-through _ 0 _ (requestsOf p) inner ∙ omega arith in
@@ -114,12 +114,12 @@ module _ (lim : Limits) where
       ap (λ (c : Bool). cond c (applyRead lim s b (readPlan lim b))
       (record { outcome = plain (standing lim (s .config) (s .table)) 0; state = s }))
       (eq-eqb _ 0 st)
-      ∙ ap (applyRead lim s b) g ∙ ap (λ (o : Outcome). applied lim s o r) j
+      ∙ ap (applyRead lim s b) g ∙ ap (λ (o : Outcome). settled lim s o r) j
 
   -- ---- a state is left as it was, or moved as its run says
   module _ (s : Terminal) (P : Terminal → Type 0) (stay : P s) where
-    applied-keeps : (o : Outcome) (r : Run) → P (moved lim s r) → P (applied lim s o r .state)
-    unfolding applied either
+    applied-keeps : (o : Outcome) (r : Run) → P (moved lim s r) → P (settled lim s o r .state)
+    unfolding settled either
     applied-keeps o r move = by (eqb (o .number) 0)
       where
         by : (c : Bool) → P (either s o r c .state)

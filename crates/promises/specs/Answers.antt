@@ -145,14 +145,14 @@ abbrev pub noAsk : Request
 noAsk = record { zone = 0; kind = NoRequest }
 
 -- the number of request i, at the table that the requests before it leave
-abbrev pub numberOf : Limits → Configuration → List Zone → List Request → ℕ → ℕ
-numberOf l c t qs i = refusal l c (runs (next l c) t (take i qs)) (getD qs i noAsk)
+abbrev pub numberAt : Limits → Configuration → List Zone → List Request → ℕ → ℕ
+numberAt l c t qs i = refusal l c (runs (next l c) t (take i qs)) (getD qs i noAsk)
 
 -- all are accepted, and the place is their number; or request i is the first that is refused, and the place is i
 pub data Ends (l : Limits) (c : Configuration) (t : List Zone) (qs : List Request) : Outcome → Type 0 where
-  allAccepted : ((j : ℕ) → j < length qs → numberOf l c t qs j ≡ 0) → Ends l c t qs (plain 0 (length qs))
-  twentySeven : (i : ℕ) → i < length qs → ((j : ℕ) → j < i → numberOf l c t qs j ≡ 0) → (numberOf l c t qs i ≡ 0 → ⊥)
-      → Ends l c t qs (record { number = 27; place = i; inner = numberOf l c t qs i })
+  allAccepted : ((j : ℕ) → j < length qs → numberAt l c t qs j ≡ 0) → Ends l c t qs (plain 0 (length qs))
+  twentySeven : (i : ℕ) → i < length qs → ((j : ℕ) → j < i → numberAt l c t qs j ≡ 0) → (numberAt l c t qs i ≡ 0 → ⊥)
+      → Ends l c t qs (record { number = 27; place = i; inner = numberAt l c t qs i })
 
 -- from outside
 abbrev pub RunAnswerIsExact : Limits → Type 0

@@ -10,7 +10,7 @@ use Rattle.lists.specs.Rules.{firstRule}
 use Rattle.lists.specs.Tests.{allOf}
 use Rattle.formats.specs.Formats.{when, then, readNumber, readBoth, writeBoth, startAt, readAs, readMany, writeMany, readHeaded, readCount, within, writeHeaded, atEnd, readFile}
 use Rattle.rules.specs.Addresses.{overlaps}
-use Rattle.rules.specs.Applying.{sameList, sameZone, sameConfig, judgedRules, judged, moved, applied, applyRead, apply}
+use Rattle.rules.specs.Applying.{sameList, sameZone, sameConfig, judgedRules, judged, moved, settled, applyRead, apply}
 use Rattle.rules.specs.Changes.{setAt, withSide, putSet, added, pushed, cut, dropped}
 use Rattle.rules.specs.Configuration.{gicOf, configOf, positionRules, checkRules, check, isSound}
 use Rattle.rules.specs.Limits.{pageOf}
@@ -62,6 +62,6 @@ unfolding encode writeBoth writeMany writeHeaded bytesOf
 writingParts = tt
 
 unfoldable pub applyingParts : Unit {0}
-unfolding tableParts requestParts readingParts apply applyRead applied moved judged judgedRules sameConfig sameZone
+unfolding tableParts requestParts readingParts apply applyRead settled moved judged judgedRules sameConfig sameZone
     sameList runFrom ended
 applyingParts = tt

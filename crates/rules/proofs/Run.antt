@@ -17,8 +17,8 @@ use Rattle.rules.specs.declared.Request.{Request}
 
 module _ (l : Limits) (c : Configuration) (d : Request) where
   -- the number of request i, at the table that the requests before it leave
-  abbrev pub numberOf : List Zone → List Request → ℕ → ℕ
-  numberOf t qs i = refusal l c (runs (next l c) t (take i qs)) (getD qs i d)
+  abbrev pub answerTo : List Zone → List Request → ℕ → ℕ
+  answerTo t qs i = refusal l c (runs (next l c) t (take i qs)) (getD qs i d)
 
   -- the first request is accepted; it is refused
   module _ (k : ℕ) (t : List Zone) (q : Request) (qs : List Request) where
@@ -38,7 +38,7 @@ module _ (l : Limits) (c : Configuration) (d : Request) where
         (ne-eqb (refusal l c t q) 0 ne)
 
   -- all are accepted
-  pub run-all : (k : ℕ) (t : List Zone) (qs : List Request) → ((j : ℕ) → j < length qs → numberOf t qs j ≡ 0)
+  pub run-all : (k : ℕ) (t : List Zone) (qs : List Request) → ((j : ℕ) → j < length qs → answerTo t qs j ≡ 0)
       → runFrom l c k t qs ≡ record { place = k + length qs; inner = 0; table = runs (next l c) t qs }
   unfolding runFrom runs
   run-all k t [] f = let e : k ≡ k + 0 = omega arith in (λ i. record { place = e i; inner = 0; table = t })
@@ -49,8 +49,8 @@ module _ (l : Limits) (c : Configuration) (d : Request) where
 
   -- request i is the first that is refused
   pub run-stops : (k : ℕ) (t : List Zone) (qs : List Request) (i : ℕ) → i < length qs
-      → ((j : ℕ) → j < i → numberOf t qs j ≡ 0) → (numberOf t qs i ≡ 0 → ⊥)
-      → runFrom l c k t qs ≡ record { place = k + i; inner = numberOf t qs i; table = runs (next l c) t (take i qs) }
+      → ((j : ℕ) → j < i → answerTo t qs j ≡ 0) → (answerTo t qs i ≡ 0 → ⊥)
+      → runFrom l c k t qs ≡ record { place = k + i; inner = answerTo t qs i; table = runs (next l c) t (take i qs) }
   unfolding runs
   run-stops k t [] i h f ne = absurd (omega arith)
   run-stops k t (q ∷ qs) zero h f ne = let e : k ≡ k + 0 = omega arith in stops-here k t q qs ne ∙ (λ i. record { place = e i; inner = refusal l c t q; table = t })
@@ -58,4 +58,4 @@ module _ (l : Limits) (c : Configuration) (d : Request) where
       let e : suc k + i ≡ k + suc i = omega arith in
       goes-on k t q qs (f 0 (omega arith))
       ∙ run-stops (suc k) (next l c t q) qs i (omega arith) (λ j m. f (suc j) (omega arith)) ne
-      ∙ (λ x. record { place = e x; inner = numberOf (next l c t q) qs i; table = runs (next l c) (next l c t q) (take i qs) })
+      ∙ (λ x. record { place = e x; inner = answerTo (next l c t q) qs i; table = runs (next l c) (next l c t q) (take i qs) })

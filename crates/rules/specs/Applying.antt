@@ -80,12 +80,12 @@ pub record Applied : Type 0 where
 unfoldable pub moved : Limits → Terminal → Run → Terminal
 moved l s r = record { config = s .config; table = store l (r .table); edition = s .edition + 1 }
 
-unfoldable pub applied : Limits → Terminal → Outcome → Run → Applied
-applied l s o r = cond (eqb (o .number) 0) (record { outcome = o; state = moved l s r }) (record { outcome = o; state = s })
+unfoldable pub settled : Limits → Terminal → Outcome → Run → Applied
+settled l s o r = cond (eqb (o .number) 0) (record { outcome = o; state = moved l s r }) (record { outcome = o; state = s })
 
 unfoldable pub applyRead : Limits → Terminal → List ℕ → Out Plan → Applied
 applyRead l s b (bad k left) = record { outcome = plain k (length b - length left); state = s }
-applyRead l s b (got p left) = let r : Run = run l (configOf (s .config)) (tableOf (s .table)) (requestsOf p) in applied l s (judged s p r) r
+applyRead l s b (got p left) = let r : Run = run l (configOf (s .config)) (tableOf (s .table)) (requestsOf p) in settled l s (judged s p r) r
 
 -- 1 and 2 speak of the terminal's own state, before any byte is read
 unfoldable pub apply : Limits → Terminal → List ℕ → Applied

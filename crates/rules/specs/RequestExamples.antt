@@ -114,8 +114,8 @@ q at t = (q, t)
 abbrev pub Numbered : Type 0
 Numbered = (Request × List Zone) × ℕ
 
-abbrev pub numberOf : Request × List Zone → ℕ
-numberOf e = refusal limits model (e .1) (e .0)
+abbrev pub answerTo : Request × List Zone → ℕ
+answerTo e = refusal limits model (e .1) (e .0)
 
 -- ---- the order of each kind: for each of its numbers a request that earns it with all later ones that it can be
 -- earned with, and the first is the answer
@@ -136,7 +136,7 @@ Earning = (Request × List Zone) × List ℕ
 
 -- each request earns the numbers that stand beside it, and is answered with the first of them, or with 0
 abbrev pub FirstOf : List Earning → Type 0
-FirstOf xs = Shows earnedBy xs × Shows numberOf (map (λ (x : Earning). x .0 gives getD (x .1) 0 0) xs)
+FirstOf xs = Shows earnedBy xs × Shows answerTo (map (λ (x : Earning). x .0 gives getD (x .1) 0 0) xs)
 
 -- add zone: 3, 4, 5, 7. No sound table has a zone above the highest id, so there 4 and 5 are never earned together: the
 -- third line shows the rules alone
@@ -234,7 +234,7 @@ abbrev pub gicOverlaps : List Numbered
 gicOverlaps = insert Iommu theGic 5 at crowdBeside Cpu gives 0 ∷ insert Iommu theGic 5 at iommuOnly gives 15 ∷ []
 
 abbrev pub OverlapsShown : Type 0
-OverlapsShown = Shows numberOf cpuOverlaps × Shows numberOf iommuOverlaps × Shows numberOf gicOverlaps
+OverlapsShown = Shows answerTo cpuOverlaps × Shows answerTo iommuOverlaps × Shows answerTo gicOverlaps
 
 -- ---- the document's limits, a second time: whoever changes one in Limits changes it here
 -- each number of a region is a multiple of 4,096, and its size is above 0; a region of one page is merely unknown
@@ -276,7 +276,7 @@ LimitsShown =
     × Shows (insertedIn5 Iommu) ofAPage
     × Shows (insertedIn5 Cpu) inTheReaches
     × Shows (insertedIn5 Iommu) inTheReaches
-    × Shows numberOf ofIds
+    × Shows answerTo ofIds
     × (answers limits model [] (map addZone (places 0 9)) ≡ replicate 8 0 ++ 7 ∷ [])
     × (answers limits model deskZones (blocksTo5 Cpu) ≡ replicate 16 0 ++ 16 ∷ [])
     × (answers limits model deskZones (blocksTo5 Iommu) ≡ replicate 16 0 ++ 16 ∷ [])
@@ -357,8 +357,8 @@ refusedKinds =
 
 abbrev pub KindsShown : Type 0
 KindsShown =
-    Shows numberOf noKinds
-    × Shows numberOf noIds
+    Shows answerTo noKinds
+    × Shows answerTo noIds
     × Shows tableAfter zoneKinds
     × Shows tableAfter cpuInserts
     × Shows tableAfter cpuCuts

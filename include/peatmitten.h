@@ -55,9 +55,9 @@ enum { PEATMITTEN_STACK = 65536 };
  *
  * A region is three words: v, its guest (virtual) start; p, its physical start; its size in bytes. All are multiples of 4,096.
  *
- * A configuration is 194 words: how many regions it has, the position of the GIC's region among them (from 0), then 64 regions.
- * A table is 793 words: how many zones it has, then 8 zones of 99 words: the id, how many CPU regions, 16 regions, how many IOMMU
- * regions, 16 regions. Regions and zones past their count are all zero.
+ * A configuration is how many regions it has, the position of the GIC's region among them (from 0), then PEATMITTEN_MOST_REGIONS regions.
+ * A table is how many zones it has, then PEATMITTEN_MOST_ZONES zones: the id, how many CPU regions, PEATMITTEN_MOST_IN_SET regions, how
+ * many IOMMU regions, as many regions again. Regions and zones past their count are all zero.
  */
 enum {
     PEATMITTEN_REGION_WORDS = 3,
@@ -90,13 +90,11 @@ typedef struct peatmitten_outcome {
     uint32_t inner;  /* on 27 why that request is refused, else 0 */
 } peatmitten_outcome;
 
-PEATMITTEN_ASSERT(PEATMITTEN_CONFIG_WORDS == 194, "a configuration is 194 words");
-PEATMITTEN_ASSERT(PEATMITTEN_ZONE_WORDS == 99, "a zone is 99 words");
-PEATMITTEN_ASSERT(PEATMITTEN_TABLE_WORDS == 793, "a table is 793 words");
 PEATMITTEN_ASSERT(offsetof(peatmitten_state, config) == 0, "the configuration stands first");
-PEATMITTEN_ASSERT(offsetof(peatmitten_state, table) == 1552, "the table stands after the configuration");
-PEATMITTEN_ASSERT(offsetof(peatmitten_state, edition) == 7896, "the edition stands after the table");
-PEATMITTEN_ASSERT(sizeof(peatmitten_state) == 7904, "a state is 7,904 bytes, the last 4 of them padding");
+PEATMITTEN_ASSERT(offsetof(peatmitten_state, table) == 8 * PEATMITTEN_CONFIG_WORDS, "the table stands after the configuration");
+PEATMITTEN_ASSERT(offsetof(peatmitten_state, edition) == 8 * (PEATMITTEN_CONFIG_WORDS + PEATMITTEN_TABLE_WORDS),
+                  "the edition stands after the table");
+PEATMITTEN_ASSERT(sizeof(peatmitten_state) == offsetof(peatmitten_state, edition) + 8, "the last 4 bytes of a state are padding");
 PEATMITTEN_ASSERT(offsetof(peatmitten_outcome, place) == 8, "the place stands after the number");
 PEATMITTEN_ASSERT(offsetof(peatmitten_outcome, inner) == 16, "the inner number stands after the place");
 PEATMITTEN_ASSERT(sizeof(peatmitten_outcome) == 24, "an outcome is 24 bytes");
@@ -124,7 +122,7 @@ static uint64_t (*const peatmitten_layout_needed)(uint32_t) __attribute__((used)
 /* What peatmitten_check_config answers: the first fault, C1 to C6. C4 to C6 are looked for position by position. */
 enum peatmitten_config_fault {
     PEATMITTEN_CONFIG_SOUND = 0,
-    PEATMITTEN_C1_COUNT = 1,    /* no region, or more than 64 */
+    PEATMITTEN_C1_COUNT = 1,    /* no region, or more than PEATMITTEN_MOST_REGIONS */
     PEATMITTEN_C2_GIC = 2,      /* the GIC's position is not below the count */
     PEATMITTEN_C3_NOT_ZERO = 3, /* a region past the count is not all zero */
     PEATMITTEN_C4_FORM = 4,     /* the size is 0, or a number is no multiple of 4,096 */
@@ -154,7 +152,7 @@ enum peatmitten_answer {
     PEATMITTEN_ZONE_ID_TOO_HIGH = 4,  /* the zone id is above 255 */
     PEATMITTEN_ZONE_THERE = 5,        /* the zone is already there */
     PEATMITTEN_NO_ZONE = 6,           /* there is no such zone */
-    PEATMITTEN_ZONES_FULL = 7,        /* eight zones are in use */
+    PEATMITTEN_ZONES_FULL = 7,        /* all zones of the table are in use */
     PEATMITTEN_ZONE_IN_USE = 8,       /* either set of the zone holds a region */
     PEATMITTEN_FORM = 9,              /* the region is not well formed */
     PEATMITTEN_REACH = 10,            /* the region is out of reach */
@@ -163,7 +161,7 @@ enum peatmitten_answer {
     PEATMITTEN_REGION_THERE = 13,     /* the region is already in that set */
     PEATMITTEN_PHYSICAL_OVERLAP = 14, /* a forbidden physical overlap */
     PEATMITTEN_GUEST_OVERLAP = 15,    /* an overlap in guest addresses within that set */
-    PEATMITTEN_SET_FULL = 16,         /* sixteen regions are in that set */
+    PEATMITTEN_SET_FULL = 16,         /* that set has as many regions as it can */
     PEATMITTEN_NO_REGION = 17,        /* the region is not in that set */
     PEATMITTEN_NOT_COVERED = 18,      /* (translation) no region covers the address */
     PEATMITTEN_CUT = 20,              /* (plan) a field is not wholly there; place: its offset */

@@ -26,7 +26,7 @@ static inline const char *peatmitten_words(uint32_t number)
     case PEATMITTEN_NO_ZONE:
         return "there is no such zone";
     case PEATMITTEN_ZONES_FULL:
-        return "eight zones are in use";
+        return "all zones of the table are in use";
     case PEATMITTEN_ZONE_IN_USE:
         return "the zone still holds a region, in its CPU set or in its IOMMU set";
     case PEATMITTEN_FORM:
@@ -45,7 +45,7 @@ static inline const char *peatmitten_words(uint32_t number)
     case PEATMITTEN_GUEST_OVERLAP:
         return "the region overlaps another one of that set in guest addresses";
     case PEATMITTEN_SET_FULL:
-        return "sixteen regions are in that set";
+        return "that set has as many regions as it can";
     case PEATMITTEN_NO_REGION:
         return "the region is not in that set";
     case PEATMITTEN_NOT_COVERED:
@@ -78,7 +78,7 @@ static inline const char *peatmitten_config_words(uint32_t fault)
     case PEATMITTEN_CONFIG_SOUND:
         return "the configuration is sound";
     case PEATMITTEN_C1_COUNT:
-        return "there is no region, or there are more than 64";
+        return "there is no region, or there are more than a configuration can have";
     case PEATMITTEN_C2_GIC:
         return "the GIC's position is not below the count of regions";
     case PEATMITTEN_C3_NOT_ZERO:

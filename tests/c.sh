@@ -48,7 +48,7 @@ run_cases() {
     expect_error "apply_plan: cannot read $work: Is a directory" "$program" -s "$work" "$plans/first.plan"
     expect_error "apply_plan: cannot open $work/none/state.new: No such file or directory" \
         "$program" -s "$work/none/state" "$plans/first.plan"
-    expect_error "apply_plan: $plans/first.plan is no state file: a state has 7904 bytes" \
+    expect_error "apply_plan: $plans/first.plan is no state file: a state has $(stat -c %s "$state") bytes" \
         "$program" -s "$plans/first.plan" "$plans/first.plan"
     expect_error 'usage: apply_plan [-s STATE] PLAN...' "$program"
 }
@@ -93,10 +93,10 @@ TEXT
 # A program with the header of another layout must not link.
 check_other_layout() {
     mkdir "$work/other"
-    sed 's/peatmitten_layout_64_/peatmitten_layout_65_/' "$root/include/peatmitten.h" >"$work/other/peatmitten.h"
+    sed 's/peatmitten_layout_[0-9]/&0/' "$root/include/peatmitten.h" >"$work/other/peatmitten.h"
     ! "$CC" -std=c11 -I"$work/other" "$root/examples/c/apply_plan.c" "$ARCHIVE" -o "$work/other/program" 2>"$work/errors" ||
         say_failed "a program with the header of another layout links"
-    grep -q 'undefined reference.*peatmitten_layout_65_' "$work/errors" || say_failed "another layout is refused for another reason"
+    grep -q 'undefined reference.*peatmitten_layout_[0-9]0' "$work/errors" || say_failed "another layout is refused for another reason"
 }
 
 check_cpp() {

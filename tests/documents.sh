@@ -1,6 +1,7 @@
 #!/usr/bin/env bash
 # Holds documents against the project. docs/RULES.md: each definition that it names is there, the limits are those of the definitions,
-# and the annotated plan is examples/first.plan. README.md: it lists the functions of the header. Needs no library.
+# and the annotated plan is examples/first.plan. README.md: it lists the functions of the header. Both say how long a plan can be. Needs no
+# library.
 set -euo pipefail
 test_name=documents
 . "$(dirname "$0")/host.sh"
@@ -33,6 +34,19 @@ check_limits() {
     [ "$found" -gt 0 ] || say_failed "docs/RULES.md has no table of limits"
 }
 
+# The shortest and the longest plan, as `SizesShown` has them, are said by both documents.
+check_sizes() {
+    local sizes size document
+    sizes=$(sed -n 's/^SizesShown = (leastSize ≡ \([0-9]*\)) × (longestSize limits ≡ \([0-9]*\))$/\1 \2/p' "$root/crates/rules/specs/Sizes.antt")
+    [ -n "$sizes" ] || say_failed "crates/rules/specs/Sizes.antt does not say how long a plan can be"
+    for document in README.md docs/RULES.md; do
+        for size in $sizes; do
+            size=$(sed ':again; s/\([0-9]\)\([0-9]\{3\}\)\($\|,\)/\1,\2\3/; t again' <<<"$size")
+            grep -Eq "(^|[^0-9,])$size([^0-9,]|,[^0-9]|\$)" "$root/$document" || say_failed "$document does not say that a plan can have $size bytes"
+        done
+    done
+}
+
 # The rows of the annotated plan: each begins where the one before it ends, and together they are the file.
 check_plan() {
     local at bytes all='' stored
@@ -55,6 +69,7 @@ check_functions() {
 
 check_names
 check_limits
+check_sizes
 check_plan
 check_functions
 echo "documents: ok"

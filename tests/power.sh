@@ -65,7 +65,7 @@ stored_edition() {
 }
 
 # The states of editions 0, 1 and 2, from runs without faults. Edition 2 has no zones again, so that of edition 0 differs from it in
-# the edition only, whose lowest byte is at offset 7,896.
+# the edition only: the last 8 bytes of a state are the edition and padding.
 make_states() {
     restart_with none
     run "$first"
@@ -74,7 +74,7 @@ make_states() {
     [ "$status $printed" = "0 0 1 0, edition 2" ] || say_failed "the second plan: status $status, printed '$printed'"
     cp "$state" "$work/edition2"
     cp "$work/edition2" "$work/edition0"
-    printf '\0' | dd of="$work/edition0" bs=1 seek=7896 conv=notrunc status=none
+    printf '\0' | dd of="$work/edition0" bs=1 seek=$(($(stat -c %s "$state") - 8)) conv=notrunc status=none
 }
 
 # What must hold of a run that ended early, however it did. Prints what does not.

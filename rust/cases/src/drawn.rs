@@ -50,8 +50,9 @@ pub fn poke_config(rng: &mut Rng, words: &ConfigWords) -> ConfigWords {
     let of_record = [record + V, record + P, record + P, record + SIZE].repeat(4);
     let at = *rng.pick(&[&[CONFIG_COUNT, CONFIG_GIC], &of_record[..]].concat());
     if at == CONFIG_COUNT || at == CONFIG_GIC {
+        const MOST: u64 = MAX_REGIONS as u64;
         let used = used as u64;
-        return with_word(*words, at, *rng.pick(&[0, 1, used.max(1) - 1, used, used + 1, 64, 65, u64::MAX]));
+        return with_word(*words, at, *rng.pick(&[0, 1, used.max(1) - 1, used, used + 1, MOST, MOST + 1, u64::MAX]));
     }
     let other = config_record(*rng.pick(&places));
     let near = [words[other + at - record], words[other + rng.below(REGION_WORDS)], words[at].wrapping_add(PAGE)];
@@ -140,7 +141,8 @@ pub fn poke_table(rng: &mut Rng, words: &TableWords) -> TableWords {
     let at = *rng.pick(&[&[TABLE_COUNT, zone_id(z), count, TABLE_WORDS - 1], &of_record[..]].concat());
     if at == TABLE_COUNT || at == count {
         let (more, less) = (words[at].wrapping_add(1), words[at].saturating_sub(1));
-        return with_word(*words, at, *rng.pick(&[0, 1, more, less, 8, 9, 16, 17, u64::MAX]));
+        let [zones, in_set] = [MAX_ZONES, MAX_IN_SET].map(|most| most as u64);
+        return with_word(*words, at, *rng.pick(&[0, 1, more, less, zones, zones + 1, in_set, in_set + 1, u64::MAX]));
     }
     if at == zone_id(z) {
         return with_word(*words, at, *rng.pick(&[0, 1, 255, 256, u64::MAX, words[zone_id(0)]]));

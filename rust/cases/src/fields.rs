@@ -2,12 +2,11 @@
 
 use std::ops::RangeInclusive;
 
+use ordinary::layout::{REGION_BYTES, REQUEST_BYTES};
 use ordinary::limits::{MAX_IN_SET, MAX_REGIONS, MAX_REQUESTS, MAX_ZONES};
 use ordinary::{encode, Record, Region, State, Zone};
 
 const NUMBER_BYTES: usize = 4;
-const REGION_BYTES: usize = 24;
-pub const REQUEST_BYTES: usize = 32;
 
 #[derive(Clone, Debug)]
 pub struct Plan {

@@ -1,10 +1,11 @@
 //! Plan files for the program `apply`, each with its answer: every number, and every way in which a file can be damaged.
 
-use ordinary::limits::{MAX_ID, MAX_IN_SET, MAX_REQUESTS, MAX_ZONES, PAGE, REACH};
+use ordinary::layout::REQUEST_BYTES;
+use ordinary::limits::{MAX_ID, MAX_IN_SET, MAX_REGIONS, MAX_REQUESTS, MAX_ZONES, PAGE, REACH};
 use ordinary::{apply_alone, Config, Record, Region, State, Table, Zone};
 
 use crate::case::{Case, Outcome};
-use crate::fields::{Field, Plan, REQUEST_BYTES};
+use crate::fields::{Field, Plan};
 use crate::given::{of_region, of_zone, with_p, with_size, with_v, zone};
 use crate::given::{A, ADD_ZONE, B, C, CPU_INSERT, CPU_REMOVE, G, IOMMU_INSERT, IOMMU_REMOVE, REMOVE_ZONE};
 use crate::rng::Rng;
@@ -143,15 +144,16 @@ pub fn first() -> Plan {
 }
 
 /// All zones in use.
-pub fn eight() -> Plan {
-    let more = [1, 2, 3, 4, 5].map(Zone::empty);
-    rich().with_zones(&[&rich_zones()[..], &more].concat())
+pub fn all_zones() -> Plan {
+    let mut zones = rich_zones().to_vec();
+    zones.extend((1..9).chain(10..).take(MAX_ZONES - 3).map(Zone::empty));
+    rich().with_zones(&zones)
 }
 
 /// A full set.
 fn full() -> Plan {
-    let regions = [rich().base.config.regions, pages(0..17)].concat();
-    rich().with_regions(&regions).with_zones(&[zone(0, &pages(0..16), &[])])
+    let regions = [rich().base.config.regions, pages(0..MAX_IN_SET + 1)].concat();
+    rich().with_regions(&regions).with_zones(&[zone(0, &pages(0..MAX_IN_SET), &[])])
 }
 
 /// Requests that are accepted at the rich plan's base, with all zones in use and with a full set.
@@ -159,23 +161,24 @@ pub fn in_and_out() -> [Record; 2] {
     [of_region(IOMMU_INSERT, 0, C), of_region(IOMMU_REMOVE, 0, C)]
 }
 
-/// The GIC and 63 others.
+/// As many regions as there can be: the GIC and others.
 fn all_regions() -> Vec<Region> {
-    [vec![G], pages(0..63)].concat()
+    [vec![G], pages(0..MAX_REGIONS - 1)].concat()
 }
 
-/// Every count at its limit. 63 regions besides the GIC cannot fill 8 CPU sets of 16 without two zones that share some: 2.
+/// Every count at its limit. There are too few regions to fill all CPU sets without two zones that share some: 2.
 pub fn longest() -> Plan {
-    let held = |z: usize| -> Vec<Region> { (0..MAX_IN_SET).map(|k| page((MAX_IN_SET * z + k) % 63)).collect() };
+    let held = |z: usize| -> Vec<Region> { (0..MAX_IN_SET).map(|k| page((MAX_IN_SET * z + k) % (MAX_REGIONS - 1))).collect() };
     let zones: Vec<Zone> = (0..MAX_ZONES).map(|z| zone(z as u32, &held(z), &held(z))).collect();
     let requests: Vec<Record> = (0..MAX_REQUESTS as u32).map(|n| of_zone(ADD_ZONE, n % 256)).collect();
     least().with_edition(1).with_regions(&all_regions()).with_zones(&zones).with_requests(&requests)
 }
 
-/// 64 regions, each but the GIC on both sides of one zone, the GIC on the IOMMU side of all; every request is accepted.
+/// All regions, each but the GIC on both sides of one zone, the GIC on the IOMMU side of all; every request is accepted.
 pub fn longest_sound() -> Plan {
-    let shares: Vec<Vec<Region>> = (0..MAX_ZONES).map(|z| pages(8 * z..(8 * z + 8).min(63))).collect();
-    let zones: Vec<Zone> = shares.iter().zip(0..).map(|(own, id)| zone(id, own, &[&own[..], &[G]].concat())).collect();
+    let others = pages(0..MAX_REGIONS - 1);
+    let shares: Vec<&[Region]> = others.chunks(others.len().div_ceil(MAX_ZONES)).collect();
+    let zones: Vec<Zone> = shares.iter().zip(0..).map(|(own, id)| zone(id, own, &[*own, &[G]].concat())).collect();
     let mut requests = Vec::new();
     for n in 0..MAX_REQUESTS / 4 {
         let z = n % MAX_ZONES;
@@ -204,7 +207,7 @@ fn lengths(files: &mut PlanFiles) {
     files.add("longest-without-its-last-byte", most[..most.len() - 1].to_vec()).is(20, MOST_LENGTH - REQUEST_BYTES);
     files.add("longest-sound", sound.bytes()).is(0, MAX_REQUESTS);
     let last = MAX_REQUESTS - 1;
-    let last_refused = [&sound.requests[..last], &[of_zone(ADD_ZONE, 8)]].concat();
+    let last_refused = [&sound.requests[..last], &[of_zone(ADD_ZONE, MAX_ZONES as u32)]].concat();
     files.add("longest-sound-last-request-refused", sound.with_requests(&last_refused).bytes()).refused(last, 7);
 }
 
@@ -285,10 +288,12 @@ fn other_counts(count: u32, least: u32, most: u32) -> Vec<(&'static str, u32)> {
 /// As many elements as the limit allows, and one more; all of them are there.
 fn too_many(files: &mut PlanFiles) {
     let wide = least().with_regions(&all_regions());
-    files.add("64-regions", wide.bytes()).is(0, 0);
-    files.add("65-regions", wide.clone().with_regions(&[vec![G], pages(0..64)].concat()).bytes()).is(21, 12);
-    let nine = least().with_zones(&[0, 1, 2, 3, 4, 5, 6, 7, 8].map(Zone::empty));
-    files.add("9-zones", nine.bytes()).is(21, nine.field("zones-count").start);
+    files.add(format!("{MAX_REGIONS}-regions"), wide.bytes()).is(0, 0);
+    let wider = wide.clone().with_regions(&[vec![G], pages(0..MAX_REGIONS)].concat());
+    files.add(format!("{}-regions", MAX_REGIONS + 1), wider.bytes()).is(21, 12);
+    let (zones, ids) = (MAX_ZONES + 1, 0..=MAX_ZONES as u32);
+    let crowded = least().with_zones(&ids.map(Zone::empty).collect::<Vec<_>>());
+    files.add(format!("{zones}-zones"), crowded.bytes()).is(21, crowded.field("zones-count").start);
     for (count, is_in_range) in [(MAX_IN_SET, true), (MAX_IN_SET + 1, false)] {
         let held = pages(0..count);
         for (side, zones) in [("cpu", [zone(5, &held, &[])]), ("iommu", [zone(5, &[], &held)])] {
@@ -394,7 +399,7 @@ fn refusals_at_places(files: &mut PlanFiles) {
         (4, rich(), of_zone(ADD_ZONE, MAX_ID + 1)),
         (5, rich(), of_zone(ADD_ZONE, 200)),
         (6, rich(), of_region(CPU_REMOVE, 8, A)),
-        (7, eight(), of_zone(ADD_ZONE, 100)),
+        (7, all_zones(), of_zone(ADD_ZONE, 100)),
         (8, rich(), of_zone(REMOVE_ZONE, 200)),
         (9, rich(), of_region(CPU_INSERT, 0, with_size(C, 0x1800))),
         (10, rich(), of_region(IOMMU_INSERT, 0, Region::new(0, LAST_PAGE, 2 * PAGE))),
@@ -403,7 +408,7 @@ fn refusals_at_places(files: &mut PlanFiles) {
         (13, rich(), of_region(CPU_INSERT, 9, A)),
         (14, rich(), of_region(IOMMU_INSERT, 0, A)),
         (15, rich(), of_region(CPU_INSERT, 9, C)),
-        (16, full(), of_region(CPU_INSERT, 0, page(16))),
+        (16, full(), of_region(CPU_INSERT, 0, page(MAX_IN_SET))),
         (17, rich(), of_region(IOMMU_REMOVE, 200, B)),
     ] {
         for (name, place) in [("first", 0), ("middle", 2), ("last", 4)] {
@@ -440,21 +445,22 @@ fn requests_as_bytes(files: &mut PlanFiles) {
 
 /// Requests that find what the earlier ones of the plan left.
 fn requests_in_turn(files: &mut PlanFiles) {
-    let add: Vec<Record> = (0..9).map(|id| of_zone(ADD_ZONE, id)).collect();
+    let add: Vec<Record> = (0..=MAX_ZONES as u32).map(|id| of_zone(ADD_ZONE, id)).collect();
     let remove = |id: u32| of_zone(REMOVE_ZONE, id);
     let c_to = |id: u32| of_region(CPU_INSERT, id, C);
     let [c_in, c_out] = in_and_out();
     let a_out = of_region(CPU_REMOVE, 9, A);
     let b_for_c = [of_region(CPU_REMOVE, 200, B), c_to(200)];
     let emptied = [a_out, of_region(CPU_REMOVE, 9, H), of_region(IOMMU_REMOVE, 9, A), of_region(IOMMU_REMOVE, 9, G)];
-    let seventeen: Vec<Record> = pages(0..17).into_iter().map(|page| of_region(IOMMU_INSERT, 0, page)).collect();
+    let used_again = [&add[..MAX_ZONES], &[remove(3), add[MAX_ZONES]]].concat();
+    let one_too_many: Vec<Record> = pages(0..MAX_IN_SET + 1).into_iter().map(|page| of_region(IOMMU_INSERT, 0, page)).collect();
     for (name, base, requests, number, place, inner) in [
         ("zone-added-twice", least(), vec![add[5], add[5]], 27, 1, 5),
         ("zone-removed-then-used", rich(), vec![remove(0), c_to(0)], 27, 1, 6),
         ("zone-removed-then-added", rich(), vec![remove(0), add[0], c_to(0)], 0, 3, 0),
-        ("eight-zones-added", least(), add[..8].to_vec(), 0, 8, 0),
-        ("nine-zones-added", least(), add.clone(), 27, 8, 7),
-        ("ninth-zone-after-one-is-removed", least(), [&add[..8], &[remove(3), add[8]]].concat(), 0, 10, 0),
+        ("eight-zones-added", least(), add[..MAX_ZONES].to_vec(), 0, MAX_ZONES, 0),
+        ("nine-zones-added", least(), add.clone(), 27, MAX_ZONES, 7),
+        ("ninth-zone-after-one-is-removed", least(), used_again, 0, MAX_ZONES + 2, 0),
         ("zone-filled-then-removed", rich(), vec![c_in, remove(0)], 27, 1, 8),
         ("zone-emptied-then-removed", rich(), [&emptied[..], &[remove(9)]].concat(), 0, 5, 0),
         ("region-inserted-twice", rich(), vec![c_in, c_in], 27, 1, 13),
@@ -462,7 +468,7 @@ fn requests_in_turn(files: &mut PlanFiles) {
         ("region-moved-to-another-zone", rich(), vec![of_region(CPU_REMOVE, 9, H), of_region(CPU_INSERT, 0, H)], 0, 2, 0),
         ("region-inserted-where-another-was", rich(), b_for_c.to_vec(), 0, 2, 0),
         ("guest-overlap-of-two-inserts", rich(), [&b_for_c[..], &[of_region(CPU_INSERT, 200, B)]].concat(), 27, 2, 15),
-        ("set-filled-then-one-more", full(), seventeen, 27, 16, 16),
+        ("set-filled-then-one-more", full(), one_too_many, 27, MAX_IN_SET, 16),
         ("region-removed-twice", rich(), vec![a_out, a_out], 27, 1, 17),
         ("two-requests-refused", rich(), vec![c_in, c_out, of_zone(ADD_ZONE, 9), of_zone(0, 0)], 27, 2, 5),
         ("gic-given-to-every-zone", rich(), vec![of_region(IOMMU_INSERT, 0, G)], 0, 1, 0),

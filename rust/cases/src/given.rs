@@ -1,5 +1,6 @@
 //! What many cases are made from: the document's regions, and short ways to write words, zones and requests.
 
+use ordinary::limits::MAX_ZONES;
 use ordinary::{Config, ConfigWords, Record, Region, Table, TableWords, Zone};
 
 // The desk's regions; G is the GIC's.
@@ -41,6 +42,11 @@ pub fn held_words(zones: &[Held], region: fn(u64) -> Region) -> TableWords {
     let regions = |positions: &[u64]| positions.iter().map(|&k| region(k)).collect::<Vec<_>>();
     let zones: Vec<Zone> = zones.iter().map(|(id, cpu, iommu)| zone(*id, &regions(cpu), &regions(iommu))).collect();
     table_words(&zones)
+}
+
+/// As many zones as there can be, with ids from 0 on, all of them empty.
+pub fn all_empty() -> Vec<Zone> {
+    (0..MAX_ZONES as u32).map(Zone::empty).collect()
 }
 
 /// A request for a whole zone, or one whose region is zero.

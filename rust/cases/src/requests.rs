@@ -1,12 +1,14 @@
 //! Cases for requests: each number, each two numbers that can apply at once, what a request does to the table, and random runs.
 
 use ordinary::layout::{config_record, zone_id, CONFIG_GIC};
-use ordinary::limits::{MAX_ID, MAX_IN_SET, PAGE, REACH};
+use ordinary::limits::{MAX_ID, MAX_IN_SET, MAX_ZONES, PAGE, REACH};
 use ordinary::{ConfigWords, Record, Region, TableWords, Zone};
 
 use crate::book::Book;
 use crate::drawn::{poke_config, poke_table, sound_config};
-use crate::given::{config_words, held_words, of_region, of_zone, table_words, with_p, with_size, with_v, with_word, Held, P};
+use crate::given::{
+    all_empty, config_words, held_words, of_region, of_zone, table_words, with_p, with_size, with_v, with_word, zone, Held, P,
+};
 use crate::given::{A, ADD_ZONE, B, C, CPU_INSERT, CPU_REMOVE, G, IOMMU_INSERT, IOMMU_REMOVE, REMOVE_ZONE};
 use crate::rng::Rng;
 
@@ -69,8 +71,9 @@ fn base() -> TableWords {
     table(&[FIVE, SIX])
 }
 
-fn eight() -> TableWords {
-    table(&[0, 1, 2, 3, 4, 5, 6, 7].map(|id| (id, &[][..], &[][..])))
+/// All zones in use, with ids from 0 on.
+fn all() -> TableWords {
+    table_words(&all_empty())
 }
 
 fn ask(book: &mut Book, words: TableWords, name: &str, request: Record) {
@@ -134,20 +137,18 @@ fn desk(book: &mut Book) {
 }
 
 fn desk_zones(book: &mut Book) {
-    in_turn(
-        book,
-        &[
-            ("add 10", 0, of_zone(ADD_ZONE, 10)),
-            ("add 11", 0, of_zone(ADD_ZONE, 11)),
-            ("add 12", 0, of_zone(ADD_ZONE, 12)),
-            ("add 13", 0, of_zone(ADD_ZONE, 13)),
-            ("add 14", 0, of_zone(ADD_ZONE, 14)),
-            ("add 15", 0, of_zone(ADD_ZONE, 15)),
-            ("ninth zone", 7, of_zone(ADD_ZONE, 16)),
-            ("remove an empty one", 0, of_zone(REMOVE_ZONE, 12)),
-            ("ninth zone again", 0, of_zone(ADD_ZONE, 16)),
-        ],
-    );
+    in_turn(book, &[]);
+    let next = 10 + MAX_ZONES as u32 - 2;
+    for id in 10..next {
+        book.ask_request(format!("add {id}"), of_zone(ADD_ZONE, id)).known(0);
+    }
+    for (name, number, request) in [
+        ("a zone too many", 7, of_zone(ADD_ZONE, next)),
+        ("remove an empty one", 0, of_zone(REMOVE_ZONE, 12)),
+        ("the same zone again", 0, of_zone(ADD_ZONE, next)),
+    ] {
+        book.ask_request(name, request).known(number);
+    }
 }
 
 fn desk_regions(book: &mut Book) {
@@ -246,12 +247,13 @@ fn zones(book: &mut Book) {
     ask(book, table(&[(5, &[], &[])]), "remove the only zone", of_zone(REMOVE_ZONE, 5));
     ask(book, table(&[]), "remove 0, no zone", of_zone(REMOVE_ZONE, 0));
     ask(book, table(&[]), "insert into 0, no zone", of_region(CPU_INSERT, 0, region(1)));
-    ask(book, eight(), "ninth zone", of_zone(ADD_ZONE, 8));
-    ask(book, eight(), "ninth zone, id 256", of_zone(ADD_ZONE, 256));
-    ask(book, eight(), "ninth zone with a region", of_region(ADD_ZONE, 8, region(9)));
-    ask(book, eight(), "first id again, eight zones", of_zone(ADD_ZONE, 0));
-    ask(book, eight(), "last id again, eight zones", of_zone(ADD_ZONE, 7));
-    ask(book, eight(), "remove an empty zone with a region", of_region(REMOVE_ZONE, 0, region(9)));
+    let next = MAX_ZONES as u32;
+    ask(book, all(), "a zone too many", of_zone(ADD_ZONE, next));
+    ask(book, all(), "a zone too many, id 256", of_zone(ADD_ZONE, 256));
+    ask(book, all(), "a zone too many with a region", of_region(ADD_ZONE, next, region(9)));
+    ask(book, all(), "first id again, all zones in use", of_zone(ADD_ZONE, 0));
+    ask(book, all(), "last id again, all zones in use", of_zone(ADD_ZONE, next - 1));
+    ask(book, all(), "remove an empty zone with a region", of_region(REMOVE_ZONE, 0, region(9)));
 }
 
 // ---- insertions
@@ -394,9 +396,9 @@ fn removals(book: &mut Book) {
 
 // ---- order kept, and room used again: one request after another
 
-/// Eight zones, some empty; zones go from the front, the middle and the end, and others come.
+/// All zones in use, most of them empty; zones go from the front, the middle and the end, and others come.
 fn zones_in_order(book: &mut Book) {
-    let zones: [Held; 8] = [
+    let mut zones: Vec<Held> = vec![
         (10, &[], &[]),
         (11, &[1], &[0]),
         (12, &[], &[]),
@@ -406,9 +408,10 @@ fn zones_in_order(book: &mut Book) {
         (16, &[6], &[0, 7]),
         (17, &[], &[]),
     ];
+    zones.extend((100..).take(MAX_ZONES - zones.len()).map(|id| (id, &[][..], &[][..])));
     book.change_to(config(), table(&zones));
     for (name, kind, id) in [
-        ("eight zones, add 20", ADD_ZONE, 20),
+        ("all zones in use, add 20", ADD_ZONE, 20),
         ("remove the first", REMOVE_ZONE, 10),
         ("add 20", ADD_ZONE, 20),
         ("add 21", ADD_ZONE, 21),

@@ -5,7 +5,7 @@ use ordinary::limits::{MAX_IN_SET, MAX_REGIONS, MAX_ZONES, PAGE};
 use ordinary::{ConfigWords, Region, Side, TableWords, Zone, TABLE_WORDS};
 
 use crate::book::Book;
-use crate::given::{config_words, held_words, table_words, with_size, with_word, zone, Held, A, B, C, G, P, SIZE, V};
+use crate::given::{all_empty, config_words, held_words, table_words, with_size, with_word, zone, Held, A, B, C, G, P, SIZE, V};
 use crate::rng::Rng;
 
 pub fn add(book: &mut Book) {
@@ -57,8 +57,9 @@ fn configurations(book: &mut Book) {
     ask(book, "no zone", none);
     book.ask_table("no zone, 0 configured", with_word(config, CONFIG_COUNT, 0), none);
     ask(book, "two zones with regions", base());
-    book.ask_table("65 configured", with_word(config, CONFIG_COUNT, 65), base());
-    book.ask_table("GIC at the count", with_word(config, CONFIG_GIC, 64), base());
+    let most = MAX_REGIONS as u64;
+    book.ask_table(format!("{} configured", most + 1), with_word(config, CONFIG_COUNT, most + 1), base());
+    book.ask_table("GIC at the count", with_word(config, CONFIG_GIC, most), base());
     book.ask_table("two configured regions overlap", with_word(config, config_record(9) + P, region(8).p.0), base());
     book.ask_table("another GIC, which a CPU set holds", with_word(config, CONFIG_GIC, 2), base());
     book.ask_table("another GIC, and 0 in two zones", with_word(config, CONFIG_GIC, 9), base());
@@ -66,19 +67,20 @@ fn configurations(book: &mut Book) {
 }
 
 fn counts(book: &mut Book) {
-    let eight = table(&[0, 1, 2, 3, 4, 5, 6, 7].map(|id| (id, &[][..], &[][..])));
-    ask(book, "9 zones counted", with_word(eight, TABLE_COUNT, 9));
-    ask(book, "2^32 + 8 zones counted", with_word(eight, TABLE_COUNT, (1 << 32) + 8));
-    ask(book, "2^64 - 1 zones counted", with_word(eight, TABLE_COUNT, u64::MAX));
-    ask(book, "8 zones counted", eight);
-    let (low, high): (Vec<u64>, Vec<u64>) = ((1..17).collect(), (17..33).collect());
-    let sixteen = table(&[(1, &low, &high)]);
+    let (zones, all) = (MAX_ZONES as u64, table_words(&all_empty()));
+    ask(book, &format!("{} zones counted", zones + 1), with_word(all, TABLE_COUNT, zones + 1));
+    ask(book, &format!("2^32 + {zones} zones counted"), with_word(all, TABLE_COUNT, (1 << 32) + zones));
+    ask(book, "2^64 - 1 zones counted", with_word(all, TABLE_COUNT, u64::MAX));
+    ask(book, &format!("{zones} zones counted"), all);
+    let most = MAX_IN_SET as u64;
+    let (low, high): (Vec<u64>, Vec<u64>) = ((1..1 + most).collect(), (1 + most..1 + 2 * most).collect());
+    let full = table(&[(1, &low, &high)]);
     for (side, name) in [(Side::Cpu, "CPU"), (Side::Iommu, "IOMMU")] {
-        for (count, text) in [(17, "17"), (1 << 32, "2^32"), (u64::MAX, "2^64 - 1")] {
-            ask(book, &format!("{text} regions counted, {name}"), with_word(sixteen, set_count(0, side), count));
+        for (count, text) in [(most + 1, &*(most + 1).to_string()), (1 << 32, "2^32"), (u64::MAX, "2^64 - 1")] {
+            ask(book, &format!("{text} regions counted, {name}"), with_word(full, set_count(0, side), count));
         }
     }
-    ask(book, "16 and 16 regions counted", sixteen);
+    ask(book, &format!("{most} and {most} regions counted"), full);
 }
 
 fn ids(book: &mut Book) {
@@ -167,7 +169,7 @@ fn full(book: &mut Book) {
     ask(book, "3 full zones", table(&three));
     ask(book, "and a fourth with all that is left", with_fourth(&most));
     ask(book, "and the first region again", with_fourth(&[&most[..], &[1]].concat()));
-    ask(book, "8 full zones, some regions shared", full_of_regions());
+    ask(book, &format!("{MAX_ZONES} full zones, some regions shared"), full_of_regions());
 }
 
 fn full_of_regions() -> TableWords {

@@ -1,13 +1,13 @@
 //! Cases for plans at a terminal: each number, the order of the numbers, the state afterwards, and random runs.
 
 use ordinary::layout::{config_record, set_record, zone_id, CONFIG_COUNT, CONFIG_GIC, TABLE_COUNT};
-use ordinary::limits::{MAX_ID, PAGE};
+use ordinary::limits::{MAX_ID, MAX_REGIONS, MAX_ZONES, PAGE};
 use ordinary::{Config, Record, Region, Side, State, Table, Zone, CONFIG_WORDS, TABLE_WORDS};
 
 use crate::book::Book;
 use crate::drawn::{poke_config, poke_table, sound_config, sound_zones};
 use crate::fields::Plan;
-use crate::files::{eight, first, flipped, in_and_out, least, longest, longest_sound, page, rich};
+use crate::files::{all_zones, first, flipped, in_and_out, least, longest, longest_sound, page, rich};
 use crate::files::{rich_regions_with, rich_zones, H, LAST_EDITION};
 use crate::given::{of_region, of_zone, table_words, with_p, with_size, with_v, with_word, zone, P};
 use crate::given::{A, ADD_ZONE, B, C, CPU_INSERT, CPU_REMOVE, G, IOMMU_INSERT, IOMMU_REMOVE, REMOVE_ZONE};
@@ -67,13 +67,13 @@ fn unsound(book: &mut Book) {
     for (name, number, config, table) in [
         ("GIC at the count", 1, bad_config, table),
         ("none configured", 1, with_word(config, CONFIG_COUNT, 0), table),
-        ("65 configured", 1, with_word(config, CONFIG_COUNT, 65), table),
+        ("a region too many counted", 1, with_word(config, CONFIG_COUNT, MAX_REGIONS as u64 + 1), table),
         ("a record past the count", 1, with_word(config, config_record(9) + P, PAGE), table),
         ("both unsound", 1, bad_config, bad_table),
         ("id 256", 2, config, bad_table),
-        ("9 zones counted", 2, config, with_word(table, TABLE_COUNT, 9)),
+        ("a zone too many counted", 2, config, with_word(table, TABLE_COUNT, MAX_ZONES as u64 + 1)),
         ("a region not configured", 2, config, with_word(table, set_record(0, Side::Cpu, 1) + P, PAGE)),
-        ("an unused zone not zero", 2, config, with_word(table, zone_id(7), 1)),
+        ("an unused zone not zero", 2, config, with_word(table, zone_id(MAX_ZONES - 1), 1)),
     ] {
         book.change_to(config, table);
         for (what, bytes) in [
@@ -98,7 +98,7 @@ fn unsound(book: &mut Book) {
 // ---- 20, 21 and 22, whatever base the plan is for
 
 fn unread(book: &mut Book) {
-    for (name, plan) in [("its own plan", rich()), ("another plan", eight().with_gic(0).with_edition(LAST_EDITION))] {
+    for (name, plan) in [("its own plan", rich()), ("another plan", all_zones().with_gic(0).with_edition(LAST_EDITION))] {
         let bytes = plan.bytes();
         let (zones, requests) = (plan.field("zones-count").start, plan.field("requests-count").start);
         for (what, number, damaged) in [
@@ -107,7 +107,7 @@ fn unread(book: &mut Book) {
             ("cut in the zones", 20, bytes[..zones + 40].to_vec()),
             ("cut in the last request", 20, bytes[..bytes.len() - 1].to_vec()),
             ("marks counted 3", 21, [&[3], &bytes[1..]].concat()),
-            ("zones counted 9", 21, [&bytes[..zones], &[9], &bytes[zones + 1..]].concat()),
+            ("a zone too many", 21, [&bytes[..zones], &[MAX_ZONES as u8 + 1], &bytes[zones + 1..]].concat()),
             ("requests counted 2^32 - 1, then cut", 21, [&bytes[..requests], &[0xff; 4]].concat()),
             ("a byte after the end", 22, [&bytes[..], &[0]].concat()),
             ("a second plan after the end", 22, bytes.repeat(2)),
@@ -234,7 +234,7 @@ fn refused(book: &mut Book) {
     book.ask_plan("then the plan without the refused one", rich().bytes()).known(0);
     for (number, base, request) in [
         (3, rich(), of_zone(u32::MAX, 0)),
-        (7, eight(), of_zone(ADD_ZONE, 100)),
+        (7, all_zones(), of_zone(ADD_ZONE, 100)),
         (12, rich(), of_region(CPU_INSERT, 0, G)),
         (14, rich(), of_region(IOMMU_INSERT, 200, A)),
         (17, rich(), of_region(CPU_REMOVE, 200, H)),
@@ -298,9 +298,9 @@ fn empty_plans(book: &mut Book) {
 
 fn long_plans(book: &mut Book) {
     let sound = longest_sound();
-    ask(book, &sound, 0, "1024 requests", sound.clone());
+    ask(book, &sound, 0, "as many requests as there can be", sound.clone());
     let shorter = sound.clone().with_requests(&sound.requests[..1]);
-    book.ask_plan("1024 requests again", shorter.bytes()).known(24);
+    book.ask_plan("the same edition again", shorter.bytes()).known(24);
     ask(book, &sound, 26, "the longest plan", longest());
 }
 

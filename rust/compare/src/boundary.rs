@@ -2,7 +2,7 @@
 
 use cases::Case;
 use ordinary::layout::{config_record, set_count, set_record, zone_id, CONFIG_COUNT, CONFIG_GIC, TABLE_COUNT};
-use ordinary::limits::{PAGE, REACH};
+use ordinary::limits::{MAX_IN_SET, MAX_REGIONS, MAX_REQUESTS, MAX_ZONES, PAGE, REACH};
 use ordinary::{encode, Config, ConfigWords, Record, Region, Side, State, Table, TableWords, Zone, CONFIG_WORDS, TABLE_WORDS};
 
 use crate::random::{EDGES, EDITIONS};
@@ -35,11 +35,12 @@ fn pages(count: u64) -> Config {
     Config { regions, gic: count as usize - 1 }
 }
 
-/// A full configuration and as many regions in eight zones as a sound table can have.
+/// A full configuration and as many regions in all zones as a sound table can have.
 fn full() -> State {
-    let config = pages(64);
-    let gic = config.regions[63];
-    let zones = config.regions[..63].chunks(8).zip(0..).map(|(own, id)| zone(id, own, &[own, &[gic]].concat())).collect();
+    let config = pages(MAX_REGIONS as u64);
+    let (gic, others) = config.regions.split_last().expect("a region");
+    let shares = others.chunks(others.len().div_ceil(MAX_ZONES));
+    let zones = shares.zip(0..).map(|(own, id)| zone(id, own, &[own, &[*gic]].concat())).collect();
     State { config, table: Table { zones }, edition: 0 }
 }
 
@@ -52,9 +53,10 @@ fn sets_of(count: usize) -> State {
     State { config, table: Table { zones }, edition: 0 }
 }
 
-/// So many zones, up to eight, among which 6 is not.
+/// So many zones, among which 6 is not.
 fn table_of(count: usize) -> State {
-    desk(&[0, 5, 7, 8, 9, 10, 255, 254].map(Zone::empty)[..count])
+    let ids = [0, 5, 7, 8, 9, 10, 255, 254].into_iter().chain(11..);
+    desk(&ids.take(count).map(Zone::empty).collect::<Vec<_>>())
 }
 
 /// The states that the cases are made from. All are sound.
@@ -66,10 +68,10 @@ fn states() -> Vec<State> {
         desk(&[zone(5, &[A], &[A, G]), zone(6, &[B], &[G])]),
         desk(&[zone(6, &[C], &[]), zone(5, &[], &[B])]),
         full(),
-        sets_of(15),
-        sets_of(16),
-        table_of(7),
-        table_of(8),
+        sets_of(MAX_IN_SET - 1),
+        sets_of(MAX_IN_SET),
+        table_of(MAX_ZONES - 1),
+        table_of(MAX_ZONES),
     ]
 }
 
@@ -154,7 +156,7 @@ fn table_cases() -> Vec<Case> {
     let mut cases = Vec::new();
     let (cpu, iommu) = (set_count(0, Side::Cpu), set_count(0, Side::Iommu));
     let (first, last) = (set_record(0, Side::Cpu, 0), iommu - 1);
-    let places = [TABLE_COUNT, zone_id(0), cpu, first, last, iommu, zone_id(1), zone_id(7), TABLE_WORDS - 1];
+    let places = [TABLE_COUNT, zone_id(0), cpu, first, last, iommu, zone_id(1), zone_id(MAX_ZONES - 1), TABLE_WORDS - 1];
     for state in states() {
         let (config, table) = (state.config.to_words(), state.table.to_words());
         cases.push(Case::table(config, table));
@@ -169,7 +171,7 @@ fn table_cases() -> Vec<Case> {
 /// Requests of every kind for zones that are there and that are not, with regions of the desk and of the configuration.
 fn requests(state: &State) -> Vec<Record> {
     let mut regions = vec![Region::ZERO, A, B, C, G];
-    let step = if state.config.regions.len() < 64 { 1 } else { 8 };
+    let step = if state.config.regions.len() < MAX_REGIONS { 1 } else { MAX_REGIONS / 8 };
     regions.extend(state.config.regions.iter().step_by(step));
     let mut requests = Vec::new();
     for kind in 1..=6 {
@@ -267,7 +269,7 @@ fn whole_plans() -> Vec<Case> {
     };
     let state = desk(&[zone(5, &[A], &[A, G])]);
     let mut cases = Vec::new();
-    for count in [0, 1, 2, 1023, 1024, 1025] {
+    for count in [0, 1, 2, MAX_REQUESTS - 1, MAX_REQUESTS, MAX_REQUESTS + 1] {
         cases.extend(both(&state, &encode(&state, &add_and_remove(count))));
     }
     for state in states() {
@@ -277,10 +279,18 @@ fn whole_plans() -> Vec<Case> {
         let state = State { edition, ..state.clone() };
         cases.extend(both(&state, &encode(&state, &add_and_remove(1))));
     }
-    for (regions, zones, in_set) in [(64, 8, 16), (65, 8, 16), (64, 9, 16), (64, 8, 17), (0, 0, 0), (1, 0, 0)] {
+    let most = (MAX_REGIONS, MAX_ZONES, MAX_IN_SET);
+    for (regions, zones, in_set) in [
+        most,
+        (MAX_REGIONS + 1, most.1, most.2),
+        (most.0, MAX_ZONES + 1, most.2),
+        (most.0, most.1, MAX_IN_SET + 1),
+        (0, 0, 0),
+        (1, 0, 0),
+    ] {
         let zones = vec![zone(0, &vec![A; in_set], &vec![A; in_set]); zones];
         let base = State { config: Config { regions: vec![A; regions], gic: 0 }, table: Table { zones }, edition: 0 };
-        let plan = encode(&base, &add_and_remove(1024));
+        let plan = encode(&base, &add_and_remove(MAX_REQUESTS));
         cases.extend(both(&state, &plan));
         cases.extend(both(&state, &[&plan[..], &[0]].concat()));
     }

@@ -2,7 +2,7 @@
 
 use cases::rng::Rng;
 use cases::Case;
-use ordinary::limits::{MAX_REQUESTS, PAGE, REACH};
+use ordinary::limits::{MAX_IN_SET, MAX_REGIONS, MAX_REQUESTS, MAX_ZONES, PAGE, REACH};
 use ordinary::{encode, Config, ConfigWords, Record, Region, State, Table, TableWords, Zone};
 
 use crate::damage::{damage_bytes, damage_words};
@@ -16,15 +16,15 @@ pub const EDGES: [u64; 36] = [
     4,
     5,
     6,
-    7,
-    8,
-    9,
-    15,
-    16,
-    17,
-    63,
-    64,
-    65,
+    MAX_ZONES as u64 - 1,
+    MAX_ZONES as u64,
+    MAX_ZONES as u64 + 1,
+    MAX_IN_SET as u64 - 1,
+    MAX_IN_SET as u64,
+    MAX_IN_SET as u64 + 1,
+    MAX_REGIONS as u64 - 1,
+    MAX_REGIONS as u64,
+    MAX_REGIONS as u64 + 1,
     255,
     256,
     0x101,
@@ -32,9 +32,9 @@ pub const EDGES: [u64; 36] = [
     PAGE,
     0x1800,
     2 * PAGE,
-    1023,
-    1024,
-    1025,
+    MAX_REQUESTS as u64 - 1,
+    MAX_REQUESTS as u64,
+    MAX_REQUESTS as u64 + 1,
     REACH - PAGE,
     REACH - 1,
     REACH,
@@ -74,8 +74,8 @@ fn edition(rng: &mut Rng) -> u32 {
 pub fn config(rng: &mut Rng) -> Config {
     let count = match rng.below(6) {
         0 => 1,
-        1 => 64,
-        2 => 17 + rng.below(48),
+        1 => MAX_REGIONS,
+        2 => 17 + rng.below(MAX_REGIONS - 16),
         _ => 2 + rng.below(14),
     };
     let sizes: Vec<u64> = (0..count).map(|_| PAGE * (1 + rng.below(4) as u64)).collect();
@@ -199,7 +199,7 @@ fn fill_up(table: &Table, requests: &mut Vec<Record>, wanted: usize) {
 /// A table that is changed without asking: it may be sound or break a single clause.
 fn bent_table(rng: &mut Rng, state: &State) -> Table {
     let mut table = state.table.clone();
-    if table.zones.is_empty() || table.zones.len() < 8 && rng.one_in(4) {
+    if table.zones.is_empty() || table.zones.len() < MAX_ZONES && rng.one_in(4) {
         let id = zone_id(rng, &table);
         table.zones.push(Zone::empty(id));
         return table;

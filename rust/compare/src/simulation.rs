@@ -4,6 +4,7 @@
 
 use cases::rng::Rng;
 use cases::{Answer, Case};
+use ordinary::layout::REQUEST_BYTES;
 use ordinary::{encode, Plan, Record, State, Table};
 
 use crate::agree::{agreed, Trouble};
@@ -11,8 +12,6 @@ use crate::damage::damage_bytes;
 use crate::event::Event;
 use crate::random::{config, request};
 use crate::tally::Tally;
-
-const REQUEST_BYTES: usize = 32;
 
 /// Where a planner may begin: most often at 0, and now and then so late that the editions end.
 pub const FIRST_EDITIONS: [u32; 6] = [0, u32::MAX - 5, 0, 1, 0, 77];

@@ -13,7 +13,7 @@ pub struct Config {
 /// The first fault of a configuration: C1 to C6, with the places that it has.
 #[derive(Clone, Copy, Debug, PartialEq, Eq)]
 pub enum ConfigFault {
-    /// C1: no region, or more than 64.
+    /// C1: no region, or more than a configuration can have.
     Count,
     /// C2: the GIC's position is not below the count.
     GicPosition,
@@ -104,7 +104,7 @@ impl Config {
 #[cfg(test)]
 mod tests {
     use super::*;
-    use crate::limits::{PAGE, REACH};
+    use crate::limits::{MAX_REGIONS, PAGE, REACH};
 
     fn check(gic: usize, regions: &[Region]) -> Result<(), ConfigFault> {
         Config { regions: regions.to_vec(), gic }.check()
@@ -116,11 +116,11 @@ mod tests {
 
     #[test]
     fn counts_and_the_gic() {
-        let all: Vec<Region> = (0..65).map(page).collect();
+        let all: Vec<Region> = (0..=MAX_REGIONS as u64).map(page).collect();
         assert_eq!(check(0, &[]), Err(ConfigFault::Count));
-        assert_eq!(check(99, &all), Err(ConfigFault::Count));
-        assert_eq!(check(64, &all[..64]), Err(ConfigFault::GicPosition));
-        assert_eq!(check(63, &all[..64]), Ok(()));
+        assert_eq!(check(999, &all), Err(ConfigFault::Count));
+        assert_eq!(check(MAX_REGIONS, &all[..MAX_REGIONS]), Err(ConfigFault::GicPosition));
+        assert_eq!(check(MAX_REGIONS - 1, &all[..MAX_REGIONS]), Ok(()));
     }
 
     #[test]

@@ -1,14 +1,13 @@
 use std::ops::RangeInclusive;
 
 use crate::config::Config;
+use crate::layout::{REGION_BYTES, REQUEST_BYTES};
 use crate::limits::{MAX_IN_SET, MAX_REGIONS, MAX_REQUESTS, MAX_ZONES};
 use crate::region::Region;
 use crate::request::Record;
 use crate::table::{Table, Zone};
 use crate::terminal::State;
 
-const REGION_BYTES: usize = 24;
-const REQUEST_BYTES: usize = 32;
 const MARKS: u32 = 2;
 
 /// A plan that was read whole. The requests stay where they are in its bytes.

@@ -1,6 +1,6 @@
 //! The desk examples of document 01 and its whole plan.
 
-use ordinary::limits::{PAGE, REACH};
+use ordinary::limits::{MAX_IN_SET, MAX_REGIONS, MAX_REQUESTS, MAX_ZONES, PAGE, REACH};
 use ordinary::{encode, Config, Guest, Phys, Plan, PlanRefusal, ReadFault, Record, Refusal, Region, Side, State, Table, Zone};
 
 const A: Region = Region::new(0x4000_0000, 0x8000_0000, 0x20_0000);
@@ -99,17 +99,18 @@ fn a_zone_is_removed_when_it_holds_nothing() {
 }
 
 #[test]
-fn the_ninth_zone() {
+fn a_zone_too_many() {
     let mut desk = Desk::new();
-    for id in [0, 1, 2, 3, 4, 7] {
+    let next = 10 + MAX_ZONES as u32 - 2;
+    for id in 10..next {
         assert_eq!(desk.zone(ADD, id), 0);
     }
-    assert_eq!(desk.zone(ADD, 8), 7);
-    assert_eq!(desk.zone(ADD, 7), 5);
-    assert_eq!(desk.zone(REMOVE_ZONE, 3), 0);
-    assert_eq!(desk.zone(ADD, 8), 0);
-    let ids: Vec<u32> = desk.table.zones.iter().map(|zone| zone.id).collect();
-    assert_eq!(ids, [5, 6, 0, 1, 2, 4, 7, 8]);
+    assert_eq!(desk.zone(ADD, next), 7);
+    assert_eq!(desk.zone(ADD, next - 1), 5);
+    assert_eq!(desk.zone(REMOVE_ZONE, 12), 0);
+    assert_eq!(desk.zone(ADD, next), 0);
+    let ids = desk.table.zones.iter().map(|zone| zone.id);
+    assert!(ids.eq([5, 6, 10, 11].into_iter().chain(13..=next)));
 }
 
 #[test]
@@ -191,7 +192,7 @@ fn sound_tables() {
     assert!(!sound(&[zone(5, &[G], &[])]));
     assert!(!sound(&[zone(5, &[A], &[]), zone(6, &[], &[A])]));
     assert!(!sound(&[zone(5, &[Region { size: 0x1000, ..A }], &[])]));
-    assert!(!sound(&(0..9).map(Zone::empty).collect::<Vec<_>>()));
+    assert!(!sound(&(0..=MAX_ZONES as u32).map(Zone::empty).collect::<Vec<_>>()));
 }
 
 #[test]
@@ -251,7 +252,8 @@ fn a_plan_cut_anywhere_ends_at_the_field_that_is_cut() {
 
 #[test]
 fn counts_out_of_range() {
-    for (offset, bad) in [(0, 1), (0, 3), (12, 0), (12, 65), (40, 9), (44, 0x401)] {
+    let [regions, zones, requests] = [MAX_REGIONS, MAX_ZONES, MAX_REQUESTS].map(|most| most as u32 + 1);
+    for (offset, bad) in [(0, 1), (0, 3), (12, 0), (12, regions), (40, zones), (44, requests)] {
         let mut plan = whole_plan();
         plan[offset..offset + 4].copy_from_slice(&u32::to_le_bytes(bad));
         assert_eq!(Plan::read(&plan).err(), Some(ReadFault::Count(offset)), "{bad} at {offset}");
@@ -268,10 +270,11 @@ fn bytes_after_the_plan() {
 #[test]
 fn the_least_and_the_longest_plan() {
     assert_eq!(encode(&first_state(), &[]).len(), 48);
-    let zone = Zone { id: 0, cpu: vec![A; 16], iommu: vec![A; 16] };
-    let full = State { config: Config { regions: vec![A; 64], gic: 0 }, table: Table { zones: vec![zone; 8] }, edition: 0 };
+    let zone = Zone { id: 0, cpu: vec![A; MAX_IN_SET], iommu: vec![A; MAX_IN_SET] };
+    let config = Config { regions: vec![A; MAX_REGIONS], gic: 0 };
+    let full = State { config, table: Table { zones: vec![zone; MAX_ZONES] }, edition: 0 };
     let add = Record { kind: ADD, zone: 5, region: Region::ZERO };
-    let longest = encode(&full, &[add; 1024]);
+    let longest = encode(&full, &[add; MAX_REQUESTS]);
     assert_eq!(longest.len(), 40_568);
     assert!(Plan::read(&longest).is_ok());
 }

@@ -6,7 +6,7 @@ use std::fmt;
 /// The first fault of a configuration: C1 to C6. Places are positions from 0.
 #[derive(Clone, Copy, Debug, PartialEq, Eq, Hash)]
 pub enum ConfigFault {
-    /// C1: there is no region, or there are more than 64.
+    /// C1: there is no region, or there are more than a configuration can have.
     Count,
     /// C2: the GIC's position is not below the count.
     Gic,
@@ -73,7 +73,7 @@ impl ConfigFault {
 impl fmt::Display for ConfigFault {
     fn fmt(&self, f: &mut fmt::Formatter) -> fmt::Result {
         match self {
-            ConfigFault::Count => write!(f, "the configuration has no region, or more than 64"),
+            ConfigFault::Count => write!(f, "the configuration has no region, or more than it can have"),
             ConfigFault::Gic => write!(f, "the GIC's position is not below the count of regions"),
             ConfigFault::NotZero { place } => write!(f, "record {place} is past the count and not all zero"),
             ConfigFault::Form { place } => write!(f, "region {place} is not well formed"),
@@ -101,7 +101,7 @@ pub enum Refusal {
     ZoneThere = 5,
     /// 6: there is no such zone.
     NoZone = 6,
-    /// 7: eight zones are in use.
+    /// 7: all zones of the table are in use.
     ZonesFull = 7,
     /// 8: either set of the zone holds a region.
     ZoneInUse = 8,
@@ -119,7 +119,7 @@ pub enum Refusal {
     PhysicalOverlap = 14,
     /// 15: a guest overlap within that set.
     GuestOverlap = 15,
-    /// 16: sixteen regions are in that set.
+    /// 16: that set has as many regions as it can.
     SetFull = 16,
     /// 17: the region is not in that set.
     NoRegion = 17,
@@ -174,7 +174,7 @@ impl fmt::Display for Refusal {
             Refusal::ZoneIdTooHigh => "the zone id is above 255",
             Refusal::ZoneThere => "the zone is already there",
             Refusal::NoZone => "there is no such zone",
-            Refusal::ZonesFull => "eight zones are in use",
+            Refusal::ZonesFull => "all zones of the table are in use",
             Refusal::ZoneInUse => "the zone still holds a region",
             Refusal::Form => "the region is not well formed",
             Refusal::Reach => "the region is out of reach",
@@ -183,7 +183,7 @@ impl fmt::Display for Refusal {
             Refusal::RegionThere => "the region is already in that set",
             Refusal::PhysicalOverlap => "the region overlaps another one physically",
             Refusal::GuestOverlap => "the region overlaps one of that set in guest addresses",
-            Refusal::SetFull => "sixteen regions are in that set",
+            Refusal::SetFull => "that set has as many regions as it can",
             Refusal::NoRegion => "the region is not in that set",
             Refusal::NotCovered => "no region covers the address",
         })

@@ -12,15 +12,15 @@ const REGIONS: usize = 2;
 /// How many words a configuration is.
 pub const CONFIG_WORDS: usize = REGIONS + MOST_REGIONS * Region::WORDS;
 
-/// The regions that zones may be given, and which of them is the GIC's, as words of memory: the count, the GIC's position, then 64
-/// regions. It may hold any numbers; [`Config::check`] says whether it is sound.
+/// The regions that zones may be given, and which of them is the GIC's, as words of memory: the count, the GIC's position, then
+/// [`MOST_REGIONS`] regions. It may hold any numbers; [`Config::check`] says whether it is sound.
 ///
 /// ```
 /// use peatmitten::{Config, ConfigFault, Region};
 ///
 /// let low = Region::new(0x1000, 0x1000, 0x2000);
 /// let high = Region::new(0x1000, 0x2000, 0x2000);
-/// let config = Config::new(&[low, high], 0).expect("at most 64 regions");
+/// let config = Config::new(&[low, high], 0).expect("few enough regions");
 /// assert_eq!(config.check(), Err(ConfigFault::Overlap { place: 1, earlier: 0 }));
 /// ```
 #[derive(Clone, PartialEq, Eq)]
@@ -30,7 +30,8 @@ pub struct Config {
 }
 
 impl Config {
-    /// A configuration of these regions, of which the GIC's stands at the position `gic`. None if there are more than 64 regions.
+    /// A configuration of these regions, of which the GIC's stands at the position `gic`. None if there are more than
+    /// [`MOST_REGIONS`].
     pub fn new(regions: &[Region], gic: u64) -> Option<Config> {
         let mut words = [0; CONFIG_WORDS];
         words[COUNT] = regions.len() as u64;
@@ -63,7 +64,7 @@ impl Config {
         self.words[GIC]
     }
 
-    /// The regions in order, at most 64.
+    /// The regions in order, at most [`MOST_REGIONS`].
     pub fn regions(&self) -> impl Iterator<Item = Region> + '_ {
         let count = usize::try_from(self.words[COUNT]).unwrap_or(MOST_REGIONS);
         Region::in_words(&self.words[REGIONS..]).take(count)

@@ -7,7 +7,7 @@
 //! use peatmitten::{Config, PlanRefusal, Region, State};
 //!
 //! let gic = Region::new(0x0800_0000, 0x0800_0000, 0x1_0000);
-//! let mut state = State::new(Config::new(&[gic], 0).expect("at most 64 regions"));
+//! let mut state = State::new(Config::new(&[gic], 0).expect("few enough regions"));
 //!
 //! // A plan for edition 0 of this terminal: add zone 5.
 //! let mut plan = Vec::new();

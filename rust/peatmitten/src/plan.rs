@@ -29,7 +29,7 @@ impl State {
     /// use peatmitten::{Config, PlanRefusal, ReadFault, Region, State};
     ///
     /// let gic = Region::new(0x0800_0000, 0x0800_0000, 0x1_0000);
-    /// let mut state = State::new(Config::new(&[gic], 0).expect("at most 64 regions"));
+    /// let mut state = State::new(Config::new(&[gic], 0).expect("few enough regions"));
     /// let refusal = state.apply(&[2, 0, 0, 0, 0]).unwrap_err();
     /// assert_eq!(refusal, PlanRefusal::Read(ReadFault::Cut { offset: 4 }));
     /// assert_eq!(refusal.number(), 20);

@@ -15,15 +15,15 @@ const ZONES: usize = 1;
 /// How many words a table is.
 pub const TABLE_WORDS: usize = ZONES + MOST_ZONES * ZONE_WORDS;
 
-/// The zones and the regions that they hold, as words of memory: the count, then 8 zones, each an id, a CPU set and an IOMMU set, a
-/// set being a count and 16 regions. It may hold any numbers; [`Table::is_sound`] says whether it is sound.
+/// The zones and the regions that they hold, as words of memory: the count, then [`MOST_ZONES`] zones, each an id, a CPU set and an
+/// IOMMU set, a set being a count and [`MOST_IN_SET`] regions. It may hold any numbers; [`Table::is_sound`] says whether it is sound.
 ///
 /// ```
 /// use peatmitten::{Config, Guest, Physical, Refusal, Region, Request, Side, Table};
 ///
 /// let memory = Region::new(0x4000_0000, 0x8000_0000, 0x20_0000);
 /// let gic = Region::new(0x0800_0000, 0x0800_0000, 0x1_0000);
-/// let config = Config::new(&[memory, gic], 1).expect("at most 64 regions");
+/// let config = Config::new(&[memory, gic], 1).expect("few enough regions");
 ///
 /// let mut table = Table::new();
 /// assert_eq!(table.request(&config, Request::add_zone(5)), Ok(()));
@@ -79,7 +79,7 @@ impl Table {
         Refusal::from_library(number).map(|()| Physical(physical))
     }
 
-    /// The zones in order, at most 8.
+    /// The zones in order, at most [`MOST_ZONES`].
     pub fn zones(&self) -> impl Iterator<Item = Zone<'_>> {
         let count = usize::try_from(self.words[COUNT]).unwrap_or(MOST_ZONES);
         self.words[ZONES..].chunks_exact(ZONE_WORDS).take(count).map(|words| Zone { words })

@@ -43,7 +43,7 @@ fn a_state_is_stored_as_it_lies_in_memory() {
     let bytes = state.to_bytes();
     assert_eq!(bytes[..8], [1, 0, 0, 0, 0, 0, 0, 0]);
     assert_eq!(bytes[16..24], [0, 0, 0, 8, 0, 0, 0, 0]);
-    assert_eq!(bytes[7896..], [4, 3, 2, 1, 0, 0, 0, 0]);
+    assert_eq!(bytes[STATE_BYTES - 8..], [4, 3, 2, 1, 0, 0, 0, 0]);
     assert_eq!(State::from_bytes(&bytes), Some(state));
     assert_eq!(State::from_bytes(&bytes[1..]), None);
 }
@@ -68,7 +68,7 @@ fn what_is_no_state_file_is_named() {
     let path = folder.0.join("short");
     fs::write(&path, FIRST_PLAN).expect("the file can be written");
     let fault = State::load(&path).expect_err("it is a plan");
-    assert_eq!(fault.to_string(), format!("{} is no state file: a state has 7904 bytes", path.display()));
+    assert_eq!(fault.to_string(), format!("{} is no state file: a state has {STATE_BYTES} bytes", path.display()));
     let fault = first_state().save(&folder.0.join("none/state")).expect_err("there is no such folder");
     assert!(fault.to_string().starts_with(&format!("cannot open {}/none/state.new: ", folder.0.display())), "{fault}");
     let fault = first_state().save(&folder.0).expect_err("it is a folder");

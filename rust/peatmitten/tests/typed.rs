@@ -4,7 +4,7 @@ use std::mem::{offset_of, size_of};
 
 use peatmitten::{
     base_edition, limits, raw, read_plan, Config, ConfigFault, Guest, Physical, PlanRefusal, ReadFault, Refusal, Region, Request,
-    Side, State, Table,
+    Side, State, Table, CONFIG_WORDS, STATE_BYTES, TABLE_WORDS,
 };
 
 const A: Region = Region::new(0x4000_0000, 0x8000_0000, 0x20_0000);
@@ -31,10 +31,10 @@ fn first_state() -> State {
 
 #[test]
 fn the_memory_is_that_of_the_header() {
-    assert_eq!(size_of::<State>(), 7904);
+    assert_eq!(size_of::<State>(), STATE_BYTES);
     assert_eq!(offset_of!(State, config), 0);
-    assert_eq!(offset_of!(State, table), 1552);
-    assert_eq!(offset_of!(State, edition), 7896);
+    assert_eq!(offset_of!(State, table), 8 * CONFIG_WORDS);
+    assert_eq!(offset_of!(State, edition), 8 * (CONFIG_WORDS + TABLE_WORDS));
 }
 
 #[test]
@@ -77,7 +77,7 @@ fn translation() {
 #[test]
 fn unsound_bases() {
     let (config, mut table) = desk();
-    let no_regions = Config::new(&[], 0).expect("no region is at most 64");
+    let no_regions = Config::new(&[], 0).expect("few enough regions");
     assert_eq!(no_regions.check(), Err(ConfigFault::Count));
     assert!(!table.is_sound(&no_regions));
     assert_eq!(table.request(&no_regions, Request::add_zone(7)), Err(Refusal::UnsoundConfig));
@@ -89,13 +89,13 @@ fn unsound_bases() {
 
 #[test]
 fn more_regions_than_words() {
-    assert!(Config::new(&[A; 64], 0).is_some());
-    assert!(Config::new(&[A; 65], 0).is_none());
+    assert!(Config::new(&[A; limits::MOST_REGIONS], 0).is_some());
+    assert!(Config::new(&[A; limits::MOST_REGIONS + 1], 0).is_none());
     let mut words = [u64::MAX; peatmitten::CONFIG_WORDS];
-    assert_eq!(Config::from_words(words).regions().count(), 64);
+    assert_eq!(Config::from_words(words).regions().count(), limits::MOST_REGIONS);
     words[0] = 1;
     assert_eq!(Config::from_words(words).check(), Err(ConfigFault::Gic));
-    assert_eq!(Table::from_words([u64::MAX; peatmitten::TABLE_WORDS]).zones().count(), 8);
+    assert_eq!(Table::from_words([u64::MAX; peatmitten::TABLE_WORDS]).zones().count(), limits::MOST_ZONES);
 }
 
 #[test]

@@ -1,7 +1,7 @@
 #!/usr/bin/env bash
 # Holds documents against the project. docs/RULES.md: each definition that it names is there, the limits are those of the definitions,
-# and the annotated plan is examples/first.plan. README.md: it lists the functions of the header. Both say how long a plan can be. Needs no
-# library.
+# and the annotated plan is examples/first.plan. README.md: it lists the functions of the header. Both say how long a plan can be. Where it
+# is said how many cases are stored, it is so. Needs no library.
 set -euo pipefail
 test_name=documents
 . "$(dirname "$0")/host.sh"
@@ -34,6 +34,11 @@ check_limits() {
     [ "$found" -gt 0 ] || say_failed "docs/RULES.md has no table of limits"
 }
 
+# A number as documents write it: 40568 is 40,568.
+grouped() {
+    sed ':again; s/\([0-9]\)\([0-9]\{3\}\)\($\|,\)/\1,\2\3/; t again' <<<"$1"
+}
+
 # The shortest and the longest plan, as `SizesShown` has them, are said by both documents.
 check_sizes() {
     local sizes size document
@@ -41,9 +46,22 @@ check_sizes() {
     [ -n "$sizes" ] || say_failed "crates/rules/specs/Sizes.antt does not say how long a plan can be"
     for document in README.md docs/RULES.md; do
         for size in $sizes; do
-            size=$(sed ':again; s/\([0-9]\)\([0-9]\{3\}\)\($\|,\)/\1,\2\3/; t again' <<<"$size")
+            size=$(grouped "$size")
             grep -Eq "(^|[^0-9,])$size([^0-9,]|,[^0-9]|\$)" "$root/$document" || say_failed "$document does not say that a plan can have $size bytes"
         done
+    done
+}
+
+# How many plan files and named cases there are, wherever it is said.
+check_counts() {
+    local count document
+    count=$(grouped "$(wc -l <"$root/vectors/cases.txt")")
+    for document in README.md docs/PROMISES.md tests/README.md; do
+        grep -Eq "(^|[^0-9,])$count( more| named)? cases" "$root/$document" || say_failed "$document does not say that there are $count cases by name"
+    done
+    count=$(wc -l <"$root/vectors/plans/answers.txt")
+    for document in docs/DECISIONS.md tests/README.md; do
+        grep -Eq "(^|[^0-9,])$count (plan files|stored plans)" "$root/$document" || say_failed "$document does not say that there are $count plan files"
     done
 }
 
@@ -70,6 +88,7 @@ check_functions() {
 check_names
 check_limits
 check_sizes
+check_counts
 check_plan
 check_functions
 echo "documents: ok"

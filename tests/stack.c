@@ -19,9 +19,14 @@
 #define STACK_ROOM (1 << 20)
 #define PATTERN 0xa5
 
-enum { CHECK_CONFIG, CHECK_TABLE, REQUEST, TRANSLATE, READ, APPLY, FUNCTIONS };
+enum { CHECK_CONFIG, CHECK_TABLE, REQUEST, TRANSLATE, EDITION, READ, APPLY, LAYOUT, FUNCTIONS };
 
-static const char *const names[FUNCTIONS] = {"check_config", "check_table", "request", "translate", "read", "apply"};
+#define NAME_OF(symbol) #symbol
+#define TEXT_OF(symbol) NAME_OF(symbol)
+
+static const char *const names[FUNCTIONS] = {
+    "peatmitten_check_config", "peatmitten_check_table", "peatmitten_request", "peatmitten_translate",
+    "peatmitten_edition",      "peatmitten_read",        "peatmitten_apply",   TEXT_OF(peatmitten_layout)};
 
 static unsigned char stack[STACK_ROOM] __attribute__((aligned(64)));
 static ucontext_t here, there;
@@ -62,6 +67,11 @@ static void translate(void)
                          state.config[PEATMITTEN_CONFIG_REGIONS], answers);
 }
 
+static void edition(void)
+{
+    peatmitten_edition(plan, length, answers);
+}
+
 static void read_only(void)
 {
     peatmitten_read(plan, length, answers);
@@ -70,6 +80,11 @@ static void read_only(void)
 static void apply(void)
 {
     peatmitten_apply(&state, plan, length);
+}
+
+static void layout(void)
+{
+    answers[0] = peatmitten_layout(kind);
 }
 
 /* How much of the stack is no longer the pattern after a call. */
@@ -123,10 +138,12 @@ static void measure(size_t most[FUNCTIONS], const char *state_path, const char *
     before = state;
     keep_most(most, CHECK_CONFIG, check_config);
     keep_most(most, CHECK_TABLE, check_table);
+    keep_most(most, EDITION, edition);
     keep_most(most, READ, read_only);
     for (kind = 0; kind <= PEATMITTEN_IOMMU_REMOVE; kind++) {
         keep_most(most, REQUEST, request);
         keep_most(most, TRANSLATE, translate);
+        keep_most(most, LAYOUT, layout);
     }
     state = before;
     keep_most(most, APPLY, apply);
@@ -141,7 +158,7 @@ int main(int argc, char **argv)
     for (int at = 1; at + 1 < argc; at += 2)
         measure(most, argv[at], argv[at + 1]);
     for (int function = 0; function < FUNCTIONS; function++) {
-        printf("peatmitten_%s: %zu bytes\n", names[function], most[function]);
+        printf("%s: %zu bytes\n", names[function], most[function]);
         if (most[function] > all)
             all = most[function];
     }

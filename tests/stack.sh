@@ -1,5 +1,6 @@
 #!/usr/bin/env bash
-# Measures the library's stack over the stored plans, each at its own base (tests/stack.c), and holds include/peatmitten.h to it.
+# Measures the library's stack over the stored plans, each at its own base (tests/stack.c), and holds include/peatmitten.h to it: every
+# function that it declares is measured, and none takes more than it says.
 set -euo pipefail
 test_name=stack
 . "$(dirname "$0")/host.sh"
@@ -21,5 +22,8 @@ done <"$root/vectors/plans/answers.txt"
 
 "$CC" -std=c11 -Wall -Wextra -Werror -O1 -I"$root/include" "$root/tests/stack.c" "$ARCHIVE" -o "$work/stack" ||
     say_failed "the program that measures does not build"
-$EMULATOR "$work/stack" "${pairs[@]}" || say_failed "a function takes more stack than the header says"
+measured=$($EMULATOR "$work/stack" "${pairs[@]}") || say_failed "a function takes more stack than the header says: $measured"
+echo "$measured"
+[ "$(sed -n 's/^\(peatmitten_[a-z0-9_]*\): .*/\1/p' <<<"$measured" | sort)" = "$(declared_functions)" ] ||
+    say_failed "these are not the functions that the header declares"
 echo "stack: ok"

@@ -7,7 +7,7 @@ use ordinary::{ConfigWords, Record, Region, TableWords, Zone};
 use crate::book::Book;
 use crate::drawn::{poke_config, poke_table, sound_config};
 use crate::given::{
-    all_empty, config_words, held_words, of_region, of_zone, table_words, with_p, with_size, with_v, with_word, zone, Held, P,
+    all_empty, config_words, held_words, of_region, of_zone, table_words, with_p, with_size, with_v, with_word, Held, P,
 };
 use crate::given::{A, ADD_ZONE, B, C, CPU_INSERT, CPU_REMOVE, G, IOMMU_INSERT, IOMMU_REMOVE, REMOVE_ZONE};
 use crate::rng::Rng;

@@ -155,7 +155,7 @@ enum peatmitten_answer {
     PEATMITTEN_ZONES_FULL = 7,        /* all zones of the table are in use */
     PEATMITTEN_ZONE_IN_USE = 8,       /* either set of the zone holds a region */
     PEATMITTEN_FORM = 9,              /* the region is not well formed */
-    PEATMITTEN_REACH = 10,            /* the region is out of reach: above 2^40 in guest addresses, or 2^48 in physical ones */
+    PEATMITTEN_REACH = 10,            /* the region ends above 2^40 in guest addresses, or above 2^48 in physical ones */
     PEATMITTEN_NOT_CONFIGURED = 11,   /* the region is not equal to a configured one */
     PEATMITTEN_OVER_GIC = 12,         /* a CPU region overlaps the GIC physically */
     PEATMITTEN_REGION_THERE = 13,     /* the region is already in that set */

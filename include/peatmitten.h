@@ -126,7 +126,7 @@ enum peatmitten_config_fault {
     PEATMITTEN_C2_GIC = 2,      /* the GIC's position is not below the count */
     PEATMITTEN_C3_NOT_ZERO = 3, /* a region past the count is not all zero */
     PEATMITTEN_C4_FORM = 4,     /* the size is 0, or a number is no multiple of 4,096 */
-    PEATMITTEN_C5_REACH = 5,    /* it ends above 2^48, in guest or in physical addresses */
+    PEATMITTEN_C5_REACH = 5,    /* it ends above 2^40 in guest addresses, or above 2^48 in physical ones */
     PEATMITTEN_C6_OVERLAP = 6   /* it overlaps an earlier region physically */
 };
 
@@ -155,7 +155,7 @@ enum peatmitten_answer {
     PEATMITTEN_ZONES_FULL = 7,        /* all zones of the table are in use */
     PEATMITTEN_ZONE_IN_USE = 8,       /* either set of the zone holds a region */
     PEATMITTEN_FORM = 9,              /* the region is not well formed */
-    PEATMITTEN_REACH = 10,            /* the region is out of reach */
+    PEATMITTEN_REACH = 10,            /* the region ends above 2^40 in guest addresses, or above 2^48 in physical ones */
     PEATMITTEN_NOT_CONFIGURED = 11,   /* the region is not equal to a configured one */
     PEATMITTEN_OVER_GIC = 12,         /* a CPU region overlaps the GIC physically */
     PEATMITTEN_REGION_THERE = 13,     /* the region is already in that set */

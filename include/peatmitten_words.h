@@ -32,7 +32,7 @@ static inline const char *peatmitten_words(uint32_t number)
     case PEATMITTEN_FORM:
         return "the region is not well formed: its size is 0, or one of its three numbers is no multiple of 4,096";
     case PEATMITTEN_REACH:
-        return "the region is out of reach: its guest end or its physical end is above 2^48";
+        return "the region is out of reach: its guest end is above 2^40, or its physical end above 2^48";
     case PEATMITTEN_NOT_CONFIGURED:
         return "the region is not equal to a configured one";
     case PEATMITTEN_OVER_GIC:
@@ -86,7 +86,7 @@ static inline const char *peatmitten_config_words(uint32_t fault)
     case PEATMITTEN_C4_FORM:
         return "a region is not well formed: its size is 0, or one of its three numbers is no multiple of 4,096";
     case PEATMITTEN_C5_REACH:
-        return "a region is out of reach: its guest end or its physical end is above 2^48";
+        return "a region is out of reach: its guest end is above 2^40, or its physical end above 2^48";
     case PEATMITTEN_C6_OVERLAP:
         return "a region overlaps an earlier one physically";
     default:

@@ -23,6 +23,9 @@ pub fn examples() {
     check(4, 3, 4, b'H');
     check(4, 3, 2, b'H');
     check(4, 3, 2, b'K');
+    check(4, 3, 2, b'X');
+    check(4, 3, 2, b'V');
+    check(4, 3, 2, b'W');
     check(4, 3, 2, b'B');
     let none = [0u64; TABLE_WORDS];
     sound(b"no zones", 4, Table { words: none });

@@ -15,7 +15,7 @@ use zones::ZONE_WORDS;
 // v, p and size.
 struct Numbers(u64, u64, u64);
 
-const LETTERS: usize = 25;
+const LETTERS: usize = 26;
 
 // The regions from A on, in the order of the letters.
 const REGIONS: [Numbers; LETTERS] = [
@@ -42,17 +42,18 @@ const REGIONS: [Numbers; LETTERS] = [
     Numbers(0x7fff_c000, 0x7fff_c000, 0x4000),
     Numbers(0x8000_4000, 0x8000_4000, 0x4000),
     Numbers(0x8000_1000, 0x8000_1000, 0),
-    // S: as long as reach. T: as long as can be.
-    Numbers(0, 0, 0x1_0000_0000_0000),
+    // S: as long as the reach of guest addresses. T: as long as can be.
+    Numbers(0, 0, 0x100_0000_0000),
     Numbers(0, 0, 0xffff_ffff_ffff_ffff),
     // U: A with another v.
     Numbers(0, 0x8000_0000, 0x20_0000),
-    // V, W: an end one page past reach. X: both ends exactly there.
-    Numbers(0x1_0000_0000_0000, 0, 0x1000),
+    // V, W: an end one page past reach, of v and of p. X: both ends exactly there, v's at 2^40 and p's at 2^48.
+    Numbers(0x100_0000_0000, 0, 0x1000),
     Numbers(0, 0x1_0000_0000_0000, 0x1000),
-    Numbers(0xffff_ffff_f000, 0xffff_ffff_f000, 0x1000),
-    // Y: A with size 0x1000.
+    Numbers(0xff_ffff_f000, 0xffff_ffff_f000, 0x1000),
+    // Y: A with size 0x1000. Z: the end of v where that of p may be.
     Numbers(0x4000_0000, 0x8000_0000, 0x1000),
+    Numbers(0xffff_ffff_f000, 0, 0x1000),
 ];
 
 // What takes the letter A to the first place.

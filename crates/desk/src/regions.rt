@@ -10,7 +10,7 @@ use region::region_eq;
 use region::well_formed;
 
 pub fn examples() {
-    alone(b"AFHIJKLXVWST");
+    alone(b"AFHIJKLXVZWST");
     beside(b'A', b"ABUYCG");
     beside(b'C', b"A");
     beside(b'G', b"G");

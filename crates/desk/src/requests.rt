@@ -29,7 +29,7 @@ pub fn examples() {
     // The ninth zone, also after one is removed.
     run(4, 3, 5, b"11F 12F 13F 14F 17F 18F 19F 26F 19F ");
     // Form, reach, and whether a region is configured.
-    run(4, 3, 5, b"35F 35H 35K 35X 35Y ");
+    run(4, 3, 5, b"35F 35H 35K 35X 35V 35Z 35W 35Y ");
 }
 
 pub fn more_examples() {

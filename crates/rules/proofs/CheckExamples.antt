@@ -8,11 +8,11 @@ use Rattle.rules.proofs.Computing.{checkParts, tableParts, requestParts
 
 pub config-check-shown : ConfigCheckShown
 unfolding checkParts
-config-check-shown = (refl, refl, refl, refl, refl, refl)
+config-check-shown = (refl, refl, refl, refl, refl, refl, refl)
 
 pub table-check-shown : TableCheckShown
 unfolding tableParts
-table-check-shown = (refl, refl, refl, refl, refl, refl, refl, refl)
+table-check-shown = (refl, refl, refl, refl, refl, refl, refl, refl, refl, refl)
 
 pub outside-shown : OutsideShown
 unfolding answer translated runAnswer runFrom ended tableParts requestParts translationParts

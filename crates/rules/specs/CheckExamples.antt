@@ -1,6 +1,6 @@
 -- Examples of the two checks, and of the answers from outside, where 1 and 2 come first.
 use Prim.Native.Nat.{ℕ, _+_, _*_, _-_}
-use mathlib.Core.Bool.{true, false}
+use mathlib.Core.Bool.{Bool, true, false}
 use mathlib.Core.List.{List, [], _∷_, _++_, map}
 use mathlib.Core.Path.{_≡_}
 use lib.ListN.{length}
@@ -12,7 +12,7 @@ use Rattle.rules.specs.Configuration.{check, checkNumber, checkPlace, ch
 use Rattle.rules.specs.Desk.{regionOf, deskZones, addZone, dropZone, insert}
 use Rattle.rules.specs.Limits.{limits, Limits}
 use Rattle.rules.specs.Regions.{noRegion}
-use Rattle.rules.specs.RequestExamples.{_gives_, block, theGic, twin, blocks, oneBlockMore, model, allZones, crowdBeside, held, cpuOnly, iommuOnly, oddAndFar, far, unknown, goesTo, goesNowhere, Shows}
+use Rattle.rules.specs.RequestExamples.{_gives_, block, theGic, twin, blocks, oneBlockMore, model, allZones, crowdBeside, held, cpuOnly, iommuOnly, oddAndFar, far, unknown, justInReach, outOfReach, goesTo, goesNowhere, Shows}
 use Rattle.rules.specs.Requests.{answer}
 use Rattle.rules.specs.Run.{makeRequest, runAnswer}
 use Rattle.rules.specs.Tables.{emptyZone, unusedSet, unusedZone, checkTable, Zone, StoredSet, StoredZone, StoredTable}
@@ -92,6 +92,14 @@ lowestFound =
 abbrev pub mostFound : List (StoredConfig × Found)
 mostFound = stored 64 0 [] gives found 4 0 0 ∷ stored 65 0 [] gives found 1 0 0 ∷ []
 
+-- the GIC and one region more
+abbrev pub besideTheGic : Region → StoredConfig
+besideTheGic r = stored 2 0 (theGic ∷ r ∷ [])
+
+-- the two reaches: C5 stands for either end
+abbrev pub reachFound : List (StoredConfig × Found)
+reachFound = map (λ (r : Region). besideTheGic r gives found 0 0 0) justInReach ++ map (λ (r : Region). besideTheGic r gives found 5 1 0) outOfReach
+
 abbrev pub ConfigCheckShown : Type 0
 ConfigCheckShown =
     Shows finding nothingFound
@@ -100,6 +108,7 @@ ConfigCheckShown =
     × Shows finding positionFound
     × Shows finding lowestFound
     × Shows finding mostFound
+    × Shows finding reachFound
 
 -- ---- the table check
 abbrev pub config : StoredConfig
@@ -185,6 +194,10 @@ twoHold =
     ∷ storedTable 2 (storedZone 5 [] (block 0 ∷ []) ∷ storedZone 6 [] (block 0 ∷ []) ∷ [])
     ∷ []
 
+-- a region that is configured beside the GIC is held on both sides of a zone
+abbrev pub heldAlone : Region → Bool
+heldAlone r = checkTable limits (besideTheGic r) (oneZone (storedZone 5 (r ∷ []) (r ∷ [])))
+
 -- an unsound configuration of each kind: C1 twice, C2 to C6
 abbrev pub badConfig : StoredConfig
 badConfig = stored 1 1 (theGic ∷ [])
@@ -209,6 +222,8 @@ TableCheckShown =
     × (any (checkTable limits config) notConfigured ≡ false)
     × (any (checkTable limits config) badSets ≡ false)
     × (any (checkTable limits config) twoHold ≡ false)
+    × (all heldAlone justInReach ≡ true)
+    × (any heldAlone outOfReach ≡ false)
     × (any (λ (c : StoredConfig). checkTable limits c (store limits [])) badConfigs ≡ false)
 
 -- ---- from outside: 1 where the configuration is unsound, whatever the table is; then 2; then the rest
@@ -312,7 +327,7 @@ abbrev pub onePage : Region
 onePage = regionOf 0 (limits .page) (limits .page)
 
 abbrev pub pageConfig : StoredConfig
-pageConfig = stored 2 0 (theGic ∷ onePage ∷ [])
+pageConfig = besideTheGic onePage
 
 abbrev pub LargerPagesShown : Type 0
 LargerPagesShown =

@@ -9,7 +9,7 @@ page = 4096
 
 -- the highest end of a region, in guest and in physical addresses
 abbrev pub guestReach : ℕ
-guestReach = 2 ^ 48
+guestReach = 2 ^ 40
 
 abbrev pub physReach : ℕ
 physReach = 2 ^ 48

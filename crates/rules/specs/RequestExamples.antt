@@ -247,16 +247,22 @@ ofAPage =
     ∷ regionOf 0x1000 0x1000 0 gives 9
     ∷ []
 
--- v + size and p + size, as whole numbers, are at most 2^48
-abbrev pub inTheReaches : List (Region × ℕ)
-inTheReaches =
-    regionOf (2 ^ 48 - 0x1000) 0 0x1000 gives 11
-    ∷ regionOf (2 ^ 48) 0 0x1000 gives 10
-    ∷ regionOf 0 (2 ^ 48 - 0x1000) 0x1000 gives 11
-    ∷ regionOf 0 (2 ^ 48) 0x1000 gives 10
-    ∷ regionOf (2 ^ 64 - 0x1000) 0 0x2000 gives 10
-    ∷ regionOf 0 (2 ^ 64 - 0x1000) 0x2000 gives 10
+-- v + size is at most 2^40 and p + size at most 2^48, as whole numbers: regions that end exactly there, by their start or
+-- by their size; and those that end a page above, or past 2^64
+abbrev pub justInReach : List Region
+justInReach = regionOf (2 ^ 40 - 0x1000) 0 0x1000 ∷ regionOf 0 (2 ^ 40) (2 ^ 40) ∷ regionOf 0 (2 ^ 48 - 0x1000) 0x1000 ∷ []
+
+abbrev pub outOfReach : List Region
+outOfReach =
+    regionOf (2 ^ 40) 0 0x1000
+    ∷ regionOf 0 (2 ^ 40) (2 ^ 40 + 0x1000)
+    ∷ regionOf 0 (2 ^ 48) 0x1000
+    ∷ regionOf (2 ^ 64 - 0x1000) 0 0x2000
+    ∷ regionOf 0 (2 ^ 64 - 0x1000) 0x2000
     ∷ []
+
+abbrev pub inTheReaches : List (Region × ℕ)
+inTheReaches = map (λ (r : Region). r gives 11) justInReach ++ map (λ (r : Region). r gives 10) outOfReach
 
 abbrev pub insertedIn5 : Side → Region → ℕ
 insertedIn5 s r = refusal limits model deskZones (insert s r 5)

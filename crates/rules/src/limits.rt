@@ -1,7 +1,7 @@
 // Every limit, once: the numbers of specs/Limits.antt for code.
 pub const PAGE: u64 = 4096;
 
-pub const GUEST_REACH: u64 = 0x1_0000_0000_0000;
+pub const GUEST_REACH: u64 = 0x100_0000_0000;
 
 pub const PHYS_REACH: u64 = 0x1_0000_0000_0000;
 

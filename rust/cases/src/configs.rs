@@ -1,11 +1,11 @@
 //! Cases for the configuration check, chosen by hand.
 
 use ordinary::layout::{config_record, CONFIG_COUNT, CONFIG_GIC};
-use ordinary::limits::{MAX_REGIONS, PAGE, REACH};
+use ordinary::limits::{GUEST_REACH, MAX_REGIONS, PAGE, PHYS_REACH};
 use ordinary::{ConfigWords, Region, CONFIG_WORDS};
 
 use crate::book::Book;
-use crate::given::{config_words, with_word, P, SIZE, V};
+use crate::given::{config_words, with_word, AT_THE_REACHES, G, P, SIZE, V};
 
 /// The last page of 64-bit addresses.
 const LAST_PAGE: u64 = PAGE.wrapping_neg();
@@ -20,6 +20,7 @@ pub fn add(book: &mut Book) {
     for (place, i) in [("first", 0), ("middle", LAST / 2), ("last", LAST)] {
         one_fault(book, place, i);
     }
+    reaches(book);
     overlaps(book);
     two_faults(book);
 }
@@ -86,17 +87,27 @@ fn one_fault(book: &mut Book, place: &str, i: usize) {
     for (name, word, x) in [
         ("size 0", SIZE, 0),
         ("size 0x1800", SIZE, 0x1800),
-        ("size 2^48", SIZE, REACH),
+        ("size 2^40", SIZE, GUEST_REACH),
+        ("size 2^48", SIZE, PHYS_REACH),
         ("size 2^64 - 4096", SIZE, LAST_PAGE),
         ("v 1", V, 1),
         ("p 2^64 - 1", P, u64::MAX),
-        ("v 2^48", V, REACH),
-        ("p 2^48", P, REACH),
+        ("v 2^40", V, GUEST_REACH),
+        ("v 2^48", V, PHYS_REACH),
+        ("p 2^48", P, PHYS_REACH),
         ("p 2^64 - 4096", P, LAST_PAGE),
-        ("v ends at 2^48", V, REACH - PAGE),
-        ("p ends at 2^48", P, REACH - PAGE),
+        ("v ends at 2^40", V, GUEST_REACH - PAGE),
+        ("v ends at 2^48", V, PHYS_REACH - PAGE),
+        ("p ends at 2^48", P, PHYS_REACH - PAGE),
     ] {
         book.ask_config(format!("{place}, {name}"), poked(all(), &[(i, word, x)]));
+    }
+}
+
+/// The GIC, and a region at an edge of a reach.
+fn reaches(book: &mut Book) {
+    for (name, region, is_in_reach) in AT_THE_REACHES {
+        book.ask_config(name, config_words(&[G, region], 0)).known(if is_in_reach { 0 } else { 5 });
     }
 }
 
@@ -120,15 +131,15 @@ fn overlaps(book: &mut Book) {
 
 /// The lower position counts, and at one position the lower number.
 fn two_faults(book: &mut Book) {
-    let faults = [("form", SIZE, 0), ("reach", P, REACH), ("overlap", P, 0)];
+    let faults = [("form", SIZE, 0), ("reach", P, PHYS_REACH), ("overlap", P, 0)];
     for (first, at_3, x) in faults {
         for (second, at_5, y) in faults.into_iter().filter(|fault| fault.0 != first) {
             book.ask_config(format!("{first} at 3, {second} at 5"), poked(all(), &[(3, at_3, x), (5, at_5, y)]));
         }
     }
-    book.ask_config("form and reach at 3", poked(all(), &[(3, V, 1), (3, P, REACH)]));
+    book.ask_config("form and reach at 3", poked(all(), &[(3, V, 1), (3, P, PHYS_REACH)]));
     book.ask_config("form and overlap at 3", poked(all(), &[(3, V, 1), (3, P, 0)]));
-    book.ask_config("reach and overlap at 3", poked(all(), &[(3, V, REACH), (3, P, 0)]));
+    book.ask_config("reach and overlap at 3", poked(all(), &[(3, V, GUEST_REACH), (3, P, 0)]));
     let no_size = poked(all(), &[(0, SIZE, 0)]);
     book.ask_config("none counted, size 0 at 0", with_word(no_size, CONFIG_COUNT, 0));
     book.ask_config("GIC at the count, size 0 at 0", with_word(no_size, CONFIG_GIC, MAX_REGIONS as u64));

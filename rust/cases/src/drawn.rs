@@ -1,11 +1,11 @@
 //! Pseudo-random cases of the two checks: sound configurations and tables, made unsound now and then by small changes.
 
 use ordinary::layout::{config_record, set_count, set_record, zone_id, CONFIG_COUNT, CONFIG_GIC, REGION_WORDS, TABLE_COUNT};
-use ordinary::limits::{MAX_ID, MAX_IN_SET, MAX_REGIONS, MAX_ZONES, PAGE, REACH};
+use ordinary::limits::{MAX_ID, MAX_IN_SET, MAX_REGIONS, MAX_ZONES, PAGE};
 use ordinary::{Config, ConfigWords, Region, Side, Table, TableWords, Zone, TABLE_WORDS};
 
 use crate::book::Book;
-use crate::given::{table_words, with_p, with_v, with_word, P, SIZE, V};
+use crate::given::{reach_of, table_words, with_p, with_v, with_word, P, SIZE, V};
 use crate::rng::Rng;
 
 const SIDES: [Side; 2] = [Side::Cpu, Side::Iommu];
@@ -31,10 +31,10 @@ pub fn sound_config(rng: &mut Rng, most: usize) -> Config {
     }
     let last = regions.last_mut().expect("at least one region");
     if rng.one_in(4) {
-        *last = with_p(*last, REACH - last.size);
+        *last = with_p(*last, reach_of(P) - last.size);
     }
     if rng.one_in(4) {
-        *last = with_v(*last, REACH - last.size);
+        *last = with_v(*last, reach_of(V) - last.size);
     }
     rng.shuffle(&mut regions);
     let gic = rng.below(regions.len());
@@ -56,7 +56,8 @@ pub fn poke_config(rng: &mut Rng, words: &ConfigWords) -> ConfigWords {
     }
     let other = config_record(*rng.pick(&places));
     let near = [words[other + at - record], words[other + rng.below(REGION_WORDS)], words[at].wrapping_add(PAGE)];
-    let edges = [0, 1, PAGE, REACH - PAGE, REACH, PAGE.wrapping_neg(), u64::MAX];
+    let reach = reach_of(at - record);
+    let edges = [0, 1, PAGE, reach - PAGE, reach, PAGE.wrapping_neg(), u64::MAX];
     with_word(*words, at, *rng.pick(&[&near[..], &near, &edges].concat()))
 }
 
@@ -148,7 +149,8 @@ pub fn poke_table(rng: &mut Rng, words: &TableWords) -> TableWords {
         return with_word(*words, at, *rng.pick(&[0, 1, 255, 256, u64::MAX, words[zone_id(0)]]));
     }
     let other = set_record(rng.below(2), *rng.pick(&SIDES), rng.below(2)) + rng.below(REGION_WORDS);
-    with_word(*words, at, *rng.pick(&[0, 1, PAGE, REACH - PAGE, REACH, u64::MAX, words[other], words[at]]))
+    let reach = reach_of(at - record);
+    with_word(*words, at, *rng.pick(&[0, 1, PAGE, reach - PAGE, reach, u64::MAX, words[other], words[at]]))
 }
 
 fn table_pokes(book: &mut Book, rng: &mut Rng) {

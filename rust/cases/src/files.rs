@@ -1,7 +1,7 @@
 //! Plan files for the program `apply`, each with its answer: every number, and every way in which a file can be damaged.
 
 use ordinary::layout::REQUEST_BYTES;
-use ordinary::limits::{MAX_ID, MAX_IN_SET, MAX_REGIONS, MAX_REQUESTS, MAX_ZONES, PAGE, REACH};
+use ordinary::limits::{GUEST_REACH, MAX_ID, MAX_IN_SET, MAX_REGIONS, MAX_REQUESTS, MAX_ZONES, PAGE, PHYS_REACH};
 use ordinary::{apply_alone, Config, Record, Region, State, Table, Zone};
 
 use crate::case::{Case, Outcome};
@@ -332,7 +332,8 @@ fn unsound_configurations(files: &mut PlanFiles) {
     for (name, at, region) in [
         ("first-region-of-size-0", 0, with_size(A, 0)),
         ("middle-region-off-by-a-byte", 2, with_v(C, C.v.0 + 1)),
-        ("last-region-out-of-reach", 4, with_p(H, REACH - PAGE)),
+        ("last-region-out-of-reach", 4, with_p(H, PHYS_REACH - PAGE)),
+        ("last-region-out-of-guest-reach", 4, with_v(H, GUEST_REACH - PAGE)),
         ("last-region-with-an-end-that-wraps", 4, with_p(H, LAST_PAGE)),
         ("two-regions-equal", 4, A),
         ("a-region-around-another", 4, Region::new(0, B.p.0 - PAGE, 0x40_0000)),
@@ -341,8 +342,14 @@ fn unsound_configurations(files: &mut PlanFiles) {
         files.add(name, rich().with_regions(&rich_regions_with(at, region)).bytes()).is(1, 0);
     }
     files.add("all-regions-zero", least().with_regions(&[Region::ZERO]).bytes()).is(1, 0);
-    let last = Region::new(REACH - PAGE, REACH - PAGE, PAGE);
-    files.add("a-region-that-ends-where-reach-ends", least().with_regions(&[G, last]).bytes()).is(0, 0);
+    let last = Region::new(GUEST_REACH - PAGE, PHYS_REACH - PAGE, PAGE);
+    for (name, number, region) in [
+        ("a-region-that-ends-where-reach-ends", 0, last),
+        ("a-region-a-page-past-the-guest-reach", 1, with_v(last, GUEST_REACH)),
+        ("a-region-a-page-past-the-physical-reach", 1, with_p(last, PHYS_REACH)),
+    ] {
+        files.add(name, least().with_regions(&[G, region]).bytes()).is(number, 0);
+    }
 }
 
 fn unsound_zones(files: &mut PlanFiles) {
@@ -433,7 +440,11 @@ fn requests_as_bytes(files: &mut PlanFiles) {
         ("add-with-p", 3, of_region(ADD_ZONE, 77, Region::new(0, 1 << 32, 0))),
         ("add-with-size", 3, of_region(ADD_ZONE, 77, Region::new(0, 0, 1))),
         ("remove-zone-with-a-region", 3, of_region(REMOVE_ZONE, 0, A)),
-        ("insert-off-by-a-byte-and-out-of-reach", 9, of_region(CPU_INSERT, 0, with_v(C, REACH + 1))),
+        ("insert-off-by-a-byte-and-out-of-reach", 9, of_region(CPU_INSERT, 0, with_v(C, GUEST_REACH + 1))),
+        ("insert-where-the-guest-reach-ends", 11, of_region(CPU_INSERT, 0, with_v(C, GUEST_REACH - C.size))),
+        ("insert-a-page-past-the-guest-reach", 10, of_region(CPU_INSERT, 0, with_v(C, GUEST_REACH - C.size + PAGE))),
+        ("insert-where-the-physical-reach-ends", 11, of_region(IOMMU_INSERT, 0, with_p(C, PHYS_REACH - C.size))),
+        ("insert-a-page-past-the-physical-reach", 10, of_region(IOMMU_INSERT, 0, with_p(C, PHYS_REACH - C.size + PAGE))),
         ("insert-with-its-highest-bit-set", 10, of_region(CPU_INSERT, 0, with_v(C, C.v.0 + (1 << 63)))),
         ("insert-without-its-high-half", 11, of_region(IOMMU_INSERT, 0, with_p(H, H.p.0 % (1 << 32)))),
         ("remove-without-its-high-half", 17, of_region(CPU_REMOVE, 9, with_v(H, 0))),

@@ -1,6 +1,6 @@
 //! What many cases are made from: the document's regions, and short ways to write words, zones and requests.
 
-use ordinary::limits::MAX_ZONES;
+use ordinary::limits::{GUEST_REACH, MAX_ZONES, PAGE, PHYS_REACH};
 use ordinary::{Config, ConfigWords, Record, Region, Table, TableWords, Zone};
 
 // The desk's regions; G is the GIC's.
@@ -8,6 +8,19 @@ pub const A: Region = Region::new(0x4000_0000, 0x8000_0000, 0x20_0000);
 pub const B: Region = Region::new(0x4000_0000, 0x8020_0000, 0x20_0000);
 pub const C: Region = Region::new(0x4010_0000, 0x9000_0000, 0x20_0000);
 pub const G: Region = Region::new(0x0800_0000, 0x0800_0000, 0x1_0000);
+
+/// Regions on both sides of each reach, and whether they are in reach, all by the document's own numbers. None overlaps the desk's.
+pub const AT_THE_REACHES: [(&str, Region, bool); 9] = [
+    ("guest end 2^40", Region::new((1 << 40) - PAGE, 0x7000_0000, PAGE), true),
+    ("guest end 2^40 + 4096", Region::new(1 << 40, 0x7000_0000, PAGE), false),
+    ("guest end 2^48", Region::new((1 << 48) - PAGE, 0x7000_0000, PAGE), false),
+    ("physical end 2^40 + 4096", Region::new(0, 1 << 40, PAGE), true),
+    ("physical end 2^48", Region::new(0, (1 << 48) - PAGE, PAGE), true),
+    ("physical end 2^48 + 4096", Region::new(0, 1 << 48, PAGE), false),
+    ("guest end 2^40, physical end 2^48", Region::new((1 << 40) - PAGE, (1 << 48) - PAGE, PAGE), true),
+    ("size 2^40", Region::new(0, 1 << 40, 1 << 40), true),
+    ("size 2^40 + 4096", Region::new(0, 1 << 40, (1 << 40) + PAGE), false),
+];
 
 // The kinds of a request.
 pub const ADD_ZONE: u32 = 1;
@@ -21,6 +34,15 @@ pub const IOMMU_REMOVE: u32 = 6;
 pub const V: usize = 0;
 pub const P: usize = 1;
 pub const SIZE: usize = 2;
+
+/// The reach that a word of a record meets first: the physical one for p; the guest one, which is the lower, for v and the size.
+pub fn reach_of(word: usize) -> u64 {
+    if word == P {
+        PHYS_REACH
+    } else {
+        GUEST_REACH
+    }
+}
 
 pub fn config_words(regions: &[Region], gic: usize) -> ConfigWords {
     Config { regions: regions.to_vec(), gic }.to_words()

@@ -1,15 +1,15 @@
 //! Cases for requests: each number, each two numbers that can apply at once, what a request does to the table, and random runs.
 
 use ordinary::layout::{config_record, zone_id, CONFIG_GIC};
-use ordinary::limits::{MAX_ID, MAX_IN_SET, MAX_ZONES, PAGE, REACH};
+use ordinary::limits::{GUEST_REACH, MAX_ID, MAX_IN_SET, MAX_ZONES, PAGE, PHYS_REACH};
 use ordinary::{ConfigWords, Record, Region, TableWords, Zone};
 
 use crate::book::Book;
 use crate::drawn::{poke_config, poke_table, sound_config};
 use crate::given::{
-    all_empty, config_words, held_words, of_region, of_zone, table_words, with_p, with_size, with_v, with_word, Held, P,
+    all_empty, config_words, held_words, of_region, of_zone, reach_of, table_words, with_p, with_size, with_v, with_word, Held, A,
+    ADD_ZONE, AT_THE_REACHES, B, C, CPU_INSERT, CPU_REMOVE, G, IOMMU_INSERT, IOMMU_REMOVE, P, REMOVE_ZONE,
 };
-use crate::given::{A, ADD_ZONE, B, C, CPU_INSERT, CPU_REMOVE, G, IOMMU_INSERT, IOMMU_REMOVE, REMOVE_ZONE};
 use crate::rng::Rng;
 
 const INSERTS: [(&str, u32); 2] = [("CPU", CPU_INSERT), ("IOMMU", IOMMU_INSERT)];
@@ -33,6 +33,7 @@ pub fn add(book: &mut Book, rng: &mut Rng) {
     no_requests(book);
     zones(book);
     form(book);
+    reaches(book);
     insertions(book);
     gic(book);
     full_sets(book);
@@ -152,19 +153,18 @@ fn desk_zones(book: &mut Book) {
 }
 
 fn desk_regions(book: &mut Book) {
-    let last = Region::new(REACH - PAGE, REACH - PAGE, PAGE);
     in_turn(
         book,
         &[
             ("size 0", 9, of_region(CPU_INSERT, 5, with_size(A, 0))),
             ("size 0x1800", 9, of_region(CPU_INSERT, 5, with_size(A, 0x1800))),
             ("p 2^64 - 4096, size 8192, v 0", 10, of_region(CPU_INSERT, 5, Region::new(0, LAST_PAGE, 8192))),
-            ("end exactly 2^48", 11, of_region(CPU_INSERT, 5, last)),
+            ("physical end exactly 2^48", 11, of_region(CPU_INSERT, 5, Region::new(0, (1 << 48) - PAGE, PAGE))),
+            ("guest end exactly 2^40", 11, of_region(CPU_INSERT, 5, Region::new((1 << 40) - PAGE, 0, PAGE))),
+            ("guest end a page above 2^40", 10, of_region(CPU_INSERT, 5, Region::new(1 << 40, 0, PAGE))),
             ("A with size 0x1000", 11, of_region(CPU_INSERT, 5, with_size(A, 0x1000))),
         ],
     );
-    book.change_to(config_words(&[G, last], 0), table_words(&[Zone::empty(5)]));
-    book.ask_request("end exactly 2^48, configured", of_region(CPU_INSERT, 5, last)).known(0);
 }
 
 // ---- the numbers for all kinds
@@ -267,22 +267,23 @@ fn form(book: &mut Book) {
         ("v 1 more", with_v(r, r.v.0 + 1)),
         ("p 1 more", with_p(r, r.p.0 + 1)),
         ("p 2^64 - 1", with_p(r, u64::MAX)),
-        ("v 2^48 + 1", with_v(r, REACH + 1)),
-        ("size 0 at 2^48 + 4096", Region::new(REACH + PAGE, 0, 0)),
+        ("v 2^40 + 1", with_v(r, GUEST_REACH + 1)),
+        ("size 0 at 2^40 + 4096", Region::new(GUEST_REACH + PAGE, 0, 0)),
         ("size 2^64 - 1", with_size(r, u64::MAX)),
-        ("p 2^48", with_p(r, REACH)),
+        ("v 2^40", with_v(r, GUEST_REACH)),
+        ("p 2^48", with_p(r, PHYS_REACH)),
         ("v 2^64 - 4096", with_v(r, LAST_PAGE)),
         ("size 2^64 - 4096", with_size(r, LAST_PAGE)),
-        ("the end at 2^48 + 4096", Region::new(REACH - PAGE, REACH - PAGE, 2 * PAGE)),
-        ("the end at 2^48", Region::new(REACH - PAGE, REACH - PAGE, PAGE)),
+        ("both ends a page past reach", Region::new(GUEST_REACH - PAGE, PHYS_REACH - PAGE, 2 * PAGE)),
+        ("both ends where reach ends", Region::new(GUEST_REACH - PAGE, PHYS_REACH - PAGE, PAGE)),
         ("another v", with_v(r, r.v.0 + PAGE)),
         ("another p", with_p(r, r.p.0 + PAGE)),
         ("another size", with_size(r, 2 * PAGE)),
         ("held, another size", with_size(region(1), 2 * PAGE)),
         ("the GIC's start, size 0", with_size(GIC, 0)),
         ("the GIC's start, size 0x1800", with_size(GIC, 0x1800)),
-        ("the GIC's p, v 2^48", with_v(GIC, REACH)),
-        ("the GIC's p, v 2^48 + 1", with_v(GIC, REACH + 1)),
+        ("the GIC's p, v 2^40", with_v(GIC, GUEST_REACH)),
+        ("the GIC's p, v 2^40 + 1", with_v(GIC, GUEST_REACH + 1)),
         ("the GIC's last page", Region::new(GIC.v.0, GIC.p.0 + PAGE, PAGE)),
         ("around the GIC", Region::new(GIC.v.0, GIC.p.0 - PAGE, 4 * PAGE)),
     ] {
@@ -290,6 +291,21 @@ fn form(book: &mut Book) {
             ask(book, base(), &format!("{side} {text}"), of_region(kind, 5, bad));
         }
         ask(book, base(), &format!("CPU {text}, no zone"), of_region(CPU_INSERT, 7, bad));
+    }
+}
+
+/// A region at an edge of a reach: at the desk, where it is not configured, and where it is beside the GIC.
+fn reaches(book: &mut Book) {
+    for (side, kind) in INSERTS {
+        for (text, region, is_in_reach) in AT_THE_REACHES {
+            for (what, regions, in_reach, out_of_reach) in
+                [("not configured", &[A, B, C, G][..], 11, 10), ("configured", &[region, G], 0, 1)]
+            {
+                book.change_to(config_words(regions, regions.len() - 1), table_words(&[Zone::empty(5)]));
+                let number = if is_in_reach { in_reach } else { out_of_reach };
+                book.ask_request(format!("{side} {text}, {what}"), of_region(kind, 5, region)).known(number);
+            }
+        }
     }
 }
 
@@ -462,7 +478,8 @@ fn poked(rng: &mut Rng, region: Region) -> Region {
     let mut numbers = [region.v.0, region.p.0, region.size];
     let at = rng.below(3);
     let more = numbers[at].wrapping_add(PAGE);
-    numbers[at] = *rng.pick(&[0, 1, PAGE, more, REACH - PAGE, REACH, REACH + 1, LAST_PAGE, u64::MAX]);
+    let reach = reach_of(at);
+    numbers[at] = *rng.pick(&[0, 1, PAGE, more, reach - PAGE, reach, reach + 1, LAST_PAGE, u64::MAX]);
     let [v, p, size] = numbers;
     Region::new(v, p, size)
 }

@@ -5,7 +5,9 @@ use ordinary::limits::{MAX_IN_SET, MAX_REGIONS, MAX_ZONES, PAGE};
 use ordinary::{ConfigWords, Region, Side, TableWords, Zone, TABLE_WORDS};
 
 use crate::book::Book;
-use crate::given::{all_empty, config_words, held_words, table_words, with_size, with_word, zone, Held, A, B, C, G, P, SIZE, V};
+use crate::given::{
+    all_empty, config_words, held_words, table_words, with_size, with_word, zone, Held, A, AT_THE_REACHES, B, C, G, P, SIZE, V,
+};
 use crate::rng::Rng;
 
 pub fn add(book: &mut Book) {
@@ -14,6 +16,7 @@ pub fn add(book: &mut Book) {
     ids(book);
     unused(book);
     configured(book);
+    reaches(book);
     guests(book);
     shared(book);
     full(book);
@@ -134,6 +137,14 @@ fn configured(book: &mut Book) {
     book.ask_table("the same with an unused configured record", config_of(MAX_REGIONS as u64 - 1), zero_held);
     book.ask_table("held but no longer configured", with_word(config(), config_record(3) + V, 0), base());
     ask(book, "repaired", base());
+}
+
+/// A zone that holds a region at an edge of a reach on both sides, where the region is configured.
+fn reaches(book: &mut Book) {
+    for (name, region, is_in_reach) in AT_THE_REACHES {
+        let words = table_words(&[zone(5, &[region], &[region])]);
+        book.ask_table(format!("{name}, held"), config_words(&[G, region], 0), words).known(is_in_reach.into());
+    }
 }
 
 /// Configured regions 62 and 63 share guest addresses.

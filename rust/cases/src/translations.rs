@@ -3,7 +3,7 @@
 use std::collections::BTreeSet;
 
 use ordinary::layout::{zone_id, CONFIG_COUNT, CONFIG_GIC};
-use ordinary::limits::{MAX_ID, PAGE, REACH};
+use ordinary::limits::{GUEST_REACH, MAX_ID, PAGE, PHYS_REACH};
 use ordinary::{ConfigWords, Region, TableWords};
 
 use crate::book::Book;
@@ -17,7 +17,8 @@ const LOW: Region = Region::new(0x4000_0000, 0x8000_0000, 2 * PAGE);
 const NEXT: Region = Region::new(0x4000_2000, 0x7fff_0000, PAGE);
 /// Shares guest addresses with LOW and NEXT.
 const SHIFTED: Region = Region::new(0x4000_1000, 0x9000_0000, 4 * PAGE);
-const LAST: Region = Region::new(REACH - PAGE, REACH - PAGE, PAGE);
+/// Both its ends are where reach ends.
+const LAST: Region = Region::new(GUEST_REACH - PAGE, PHYS_REACH - PAGE, PAGE);
 
 /// The sides with their numbers.
 const SIDES: [(&str, u32); 2] = [("cpu", 0), ("iommu", 1)];
@@ -45,7 +46,7 @@ fn edges_of(region: Region) -> Vec<u64> {
 fn edges(book: &mut Book) {
     book.change_to(config(), table());
     for (id, regions) in [(5, &[LOW, NEXT, LAST, G][..]), (0, &[G, ZEROTH]), (MAX_ID, &[SHIFTED])] {
-        let mut addresses = BTreeSet::from([0, LOW.p.0, REACH, 1 << 63, PAGE.wrapping_neg(), u64::MAX]);
+        let mut addresses = BTreeSet::from([0, LOW.p.0, PHYS_REACH, 1 << 63, PAGE.wrapping_neg(), u64::MAX]);
         addresses.extend(regions.iter().flat_map(|&region| edges_of(region)));
         for address in addresses {
             for (name, side) in SIDES {

@@ -2,7 +2,7 @@
 
 use cases::Case;
 use ordinary::layout::{config_record, set_count, set_record, zone_id, CONFIG_COUNT, CONFIG_GIC, TABLE_COUNT};
-use ordinary::limits::{MAX_IN_SET, MAX_REGIONS, MAX_REQUESTS, MAX_ZONES, PAGE, REACH};
+use ordinary::limits::{GUEST_REACH, MAX_IN_SET, MAX_REGIONS, MAX_REQUESTS, MAX_ZONES, PAGE, PHYS_REACH};
 use ordinary::{encode, Config, ConfigWords, Record, Region, Side, State, Table, TableWords, Zone, CONFIG_WORDS, TABLE_WORDS};
 
 use crate::random::{EDGES, EDITIONS};
@@ -59,6 +59,12 @@ fn table_of(count: usize) -> State {
     desk(&ids.take(count).map(Zone::empty).collect::<Vec<_>>())
 }
 
+/// The GIC, and a region that zone 5 holds on both sides.
+fn beside_the_gic(region: Region) -> State {
+    let config = Config { regions: vec![G, region], gic: 0 };
+    State { config, table: Table { zones: vec![zone(5, &[region], &[region])] }, edition: 0 }
+}
+
 /// The states that the cases are made from. All are sound.
 fn states() -> Vec<State> {
     vec![
@@ -72,6 +78,7 @@ fn states() -> Vec<State> {
         sets_of(MAX_IN_SET),
         table_of(MAX_ZONES - 1),
         table_of(MAX_ZONES),
+        beside_the_gic(Region::new(GUEST_REACH - PAGE, PHYS_REACH - PAGE, PAGE)),
     ]
 }
 
@@ -84,8 +91,8 @@ fn edge_regions() -> Vec<Region> {
         Region { size: 0x1000, ..A },
         Region::new(0, PAGE.wrapping_neg(), 2 * PAGE),
         Region::new(PAGE.wrapping_neg(), 0, 2 * PAGE),
-        Region::new(0, 0, REACH),
-        Region::new(0, 0, REACH + PAGE),
+        Region::new(0, 0, GUEST_REACH),
+        Region::new(0, 0, GUEST_REACH + PAGE),
     ];
     for start in EDGES {
         for size in [PAGE, PAGE.wrapping_neg()] {
@@ -165,6 +172,9 @@ fn table_cases() -> Vec<Case> {
     }
     let config = desk(&[]).config.to_words();
     cases.extend(broken_tables().into_iter().map(|table| Case::table(config, table)));
+    for state in edge_regions().into_iter().map(beside_the_gic) {
+        cases.push(Case::table(state.config.to_words(), state.table.to_words()));
+    }
     cases
 }
 

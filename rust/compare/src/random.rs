@@ -2,13 +2,13 @@
 
 use cases::rng::Rng;
 use cases::Case;
-use ordinary::limits::{MAX_IN_SET, MAX_REGIONS, MAX_REQUESTS, MAX_ZONES, PAGE, REACH};
+use ordinary::limits::{GUEST_REACH, MAX_IN_SET, MAX_REGIONS, MAX_REQUESTS, MAX_ZONES, PAGE, PHYS_REACH};
 use ordinary::{encode, Config, ConfigWords, Record, Region, State, Table, TableWords, Zone};
 
 use crate::damage::{damage_bytes, damage_words};
 
 /// Numbers at which something changes, or just beside.
-pub const EDGES: [u64; 36] = [
+pub const EDGES: [u64; 40] = [
     0,
     1,
     2,
@@ -35,10 +35,14 @@ pub const EDGES: [u64; 36] = [
     MAX_REQUESTS as u64 - 1,
     MAX_REQUESTS as u64,
     MAX_REQUESTS as u64 + 1,
-    REACH - PAGE,
-    REACH - 1,
-    REACH,
-    REACH + PAGE,
+    GUEST_REACH - PAGE,
+    GUEST_REACH - 1,
+    GUEST_REACH,
+    GUEST_REACH + PAGE,
+    PHYS_REACH - PAGE,
+    PHYS_REACH - 1,
+    PHYS_REACH,
+    PHYS_REACH + PAGE,
     1 << 32,
     (1 << 32) - 1,
     1 << 63,
@@ -53,7 +57,7 @@ pub const EDITIONS: [u32; 5] = [0, 1, 2, u32::MAX - 1, u32::MAX];
 pub fn number(rng: &mut Rng) -> u64 {
     match rng.below(8) {
         0 => rng.word(),
-        1 => rng.word() % REACH / PAGE * PAGE,
+        1 => rng.word() % *rng.pick(&[GUEST_REACH, PHYS_REACH]) / PAGE * PAGE,
         2 => rng.word() % 64 * PAGE,
         _ => *rng.pick(&EDGES),
     }
@@ -79,7 +83,7 @@ pub fn config(rng: &mut Rng) -> Config {
         _ => 2 + rng.below(14),
     };
     let sizes: Vec<u64> = (0..count).map(|_| PAGE * (1 + rng.below(4) as u64)).collect();
-    let mut p = if rng.one_in(4) { REACH - sizes.iter().sum::<u64>() } else { 0 };
+    let mut p = if rng.one_in(4) { PHYS_REACH - sizes.iter().sum::<u64>() } else { 0 };
     let has_gaps = p == 0;
     let is_crowded = rng.one_in(2);
     let mut regions = Vec::new();
@@ -95,12 +99,13 @@ pub fn config(rng: &mut Rng) -> Config {
     Config { regions, gic }
 }
 
-/// Where a region stands in guest addresses: where it is physically, or where others are likely to be too.
+/// Where a region stands in guest addresses: where it is physically, as far as guest addresses go (2^48 is a multiple of 2^40, so one
+/// at the end of physical addresses is at the end of guest ones), or where others are likely to be too.
 fn guest_start(rng: &mut Rng, p: u64, size: u64, is_crowded: bool) -> u64 {
     match rng.below(16) {
-        0 => REACH - size,
+        0 => GUEST_REACH - size,
         _ if is_crowded => PAGE * rng.below(24) as u64,
-        _ => p,
+        _ => p % GUEST_REACH,
     }
 }
 

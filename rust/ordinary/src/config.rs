@@ -104,7 +104,7 @@ impl Config {
 #[cfg(test)]
 mod tests {
     use super::*;
-    use crate::limits::{MAX_REGIONS, PAGE, REACH};
+    use crate::limits::{GUEST_REACH, MAX_REGIONS, PAGE, PHYS_REACH};
 
     fn check(gic: usize, regions: &[Region]) -> Result<(), ConfigFault> {
         Config { regions: regions.to_vec(), gic }.check()
@@ -125,10 +125,11 @@ mod tests {
 
     #[test]
     fn faults_are_found_position_by_position() {
-        let high = Region::new(0, REACH, PAGE);
         let bad = Region::new(0, 1, PAGE);
-        assert_eq!(check(0, &[high, bad]), Err(ConfigFault::Reach { place: 0 }));
-        assert_eq!(check(0, &[bad, high]), Err(ConfigFault::Form { place: 0 }));
+        for high in [Region::new(0, PHYS_REACH, PAGE), Region::new(GUEST_REACH, 0, PAGE)] {
+            assert_eq!(check(0, &[high, bad]), Err(ConfigFault::Reach { place: 0 }));
+            assert_eq!(check(0, &[bad, high]), Err(ConfigFault::Form { place: 0 }));
+        }
         assert_eq!(check(0, &[page(0), page(0), bad]), Err(ConfigFault::Overlap { place: 1, earlier: 0 }));
     }
 

@@ -1,4 +1,5 @@
-//! The rules of document 01 in ordinary Rust: regions, configurations, tables, requests, translation, plans and terminals.
+//! The rules of document 01, as the landed requests of document 02 amend them, in ordinary Rust: regions, configurations, tables,
+//! requests, translation, plans and terminals.
 //!
 //! It is the second reading of the rules, written from the document alone and sharing nothing with the proved code, so that the
 //! two can be compared (`rust/compare`) and measured against each other (`rust/bench`). By it `rust/cases` makes the stored plan
@@ -28,8 +29,10 @@ pub use words::{ConfigWords, TableWords, CONFIG_WORDS, TABLE_WORDS};
 pub mod limits {
     /// Every start and every size is a multiple of this.
     pub const PAGE: u64 = 4096;
-    /// No region ends above this, in guest or in physical addresses.
-    pub const REACH: u64 = 1 << 48;
+    /// No region ends above this in guest addresses.
+    pub const GUEST_REACH: u64 = 1 << 40;
+    /// No region ends above this in physical addresses.
+    pub const PHYS_REACH: u64 = 1 << 48;
     /// The most regions of a configuration.
     pub const MAX_REGIONS: usize = 64;
     /// The most zones of a table.

@@ -1,4 +1,4 @@
-use crate::limits::{PAGE, REACH};
+use crate::limits::{GUEST_REACH, PAGE, PHYS_REACH};
 
 /// A guest (virtual) address.
 #[derive(Clone, Copy, Debug, PartialEq, Eq)]
@@ -33,10 +33,10 @@ impl Region {
         self.size > 0 && (self.v.0 | self.p.0 | self.size) % PAGE == 0
     }
 
-    /// Whether both ends, as whole numbers, are within reach.
+    /// Whether each end, as a whole number, is within the reach of its kind of address.
     pub fn is_in_reach(&self) -> bool {
-        let ends_in_reach = |start: u64| start <= REACH && self.size <= REACH - start;
-        ends_in_reach(self.v.0) && ends_in_reach(self.p.0)
+        let ends_by = |reach: u64, start: u64| start <= reach && self.size <= reach - start;
+        ends_by(GUEST_REACH, self.v.0) && ends_by(PHYS_REACH, self.p.0)
     }
 
     /// Whether some physical address is covered by both.
@@ -112,11 +112,16 @@ mod tests {
 
     #[test]
     fn reach() {
-        assert!(Region::new(0, REACH - PAGE, PAGE).is_in_reach());
-        assert!(Region::new(REACH - PAGE, 0, PAGE).is_in_reach());
-        assert!(!Region::new(0, REACH - PAGE, 2 * PAGE).is_in_reach());
-        assert!(!Region::new(REACH, 0, PAGE).is_in_reach());
+        assert!(Region::new(0, PHYS_REACH - PAGE, PAGE).is_in_reach());
+        assert!(Region::new(GUEST_REACH - PAGE, 0, PAGE).is_in_reach());
+        assert!(Region::new(0, 0, GUEST_REACH).is_in_reach());
+        assert!(!Region::new(0, PHYS_REACH - PAGE, 2 * PAGE).is_in_reach());
+        assert!(!Region::new(GUEST_REACH - PAGE, 0, 2 * PAGE).is_in_reach());
+        assert!(!Region::new(0, PHYS_REACH, PAGE).is_in_reach());
+        assert!(!Region::new(GUEST_REACH, 0, PAGE).is_in_reach());
+        assert!(!Region::new(PHYS_REACH - PAGE, 0, PAGE).is_in_reach());
         assert!(!Region::new(0, PAGE.wrapping_neg(), 2 * PAGE).is_in_reach());
+        assert!(!Region::new(PAGE.wrapping_neg(), 0, 2 * PAGE).is_in_reach());
     }
 
     #[test]

@@ -1,6 +1,6 @@
 //! The desk examples of document 01 and its whole plan.
 
-use ordinary::limits::{MAX_IN_SET, MAX_REGIONS, MAX_REQUESTS, MAX_ZONES, PAGE, REACH};
+use ordinary::limits::{GUEST_REACH, MAX_IN_SET, MAX_REGIONS, MAX_REQUESTS, MAX_ZONES, PAGE, PHYS_REACH};
 use ordinary::{encode, Config, Guest, Phys, Plan, PlanRefusal, ReadFault, Record, Refusal, Region, Side, State, Table, Zone};
 
 const A: Region = Region::new(0x4000_0000, 0x8000_0000, 0x20_0000);
@@ -119,17 +119,20 @@ fn form_reach_and_configured() {
     assert_eq!(desk.ask(CPU_INSERT, 5, Region { size: 0, ..A }), 9);
     assert_eq!(desk.ask(CPU_INSERT, 5, Region { size: 0x1800, ..A }), 9);
     assert_eq!(desk.ask(CPU_INSERT, 5, Region::new(0, PAGE.wrapping_neg(), 2 * PAGE)), 10);
-    assert_eq!(desk.ask(CPU_INSERT, 5, Region::new(0, REACH - PAGE, PAGE)), 11);
+    assert_eq!(desk.ask(CPU_INSERT, 5, Region::new(0, PHYS_REACH - PAGE, PAGE)), 11);
+    assert_eq!(desk.ask(CPU_INSERT, 5, Region::new(0, PHYS_REACH, PAGE)), 10);
+    assert_eq!(desk.ask(CPU_INSERT, 5, Region::new(GUEST_REACH - PAGE, 0, PAGE)), 11);
+    assert_eq!(desk.ask(CPU_INSERT, 5, Region::new(GUEST_REACH, 0, PAGE)), 10);
     assert_eq!(desk.ask(CPU_INSERT, 5, Region { size: 0x1000, ..A }), 11);
 }
 
 #[test]
-fn an_end_exactly_at_reach() {
-    let last = Region::new(REACH - PAGE, REACH - PAGE, PAGE);
+fn ends_exactly_at_both_reaches() {
+    let last = Region::new(GUEST_REACH - PAGE, PHYS_REACH - PAGE, PAGE);
     let mut desk = Desk::with(&[last, G], 1);
     assert_eq!(desk.ask(CPU_INSERT, 5, last), 0);
-    let answer = desk.table.translate(&desk.config, 5, Side::Cpu, Guest(REACH - 1));
-    assert_eq!(answer, Ok(Phys(REACH - 1)));
+    let answer = desk.table.translate(&desk.config, 5, Side::Cpu, Guest(GUEST_REACH - 1));
+    assert_eq!(answer, Ok(Phys(PHYS_REACH - 1)));
 }
 
 #[test]

@@ -20,7 +20,7 @@ pub enum ConfigFault {
         /// The region.
         place: u64,
     },
-    /// C5: a region is out of reach.
+    /// C5: a region ends above 2^40 in guest addresses, or above 2^48 in physical ones.
     Reach {
         /// The region.
         place: u64,
@@ -107,7 +107,7 @@ pub enum Refusal {
     ZoneInUse = 8,
     /// 9: the region is not well formed.
     Form = 9,
-    /// 10: the region is out of reach.
+    /// 10: the region ends above 2^40 in guest addresses, or above 2^48 in physical ones.
     Reach = 10,
     /// 11: the region is not equal to a configured one.
     NotConfigured = 11,

@@ -307,8 +307,8 @@ module _ (lim : Limits) where
       let r : Region = coveringIn a some in
       exactly-of (first-map (λ n. translatedAs n a r) (standingRules lim c t ++ translationRules z id side a) 0)
       (first-of (translatedAs 0 a r) (ComesOut z id side a)
-      (tells-unsound c t and tells-bad c t and tells-lt _ _ and tells-not _ _ (tells-zone id z) and tells-not _ _
-      (tells-some (coversGuest a) (λ x. CoversGuest x a) (tells-covers a) some) and all)
+      (tells-unsound c t and tells-bad c t and tells-lt _ _ and tells-not _ _ (tells-zone id z)
+      and tells-not _ _ (tells-some (coversGuest a) (λ x. CoversGuest x a) (tells-covers a) some) and all)
       (λ none. comes-out (configOf c) z (table-stands c t (true-of _ (none .1 .0))) id side a (twice (any (coversGuest a) some) (tells-some (coversGuest a) (λ x. CoversGuest x a) (tells-covers a) some) (none .1 .1 .1 .1 .0))))
 
   -- ---- runs
@@ -418,8 +418,8 @@ module _ (lim : Limits) where
   unfolding judged judgedRules
   judged-exactly s p =
       first-of (ended (runOf lim s p)) (Ends lim (configOf (s .config)) (tableOf (s .table)) (requestsOf p))
-      (tells-not _ _ (tells-config (configOf (s .config)) p) and tells-not _ _
-      (tells-eq _ _) and tells-eq _ _ and tells-not _ _ (tells-zones (tableOf (s .table)) (p .zones)) and all)
+      (tells-not _ _ (tells-config (configOf (s .config)) p) and tells-not _ _ (tells-eq _ _) and tells-eq _ _
+      and tells-not _ _ (tells-zones (tableOf (s .table)) (p .zones)) and all)
       (λ none. ends-exactly (configOf (s .config)) (tableOf (s .table)) (requestsOf p))
 
   pub apply-is-exact : ApplyIsExact lim

@@ -7,9 +7,9 @@ use native.Mathlib.Omega.{arith}
 use mathlib.Core.Bool.{true}
 use mathlib.Core.List.{List, [], _∷_, _++_, flatMap, append-assoc, append-nil}
 use mathlib.Core.Path.{_≡_, refl, sym, ap, ap₂, _∙_}
-use borrow.Author.Tests.{eqb-true, eq-eqb}
-use lib.ListN.{length, getD, take, drop, set, length-append, take-append-drop, length-take, length-drop, replicate, length-replicate, getD-replicate, replicate-append-replicate}
-use lib.Seq.{take-all, drop-cons, split-at, getD-append-add, set-split, getD-take, getD-drop, drop-drop, take-add, set-at, take-at, drop-at, getD-at, sets, sets-eq, paste, paste-zero, length-paste-head, paste-suc, take-paste, drop-paste}
+use borrow.Author.Tests.{eqb-true}
+use lib.ListN.{length, getD, take, drop, set, length-append, take-append-drop, length-take, length-drop, replicate, length-replicate, replicate-append-replicate}
+use lib.Seq.{take-all, drop-cons, split-at, getD-append-add, set-split, getD-drop, drop-drop, take-add, set-at, take-at, drop-at, getD-at, sets, sets-eq, paste, paste-zero, length-paste-head, paste-suc, take-paste, drop-paste}
 use Rattle.lists.specs.First.{all}
 use Rattle.lists.specs.Places.{places, tab}
 use Rattle.lists.specs.Room.{room, removeAt}
@@ -271,11 +271,6 @@ module _ {A : Type 0} where
   unfolding part
   part-all n l e = take-all n l (omega arith)
 
-  -- of a list in three pieces, the middle one
-  pub part-mid : (a b c : List A) (k n : ℕ) → length a ≡ k → length b ≡ n → part k n (a ++ (b ++ c)) ≡ b
-  unfolding part
-  part-mid a b c k n p q = ap (take n) (drop-at a (b ++ c) k p) ∙ take-at b c n q
-
 -- ---- zeros
 pub zeros-part : (w : List ℕ) (k n : ℕ) → all (isZeroAt w) (places k n) ≡ true → k + n ≤ length w
     → part k n w ≡ replicate n 0
@@ -284,19 +279,6 @@ zeros-part w k (suc n) e h =
     let z : getD w k 0 ≡ 0 = eqb-true _ _ (every-at (isZeroAt w) k (suc n) e k (omega arith) (omega arith)) in
     let f : all (isZeroAt w) (places (k + 1) n) ≡ true = every-make (isZeroAt w) (k + 1) n (λ i a b. every-at (isZeroAt w) k (suc n) e i (omega arith) (omega arith)) in
     part-cons k n w 0 (omega arith) ∙ ap₂ (λ (x : ℕ) (l : List ℕ). x ∷ l) z (zeros-part w (k + 1) n f (omega arith))
-
-pub part-zeros : (w : List ℕ) (k n : ℕ) → part k n w ≡ replicate n 0 → k + n ≤ length w
-    → all (isZeroAt w) (places k n) ≡ true
-unfolding part
-part-zeros w k n e h =
-    every-make (isZeroAt w) k n
-    (λ i a b.
-    let j : ℕ = i - k in
-    let s : k + j ≡ i = omega arith in
-    let g : getD (take n (drop k w)) j 0 ≡ getD (drop k w) j 0 = getD-take n (drop k w) j 0 (omega arith) in
-    let r : getD (replicate n 0) j 0 ≡ 0 = getD-replicate n j 0 0 (omega arith) in
-    eq-eqb (getD w i 0) 0
-    (ap (λ (x : ℕ). getD w x 0) (sym s) ∙ sym (getD-drop k w j 0) ∙ sym g ∙ ap (λ (l : List ℕ). getD l j 0) e ∙ r))
 
 -- ---- the parts of a counted list
 module _ {A : Type 0} (g : A → List ℕ) (m : ℕ) where

@@ -1,4 +1,4 @@
--- Words compared one by one.
+-- Words compared one by one: as many on both sides, and those from a place on give the answer for all.
 use Prim.Native.Nat.{ℕ, suc, _+_, _-_, _≤_, _<_}
 use native.Mathlib.Omega.{arith}
 use mathlib.Core.Bool.{Bool, true, false, _&&_}

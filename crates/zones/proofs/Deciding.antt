@@ -27,7 +27,7 @@ use Rattle.rules.specs.declared.Side.{Side}
 use Rattle.rules.specs.declared.Side.the-variants.{Cpu, Iommu}
 use Rattle.zones.specs.Decide.{refusing, decidedAdd, decidedDrop, decidedInsert, decidedCut, decidedKind, decided, sharedElsewhere, Ready}
 use Rattle.zones.specs.Holding.{holds}
-use Rattle.zones.specs.View.{configIn, ConfigPassed, setIn, zonesIn}
+use Rattle.zones.specs.View.{configIn, setIn, zonesIn}
 use Rattle.zones.specs.Words.{Within}
 use Rattle.zones.specs.declared.decide.Change.{Change}
 use Rattle.zones.specs.declared.decide.Change.the-variants.{Refuse, Drop, Push, Cut}
@@ -229,6 +229,3 @@ module _ (c : Configuration) (t : List Zone) (q : Request) (d : Change) where
 -- what `decide` asks is at hand
 pub ready-within : (c t : List ℕ) → Ready c t → Within (zonesIn t)
 ready-within c t r = r .words .within
-
-pub ready-config : (c t : List ℕ) → Ready c t → ConfigPassed c
-ready-config c t r = r .config

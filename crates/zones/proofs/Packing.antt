@@ -1,24 +1,24 @@
--- The check of the words: what each return of the code answers, and that the test holds exactly of packed words.
+-- The check of the words: what each return of the code answers; and words that pass are packed, since each part of
+-- them is the words of what the readers find there.
 use Prim.Native.Nat.{ℕ, _+_, _-_, _*_, _≤_, _<_}
 use native.Mathlib.Omega.{arith}
 use mathlib.Core.Bool.{Bool, true}
-use mathlib.Core.List.{List, [], _∷_, _++_, flatMap, append-assoc, append-nil}
+use mathlib.Core.List.{List, [], _∷_, _++_}
 use mathlib.Core.Path.{_≡_, refl, sym, ap, ap₂, _∙_}
-use borrow.Author.Tests.{leb-true, le-leb}
+use borrow.Author.Tests.{leb-true}
 use lib.Dec.{leb}
-use lib.ListN.{length, getD, length-append, replicate, length-replicate}
+use lib.ListN.{length, getD}
 use lib.Seq.{sets}
 use Rattle.lists.specs.First.{all}
 use Rattle.lists.specs.Places.{places}
 use Rattle.lists.specs.Words.{part}
-use Rattle.lists.proofs.Places.{every-at, every-make, length-tab}
-use Rattle.lists.proofs.Tests.{Holds, parts, whole}
-use Rattle.lists.proofs.Words.{length-flat, part-add, part-cons, part-all, part-mid, part-zeros, counted-words, parts-counted}
+use Rattle.lists.proofs.Places.{every-at, length-tab}
+use Rattle.lists.proofs.Tests.{Holds, parts}
+use Rattle.lists.proofs.Words.{part-add, part-cons, part-all, parts-counted}
 use Rattle.rules.specs.Changes.{setAt}
 use Rattle.rules.specs.Limits.{mostZones, mostInSet}
 use Rattle.rules.specs.Regions.{noRegion}
-use Rattle.rules.specs.Tables.{noZone, Zone}
-use Rattle.rules.specs.declared.Region.{Region}
+use Rattle.rules.specs.Tables.{noZone}
 use Rattle.rules.specs.declared.Side.{Side}
 use Rattle.rules.specs.declared.Side.the-variants.{Cpu, Iommu}
 use Rattle.zones.specs.Layout.{regionWords, setWords, zoneWords, tableWords, zoneBase, setBase, recordBase}
@@ -26,8 +26,8 @@ use Rattle.zones.specs.Packing.{zeros, setPacked, zonePacked, packed}
 use Rattle.zones.specs.Records.{wordsOfRegion, recordAt, recordsAt}
 use Rattle.zones.specs.View.{setIn, zoneIn, zonesIn}
 use Rattle.zones.specs.Words.{wordsOfSet, wordsOfZone, wordsOf, Packed}
-use Rattle.zones.proofs.Focus.{zone-wide, table-wide, zero-zone, pre, post, pre-long, focus-same}
-use Rattle.zones.proofs.Records.{region-wide, zero-region, region-part}
+use Rattle.zones.proofs.Focus.{zero-zone}
+use Rattle.zones.proofs.Records.{zero-region, region-part}
 use Rattle.zones.proofs.Writers.{set-in}
 
 -- ---- the returns
@@ -43,7 +43,7 @@ module _ (w : List ℕ) where
   pub packed-at : (z b : ℕ) (s : Side) (t : Bool) → b ≡ setBase z s → t ≡ setPacked w b → t ≡ setPacked w (setBase z s)
   packed-at z b s t e g = g ∙ ap (setPacked w) e
 
--- ---- the test holds of packed words only
+-- ---- words of which the test holds are packed
 module _ (w : List ℕ) (len : length w ≡ tableWords) where
   set-part : (z : ℕ) (s : Side) → setBase z s + setWords ≤ tableWords → setPacked w (setBase z s) ≡ true → part (setBase z s) setWords w ≡ wordsOfSet (setIn w z s)
   unfolding setPacked wordsOfSet setIn recordsAt recordAt
@@ -120,62 +120,3 @@ module _ (w : List ℕ) (len : length w ≡ tableWords) where
       within = record { zones = (let c : getD w 0 0 ≤ mostZones = few-zones in omega (arith, table-len)); sets = set-small };
       words = sym (part-all tableWords w len) ∙ table-part;
     }
-
--- ---- and of all of them
-module _ (w : List ℕ) (p : Packed w) where
-  m : List Zone
-  m = zonesIn w
-
-  long : length w ≡ tableWords
-  long = ap length (p .words) ∙ table-wide (zonesIn w)
-
-  count : getD w 0 0 ≡ length m
-  unfolding m zonesIn
-  count = sym (length-tab (getD w 0 0) (zoneIn w))
-
-  rest-zones : zeros w (zoneBase (length m)) ((mostZones - length m) * zoneWords) ≡ true
-  unfolding m wordsOf
-  rest-zones =
-      let b : length m ≤ mostZones = p .within .zones in
-      let a : List ℕ = length m ∷ flatMap wordsOfZone m in
-      let n : ℕ = (mostZones - length m) * zoneWords in
-      let f : w ≡ a ++ (replicate n 0 ++ []) = p .words ∙ counted-words wordsOfZone zoneWords mostZones noZone zero-zone m b ∙ ap (λ (l : List ℕ). a ++ l) (sym (append-nil (replicate n 0))) in
-      part-zeros w (zoneBase (length m)) n
-      (ap (part (zoneBase (length m)) n) f ∙ part-mid a (replicate n 0) [] (zoneBase (length m)) n (omega (arith, length-flat wordsOfZone zoneWords zone-wide m)) (length-replicate {A = ℕ} n 0))
-      (omega (arith, long))
-
-  module _ (z : ℕ) (h : z < length m) (s : Side) where
-    xs : List Region
-    xs = setAt m z s
-
-    set-count : getD w (setBase z s) 0 ≡ length xs
-    unfolding m xs setIn recordsAt
-    set-count = sym (ap length (set-in w z s h) ∙ length-tab (getD w (setBase z s) 0) (recordAt w (setBase z s + 1)))
-
-    small : length xs ≤ mostInSet
-    unfolding m xs
-    small = p .within .sets z s h
-
-    rest-records : zeros w (recordBase (setBase z s) (length xs)) ((mostInSet - length xs) * regionWords) ≡ true
-    unfolding m xs wordsOfSet
-    rest-records =
-        let b : length m ≤ mostZones = p .within .zones in
-        let n : ℕ = (mostInSet - length xs) * regionWords in
-        let c : List ℕ = length xs ∷ flatMap wordsOfRegion xs in
-        let f : w ≡ (pre m z s ++ c) ++ (replicate n 0 ++ post m z s) =
-        p .words ∙ focus-same m z s h b ∙ ap (λ (l : List ℕ). pre m z s ++ (l ++ post m z s)) (counted-words wordsOfRegion regionWords mostInSet noRegion zero-region xs small) ∙ simp append-assoc in
-        let k : ℕ = recordBase (setBase z s) (length xs) in
-        part-zeros w k n
-        (ap (part k n) f ∙ part-mid (pre m z s ++ c) (replicate n 0) (post m z s) k n (omega (arith, length-append (pre m z s) c, pre-long m z s h b, length-flat wordsOfRegion regionWords region-wide xs)) (length-replicate {A = ℕ} n 0))
-        (omega (arith, long, small, base-fits w long z s (omega arith)))
-
-    set-holds : setPacked w (setBase z s) ≡ true
-    unfolding setPacked
-    set-holds = rw set-count (whole _ (le-leb (length xs) mostInSet small, (rest-records, tt)))
-
-  pub packed-holds : packed w ≡ true
-  unfolding packed zonePacked m
-  packed-holds =
-      let b : length m ≤ mostZones = p .within .zones in
-      let zones : all (zonePacked w) (places 0 (length m)) ≡ true = every-make (zonePacked w) 0 (length m) (λ z a l. let h : z < length m = omega arith in whole _ (set-holds z h Cpu, (set-holds z h Iommu, tt))) in
-      rw count (whole _ (le-leb (length m) mostZones b, (zones, (rest-zones, tt))))

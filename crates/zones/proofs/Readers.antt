@@ -1,6 +1,6 @@
 -- A reader returns the word at its place, which is what the view has there; a search returns the first index, since
 -- what is left gives the whole answer.
-use Prim.Native.Nat.{ℕ, _+_, _*_, _≤_, _<_}
+use Prim.Native.Nat.{ℕ, _+_, _≤_, _<_}
 use native.Mathlib.Omega.{arith}
 use mathlib.Core.Bool.{Bool, true, false}
 use mathlib.Core.List.{List}
@@ -14,7 +14,7 @@ use Rattle.rules.specs.Tables.{hasId}
 use Rattle.rules.specs.declared.Region.{Region}
 use Rattle.rules.specs.declared.Side.{Side}
 use Rattle.rules.specs.declared.Side.the-variants.{Cpu, Iommu}
-use Rattle.zones.specs.Layout.{setWords, zoneWords, tableWords, zoneBase, zoneStart, setBase, recordBase}
+use Rattle.zones.specs.Layout.{setWords, tableWords, zoneBase, zoneStart, setBase, recordBase}
 use Rattle.zones.specs.Records.{regionAt, recordAt, recordsAt}
 use Rattle.zones.specs.View.{recordIn, setIn, zoneIn, zonesIn}
 

@@ -1,6 +1,6 @@
 -- The words of a configuration and of a table hold what they were made of:
 -- counted lists one behind the other, each read back where it stands.
-use Prim.Native.Nat.{ℕ, suc, _+_, _-_, _*_, _≤_}
+use Prim.Native.Nat.{ℕ, suc, _+_, _*_, _≤_}
 use native.Mathlib.Nat.{suc-mul}
 use native.Mathlib.Omega.{arith}
 use mathlib.Core.List.{List, [], _∷_, _++_, flatMap, map, map-map, append-assoc, append-nil}

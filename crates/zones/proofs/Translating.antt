@@ -92,9 +92,6 @@ module _ (w : List ℕ) (id : ℕ) (s : Side) (a : ℕ) where
       none-covers l r = refused-as 18 (λ e. omega arith) (last 18 (rule-hit _ _ _ _ _ (ap not (covered false (le-ltb _ _ l))) refl)) r
 
       module _ (l : i < m) (x : Region) (ex : x ≡ recordIn w z s i) where
-        inside : i < length (setIn w z s)
-        inside = omega arith
-
         region-here : x ≡ getD (setIn w z s) i noRegion
         unfolding setIn recordsAt recordIn
         region-here = ex ∙ sym (getD-tab _ (recordAt w (setBase z s + 1)) i noRegion (omega (arith, length-tab (getD w (setBase z s) 0) (recordAt w (setBase z s + 1)))))

@@ -1,3 +1,4 @@
+-- Invariant: whether the words from k on are the same is the whole answer.
 use borrow.Author.Needs.{needs}
 use Prim.Native.Nat.{_-_, _≤_}
 use mathlib.Core.Path.{_≡_}

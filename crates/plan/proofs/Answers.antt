@@ -1,4 +1,5 @@
--- What each return of the sections' readers answers.
+-- What each return of the sections' readers answers: a field's reader says how far the bytes go, and that decides what
+-- the format reads.
 use Prim.Native.Nat.{ℕ, _+_, _-_, _*_, _/_, _≤_, _<_}
 use native.Mathlib.Omega.{arith}
 use mathlib.Core.Bool.{Bool, true, false, not}

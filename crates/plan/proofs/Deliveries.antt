@@ -1,4 +1,5 @@
--- Calls that are those of `apply` by value do what the rules say.
+-- A call that is that of `apply` by value leaves words that hold the rules' next state; so calls in turn do what the
+-- rules do in turn.
 use Prim.Native.Nat.{ℕ}
 use mathlib.Core.Bool.{Bool, true, false, cond}
 use mathlib.Core.List.{List}

@@ -1,4 +1,4 @@
--- Fields, by how many bytes are there.
+-- Fields, by how many bytes are there: a field is read where its bytes are, and refused with 20 where not.
 use Prim.Native.Nat.{ℕ, _+_, _-_, _≤_, _<_}
 use native.Mathlib.Omega.{arith}
 use mathlib.Core.Bool.{false}

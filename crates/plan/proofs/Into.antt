@@ -1,4 +1,5 @@
--- Laws of reading into words, whatever is read: S is the whole of what becomes of the words and the bytes.
+-- Reading into words, whatever is read: S is the whole of what becomes of the words and the bytes, and what is left to
+-- be read from a place on gives it.
 use Prim.Native.Nat.{ℕ, suc, _+_, _-_, _*_, _≤_, _<_}
 use native.Mathlib.Omega.{arith}
 use mathlib.Core.Bool.{Bool, true, false, not}

@@ -1,4 +1,5 @@
--- What each return of the functions that apply a plan answers.
+-- Each return of the functions that apply a plan is one rule: 1 and 2 before all, then 23 to 26 by the comparisons of
+-- words, then what the run says.
 use Prim.Native.Nat.{ℕ, _+_}
 use native.Mathlib.Omega.{arith}
 use mathlib.Core.Bool.{Bool, true, false, cond, not}

@@ -1,4 +1,5 @@
--- Applying a plan: what the code goes about is what the rules say.
+-- Applying a plan: the code judges the bytes first and the terminal's own state last, and answers as the rules, which
+-- judge them the other way round, since a state that does not stand is answered 1 or 2 either way.
 use Prim.Native.Nat.{ℕ, _+_, _-_, _*_}
 use native.Mathlib.Omega.{arith}
 use mathlib.Core.Bool.{Bool, true, false, cond, not}

@@ -1,4 +1,5 @@
--- A whole plan, section by section.
+-- A whole plan, section by section: what a section leaves is lent to the next, and an offset in a part is one in the
+-- plan when the part's own offset is added.
 use Prim.Native.Nat.{ℕ, _+_, _-_, _*_, _/_, _^_, _≤_, _<_}
 use native.Mathlib.Omega.{arith}
 use mathlib.Core.List.{List, [], _∷_}

@@ -1,51 +1,39 @@
+-- Each return is one rule: 23, 24, 25, 26, each by a comparison.
 use Rattle.plan.proofs.Judging.{base-config, base-edition, base-last, base-zones, base-same}
 use borrow.Author.Needs.{needs}
 use Rattle.plan.proofs.applying.base_number.Statement.{statement}
 use Rattle.plan.proofs.applying.base_number.Tie as tie
-use Rattle.plan.proofs.applying.base_number.Reads as reads
-use Rattle.plan.proofs.applying.base_number.Lts as lts
 
--- src/applying.rt:74:20
 slice-aggregate-same-words : tie.Need-slice-aggregate-same-words
 slice-aggregate-same-words c = search needs
 
--- src/applying.rt:74:29
 slice-aggregate-same-words-2 : tie.Need-slice-aggregate-same-words-2
 slice-aggregate-same-words-2 c = search needs
 
--- src/applying.rt:74:9
 same-words-requires : tie.Need-same-words-requires
 same-words-requires c κs = search needs
 
--- src/applying.rt:75:9
 returns : tie.Need-returns
 returns c = (search (base-config, needs), (search needs, search needs))
 
--- src/applying.rt:78:9
 returns-2 : tie.Need-returns-2
 returns-2 c = (search (base-edition, needs), (search needs, search needs))
 
--- src/applying.rt:81:9
 returns-3 : tie.Need-returns-3
 returns-3 c = (search (base-last, needs), (search needs, search needs))
 
--- src/applying.rt:85:20
 slice-aggregate-same-words-3 : tie.Need-slice-aggregate-same-words-3
 slice-aggregate-same-words-3 c = search needs
 
--- src/applying.rt:85:28
 slice-aggregate-same-words-4 : tie.Need-slice-aggregate-same-words-4
 slice-aggregate-same-words-4 c = search needs
 
--- src/applying.rt:85:9
 same-words-requires-2 : tie.Need-same-words-requires-2
 same-words-requires-2 c κs = search needs
 
--- src/applying.rt:86:9
 returns-4 : tie.Need-returns-4
 returns-4 c = (search (base-zones, needs), (search needs, search needs))
 
--- src/applying.rt:68:1
 returns-5 : tie.Need-returns-5
 returns-5 c = (search (base-same, needs), (search needs, search needs))
 

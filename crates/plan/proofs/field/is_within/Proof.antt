@@ -1,15 +1,12 @@
+-- Each return is one test of the conjunction: not below lo, not above hi.
 use borrow.Author.Needs.{needs}
 use Rattle.plan.proofs.Fields.{count-low, count-judged}
 use Rattle.plan.proofs.field.is_within.Statement.{statement}
 use Rattle.plan.proofs.field.is_within.Tie as tie
-use Rattle.plan.proofs.field.is_within.Reads as reads
-use Rattle.plan.proofs.field.is_within.Lts as lts
 
--- src/field.rt:52:9
 returns : tie.Need-returns
 returns c = search (count-low, needs)
 
--- src/field.rt:48:1
 returns-2 : tie.Need-returns-2
 returns-2 c = search (count-judged, needs)
 

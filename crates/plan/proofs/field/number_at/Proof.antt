@@ -1,24 +1,18 @@
+-- Two cases: fewer than four bytes are left, or the number is there.
 use Rattle.plan.proofs.Fields.{number-none, number-is}
 use borrow.Author.Needs.{needs}
 use Rattle.plan.proofs.field.number_at.Statement.{statement}
 use Rattle.plan.proofs.field.number_at.Tie as tie
-use Rattle.plan.proofs.field.number_at.Reads as reads
-use Rattle.plan.proofs.field.number_at.Lts as lts
-use Rattle.fields.proofs.u32_at.Reads as u32-at-reads
 
--- src/field.rt:41:8
 sub-if1 : tie.Need-sub-if1
 sub-if1 c = search needs
 
--- src/field.rt:42:9
 returns : tie.Need-returns
 returns c = search (number-none, needs)
 
--- src/field.rt:44:16
 u32-at-requires : tie.Need-u32-at-requires
 u32-at-requires c κs = search needs
 
--- src/field.rt:37:1
 returns-2 : tie.Need-returns-2
 returns-2 c = search (number-is, needs)
 

@@ -1,40 +1,30 @@
+-- Two cases: fewer bytes than a region's are left, or its three numbers are there.
 use Rattle.plan.proofs.Fields.{region-missing, region-is}
 use borrow.Author.Needs.{needs}
 use Rattle.plan.proofs.field.region_field_at.Statement.{statement}
 use Rattle.plan.proofs.field.region_field_at.Tie as tie
-use Rattle.plan.proofs.field.region_field_at.Reads as reads
-use Rattle.plan.proofs.field.region_field_at.Lts as lts
-use Rattle.fields.proofs.u64_at.Reads as u64-at-reads
 
--- src/field.rt:70:8
 sub-if1 : tie.Need-sub-if1
 sub-if1 c = search needs
 
--- src/field.rt:71:9
 returns : tie.Need-returns
 returns c = search (region-missing, needs)
 
--- src/field.rt:73:9
 u64-at-requires : tie.Need-u64-at-requires
 u64-at-requires c κs = search needs
 
--- src/field.rt:74:23
 add-u64-at : tie.Need-add-u64-at
 add-u64-at c = search needs
 
--- src/field.rt:74:9
 u64-at-requires-2 : tie.Need-u64-at-requires-2
 u64-at-requires-2 c κs = search needs
 
--- src/field.rt:75:26
 add-u64-at-2 : tie.Need-add-u64-at-2
 add-u64-at-2 c = search needs
 
--- src/field.rt:75:9
 u64-at-requires-3 : tie.Need-u64-at-requires-3
 u64-at-requires-3 c κs = search needs
 
--- src/field.rt:66:1
 returns-2 : tie.Need-returns-2
 returns-2 c = search (region-is, needs)
 

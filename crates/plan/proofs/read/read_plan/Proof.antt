@@ -1,50 +1,36 @@
+-- By what the marks' reader answered: a refusal, or the rest of the plan after them.
 use Rattle.plan.proofs.Whole.{marks-refused, marks-there, regions-follow, marks-lead}
 use borrow.Author.Needs.{needs}
 use Rattle.plan.proofs.read.read_plan.Statement.{statement}
 use Rattle.plan.proofs.read.read_plan.Tie as tie
-use Rattle.plan.proofs.read.read_plan.Reads as reads
-use Rattle.plan.proofs.read.read_plan.Lts as lts
-use Rattle.plan.proofs.read.from_regions.Reads as from-regions-reads
-use Rattle.plan.proofs.read.refused.Reads as refused-reads
-use Rattle.plan.proofs.sections.read_marks.Reads as read-marks-reads
 
--- src/read.rt:39:9
 read-marks-requires : tie.Need-read-marks-requires
 read-marks-requires c κs = search needs
 
--- src/read.rt:41:22
 enum-known-marks : tie.Need-enum-known-marks
 enum-known-marks c = search needs
 
--- src/read.rt:41:38
 refused-requires : tie.Need-refused-requires
 refused-requires c κs = search needs
 
--- src/read.rt:42:22
 enum-known-marks-2 : tie.Need-enum-known-marks-2
 enum-known-marks-2 c = search needs
 
--- src/read.rt:43:26
 sub-from-regions : tie.Need-sub-from-regions
 sub-from-regions c = search (marks-there, needs)
 
--- src/read.rt:43:26
 part-from-regions-start : tie.Need-part-from-regions-start
 part-from-regions-start c = search (marks-there, needs)
 
--- src/read.rt:43:26
 part-from-regions-end : tie.Need-part-from-regions-end
 part-from-regions-end c = search needs
 
--- src/read.rt:43:13
 from-regions-requires : tie.Need-from-regions-requires
 from-regions-requires c κs = search (regions-follow, needs)
 
--- src/read.rt:36:1
 returns : tie.Need-returns
 returns c = search (marks-refused, needs)
 
--- src/read.rt:36:1
 returns-2 : tie.Need-returns-2
 returns-2 c = search (marks-lead, needs)
 

@@ -1,3 +1,4 @@
+-- Invariant: reading the zones from i on, into the words as they are, gives the whole.
 use borrow.Author.Needs.{needs}
 use Prim.Native.Nat.{_-_, _≤_}
 use mathlib.Core.Path.{_≡_}
@@ -6,9 +7,6 @@ use Rattle.plan.specs.Into.{times, zoneInto}
 use Rattle.plan.proofs.Into.{loop-starts, loop-stops, loop-goes, loop-ends, within-end}
 use Rattle.plan.proofs.words.read_zone_list.Statement.{statement}
 use Rattle.plan.proofs.words.read_zone_list.Tie as tie
-use Rattle.plan.proofs.words.read_zone_list.Reads as reads
-use Rattle.plan.proofs.words.read_zone_list.Lts as lts
-use Rattle.plan.proofs.words.read_zone.Reads as read-zone-reads
 
 abbrev Inv-loop : tie.InvT-loop
 Inv-loop s start n w₀ at₀ i₀ w at i = (((i ≤ n) × (at ≤ length s)) × (length w ≡ length w₀)) × (times zoneInto (n - i) i w (drop at s) ≡ times zoneInto n 0 w₀ (drop start s))
@@ -16,47 +14,36 @@ Inv-loop s start n w₀ at₀ i₀ w at i = (((i ≤ n) × (at ≤ length s)) ×
 abbrev μ-loop : tie.MeasureT-loop
 μ-loop s start n w₀ at₀ i₀ w at i = n - i
 
--- src/words.rt:120:5
 loop-holds : tie.Need-loop-holds Inv-loop μ-loop
 loop-holds c = ((search needs, search needs), search (loop-starts, needs))
 
--- src/words.rt:121:13
 read-zone-requires : tie.Need-read-zone-requires Inv-loop μ-loop
 read-zone-requires c κs = search needs
 
--- src/words.rt:122:26
 enum-known-r : tie.Need-enum-known-r Inv-loop μ-loop
 enum-known-r c = search needs
 
--- src/words.rt:123:13
 enum-told : tie.Need-enum-told Inv-loop μ-loop
 enum-told c = search needs
 
--- src/words.rt:123:13
 same-length : tie.Need-same-length Inv-loop μ-loop
 same-length c = search needs
 
--- src/words.rt:123:13
 returns : tie.Need-returns Inv-loop μ-loop
 returns c = search (loop-stops, needs)
 
--- src/words.rt:126:9
 add-i : tie.Need-add-i Inv-loop μ-loop
 add-i c = search needs
 
--- src/words.rt:120:5
 loop-less : tie.Need-loop-less Inv-loop μ-loop
 loop-less c = search needs
 
--- src/words.rt:120:5
 loop-again : tie.Need-loop-again Inv-loop μ-loop
 loop-again c = (((search needs, search (within-end, needs)), search needs), search (loop-goes, needs))
 
--- src/words.rt:114:1
 same-length-2 : tie.Need-same-length-2 Inv-loop μ-loop
 same-length-2 c = search needs
 
--- src/words.rt:114:1
 returns-2 : tie.Need-returns-2 Inv-loop μ-loop
 returns-2 c = search (loop-ends, needs)
 

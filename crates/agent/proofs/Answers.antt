@@ -1,4 +1,4 @@
--- What each return answers.
+-- What each return answers, in numbers that C can hold: one case of what the core answered.
 use Prim.Native.Nat.{ℕ, zero, suc}
 use native.Mathlib.Omega.{arith}
 use mathlib.Core.Bool.{Bool, true, false, cond}

@@ -1,37 +1,27 @@
+-- By what reading answered: the refusal and its offset, or 0 and where the requests begin.
 use Rattle.agent.proofs.Answers.{read-bad, read-bad-place, read-end, read-end-place}
 use borrow.Author.Needs.{needs}
 use Rattle.agent.proofs.peatmitten_read.Statement.{statement}
 use Rattle.agent.proofs.peatmitten_read.Tie as tie
-use Rattle.agent.proofs.peatmitten_read.Reads as reads
-use Rattle.agent.proofs.peatmitten_read.Lts as lts
-use Rattle.agent.proofs.put_one.Reads as put-one-reads
-use Rattle.plan.proofs.read_plan.Reads as read-plan-reads
 
--- src/lib.rt:115:9
 read-plan-requires : tie.Need-read-plan-requires
 read-plan-requires c κs = search needs
 
--- src/lib.rt:118:24
 enum-known-section : tie.Need-enum-known-section
 enum-known-section c = search needs
 
--- src/lib.rt:119:13
 put-one-requires : tie.Need-put-one-requires
 put-one-requires c κs = search needs
 
--- src/lib.rt:122:22
 enum-known-section-2 : tie.Need-enum-known-section-2
 enum-known-section-2 c = search needs
 
--- src/lib.rt:123:13
 put-one-requires-2 : tie.Need-put-one-requires-2
 put-one-requires-2 c κs = search needs
 
--- src/lib.rt:111:1
 returns : tie.Need-returns
 returns c = (search (read-bad, read-end, needs), search (read-bad-place, read-end-place, needs))
 
--- src/lib.rt:111:1
 returns-2 : tie.Need-returns-2
 returns-2 c = (search (read-bad, read-end, needs), search (read-bad-place, read-end-place, needs))
 

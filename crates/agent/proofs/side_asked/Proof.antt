@@ -1,15 +1,12 @@
+-- Two cases: 0 is the CPU, and any other number the IOMMU.
 use borrow.Author.Needs.{needs}
 use Rattle.agent.proofs.Answers.{cpu-side, iommu-side}
 use Rattle.agent.proofs.side_asked.Statement.{statement}
 use Rattle.agent.proofs.side_asked.Tie as tie
-use Rattle.agent.proofs.side_asked.Reads as reads
-use Rattle.agent.proofs.side_asked.Lts as lts
 
--- src/lib.rt:106:9
 returns : tie.Need-returns
 returns c = search (cpu-side, needs)
 
--- src/lib.rt:102:1
 returns-2 : tie.Need-returns-2
 returns-2 c = search (iommu-side, needs)
 

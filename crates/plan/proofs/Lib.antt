@@ -1,6 +1,10 @@
 -- Laws that the proofs of the functions cite.
 pub mod Fields
 pub mod Into
+pub mod Offsets
+pub mod Passing
+pub mod Locating
+pub mod Holding
 pub mod Agreeing
 pub mod Storing
 pub mod Answers

@@ -1,5 +1,6 @@
 // A whole plan: its four sections one after another, each lent the bytes from its count on.
 use crate::field::NUMBER_BYTES;
+use crate::finding::MARKS_BYTES;
 use crate::sections::Marks;
 use crate::sections::read_marks;
 use crate::sections::read_regions;
@@ -17,9 +18,6 @@ ghost use lib.ListN.{length};
 ghost use Rattle.rules.specs.Limits.{limits};
 ghost use Rattle.rules.specs.Plan.{readPlan};
 ghost use Rattle.plan.specs.Read.{recordsIn, stretchOf, refusedRead, requestsRead, zonesRead, regionsRead, readAnswer};
-
-// The marks' count and the two marks.
-pub const MARKS_BYTES: usize = 12;
 
 // What a plan says: its configuration, edition and zones, and where the first request begins; or a refusal and its offset, and zeros.
 pub struct Read {

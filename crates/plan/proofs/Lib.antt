@@ -8,8 +8,8 @@ pub mod Holding
 pub mod Agreeing
 pub mod Storing
 pub mod Answers
-pub mod Whole
 pub mod Judging
 pub mod Bases
+pub mod Undoing
 pub mod Outcomes
 pub mod Deliveries

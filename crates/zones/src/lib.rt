@@ -38,5 +38,6 @@ pub use table::clear_zones;
 pub use table::zone_start;
 pub use translation::translate;
 pub use translation::translate_in;
+pub use words::count_words;
 pub use words::put_region;
 pub use words::same_words;

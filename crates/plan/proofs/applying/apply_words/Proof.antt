@@ -3,73 +3,52 @@ use Rattle.plan.proofs.Outcomes.{apply-away, apply-found, regions-fit, 
 use borrow.Author.Needs.{needs}
 use Rattle.plan.proofs.applying.apply_words.Statement.{statement}
 use Rattle.plan.proofs.applying.apply_words.Tie as tie
-use Rattle.plan.proofs.applying.apply_words.Reads as reads
-use Rattle.plan.proofs.applying.apply_words.Lts as lts
-use Rattle.plan.proofs.applying.apply_found.Reads as apply-found-reads
-use Rattle.plan.proofs.applying.turned_away.Reads as turned-away-reads
-use Rattle.plan.proofs.finding.find_sections.Reads as find-sections-reads
 
--- src/applying.rt:60:9
 find-sections-requires : tie.Need-find-sections-requires
 find-sections-requires c κs = search needs
 
--- src/applying.rt:62:22
 enum-known-found : tie.Need-enum-known-found
 enum-known-found c = search needs
 
--- src/applying.rt:62:38
 turned-away-requires : tie.Need-turned-away-requires
 turned-away-requires c κs = search needs
 
--- src/applying.rt:64:13
 enum-known-found-2 : tie.Need-enum-known-found-2
 enum-known-found-2 c = search needs
 
--- src/applying.rt:74:13
 sub-apply-found : tie.Need-sub-apply-found
 sub-apply-found c = search (regions-fit, needs)
 
--- src/applying.rt:74:13
 part-apply-found-start : tie.Need-part-apply-found-start
 part-apply-found-start c = search (regions-fit, needs)
 
--- src/applying.rt:74:13
 part-apply-found-end : tie.Need-part-apply-found-end
 part-apply-found-end c = search needs
 
--- src/applying.rt:75:13
 sub-apply-found-2 : tie.Need-sub-apply-found-2
 sub-apply-found-2 c = search (zones-fit, needs)
 
--- src/applying.rt:75:13
 part-apply-found-start-2 : tie.Need-part-apply-found-start-2
 part-apply-found-start-2 c = search (zones-fit, needs)
 
--- src/applying.rt:75:13
 part-apply-found-end-2 : tie.Need-part-apply-found-end-2
 part-apply-found-end-2 c = search needs
 
--- src/applying.rt:76:13
 sub-apply-found-3 : tie.Need-sub-apply-found-3
 sub-apply-found-3 c = search (requests-fit, needs)
 
--- src/applying.rt:76:13
 part-apply-found-start-3 : tie.Need-part-apply-found-start-3
 part-apply-found-start-3 c = search (requests-fit, needs)
 
--- src/applying.rt:76:13
 part-apply-found-end-3 : tie.Need-part-apply-found-end-3
 part-apply-found-end-3 c = search needs
 
--- src/applying.rt:68:14
 apply-found-requires : tie.Need-apply-found-requires
 apply-found-requires c κs = search needs
 
--- src/applying.rt:52:1
 returns : tie.Need-returns
 returns c = search (apply-away, needs)
 
--- src/applying.rt:52:1
 returns-2 : tie.Need-returns-2
 returns-2 c = search (apply-found, needs)
 

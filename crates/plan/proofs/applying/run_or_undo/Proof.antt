@@ -3,29 +3,19 @@ use Rattle.plan.proofs.Undoing.{run-undone, run-kept}
 use borrow.Author.Needs.{needs}
 use Rattle.plan.proofs.applying.run_or_undo.Statement.{statement}
 use Rattle.plan.proofs.applying.run_or_undo.Tie as tie
-use Rattle.plan.proofs.applying.run_or_undo.Reads as reads
-use Rattle.plan.proofs.applying.run_or_undo.Lts as lts
-use Rattle.plan.proofs.applying.refill.Reads as refill-reads
-use Rattle.zones.proofs.run_in.Reads as run-in-reads
-use Rattle.zones.proofs.count_words.Reads as count-words-reads
 
--- src/applying.rt:163:9
 count-words-requires : tie.Need-count-words-requires
 count-words-requires c κs = search needs
 
--- src/applying.rt:164:9
 run-in-requires : tie.Need-run-in-requires
 run-in-requires c κs = search needs
 
--- src/applying.rt:166:9
 refill-requires : tie.Need-refill-requires
 refill-requires c κs = search needs
 
--- src/applying.rt:154:1
 returns : tie.Need-returns
 returns c = search (run-undone, needs)
 
--- src/applying.rt:154:1
 returns-2 : tie.Need-returns-2
 returns-2 c = search (run-kept, needs)
 

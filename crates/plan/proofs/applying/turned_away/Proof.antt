@@ -3,19 +3,13 @@ use Rattle.plan.proofs.Judging.{away-own, away-plan}
 use borrow.Author.Needs.{needs}
 use Rattle.plan.proofs.applying.turned_away.Statement.{statement}
 use Rattle.plan.proofs.applying.turned_away.Tie as tie
-use Rattle.plan.proofs.applying.turned_away.Reads as reads
-use Rattle.plan.proofs.applying.turned_away.Lts as lts
-use Rattle.zones.proofs.standing.Reads as standing-reads
 
--- src/applying.rt:137:9
 standing-requires : tie.Need-standing-requires
 standing-requires c κs = search needs
 
--- src/applying.rt:139:9
 returns : tie.Need-returns
 returns c = search (away-own, needs)
 
--- src/applying.rt:129:1
 returns-2 : tie.Need-returns-2
 returns-2 c = search (away-plan, needs)
 

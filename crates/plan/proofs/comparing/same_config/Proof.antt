@@ -3,34 +3,25 @@ use Rattle.plan.proofs.Holding.{config-other, config-held}
 use borrow.Author.Needs.{needs}
 use Rattle.plan.proofs.comparing.same_config.Statement.{statement}
 use Rattle.plan.proofs.comparing.same_config.Tie as tie
-use Rattle.plan.proofs.comparing.same_config.Reads as reads
-use Rattle.plan.proofs.comparing.same_config.Lts as lts
-use Rattle.plan.proofs.comparing.same_regions.Reads as same-regions-reads
 
--- src/comparing.rt:173:9
 cast-same-regions : tie.Need-cast-same-regions
 cast-same-regions c = search needs
 
--- src/comparing.rt:169:9
 same-regions-requires : tie.Need-same-regions-requires
 same-regions-requires c κs = search needs
 
 enum-told : tie.Need-enum-told
 enum-told c = search needs
 
--- src/comparing.rt:179:9
 enum-told-2 : tie.Need-enum-told-2
 enum-told-2 c = search needs
 
--- src/comparing.rt:179:9
 returns : tie.Need-returns
 returns c = search (config-other, needs)
 
--- src/comparing.rt:181:5
 shared-slice-read-result : tie.Need-shared-slice-read-result
 shared-slice-read-result c = search needs
 
--- src/comparing.rt:165:1
 returns-2 : tie.Need-returns-2
 returns-2 c = search (config-held, needs)
 

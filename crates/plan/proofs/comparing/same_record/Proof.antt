@@ -3,68 +3,49 @@ use Rattle.plan.proofs.Holding.{record-same}
 use borrow.Author.Needs.{needs}
 use Rattle.plan.proofs.comparing.same_record.Statement.{statement}
 use Rattle.plan.proofs.comparing.same_record.Tie as tie
-use Rattle.plan.proofs.comparing.same_record.Reads as reads
-use Rattle.plan.proofs.comparing.same_record.Lts as lts
-use Rattle.fields.proofs.u64_at.Reads as u64-at-reads
-use Rattle.region.proofs.region_eq.Reads as region-eq-reads
 
--- src/comparing.rt:67:18
 mul-t10 : tie.Need-mul-t10
 mul-t10 c = search needs
 
--- src/comparing.rt:67:18
 shared-slice-read-t12 : tie.Need-shared-slice-read-t12
 shared-slice-read-t12 c = search needs
 
--- src/comparing.rt:68:19
 add-t14 : tie.Need-add-t14
 add-t14 c = search needs
 
--- src/comparing.rt:68:17
 mul-t15 : tie.Need-mul-t15
 mul-t15 c = search needs
 
--- src/comparing.rt:68:17
 shared-slice-read-t17 : tie.Need-shared-slice-read-t17
 shared-slice-read-t17 c = search needs
 
--- src/comparing.rt:69:17
 add-t19 : tie.Need-add-t19
 add-t19 c = search needs
 
--- src/comparing.rt:69:15
 mul-t20 : tie.Need-mul-t20
 mul-t20 c = search needs
 
--- src/comparing.rt:69:15
 shared-slice-read-t22 : tie.Need-shared-slice-read-t22
 shared-slice-read-t22 c = search needs
 
--- src/comparing.rt:71:9
 u64-at-requires : tie.Need-u64-at-requires
 u64-at-requires c κs = search needs
 
--- src/comparing.rt:72:23
 add-u64-at : tie.Need-add-u64-at
 add-u64-at c = search needs
 
--- src/comparing.rt:72:9
 u64-at-requires-2 : tie.Need-u64-at-requires-2
 u64-at-requires-2 c κs = search needs
 
--- src/comparing.rt:73:26
 add-u64-at-2 : tie.Need-add-u64-at-2
 add-u64-at-2 c = search needs
 
--- src/comparing.rt:73:9
 u64-at-requires-3 : tie.Need-u64-at-requires-3
 u64-at-requires-3 c κs = search needs
 
--- src/comparing.rt:79:5
 region-eq-requires : tie.Need-region-eq-requires
 region-eq-requires c κs = search needs
 
--- src/comparing.rt:62:1
 returns : tie.Need-returns
 returns c = search (record-same, needs)
 

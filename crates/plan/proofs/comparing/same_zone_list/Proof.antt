@@ -13,9 +13,6 @@ use Rattle.plan.specs.Held.{heldAnswer, isHeld}
 use Rattle.plan.proofs.Holding.{zonesFrom, zones-begin, zones-stop, zones-go, zones-within, zones-over}
 use Rattle.plan.proofs.comparing.same_zone_list.Statement.{statement}
 use Rattle.plan.proofs.comparing.same_zone_list.Tie as tie
-use Rattle.plan.proofs.comparing.same_zone_list.Reads as reads
-use Rattle.plan.proofs.comparing.same_zone_list.Lts as lts
-use Rattle.plan.proofs.comparing.same_zone.Reads as same-zone-reads
 
 abbrev Inv-loop : tie.InvT-loop
 Inv-loop s start n w at₀ i₀ at i = ((i ≤ n) × (at ≤ length s)) × (zonesFrom s w (n - i) i at ≡ isHeld (heldAnswer (length s) (sameList sameZone (tab n (zoneIn w))) (readMany (zoneFormat limits) n (drop start s))))
@@ -23,39 +20,30 @@ Inv-loop s start n w at₀ i₀ at i = ((i ≤ n) × (at ≤ length s)) × (zone
 abbrev μ-loop : tie.MeasureT-loop
 μ-loop s start n w at₀ i₀ at i = n - i
 
--- src/comparing.rt:136:5
 loop-holds : tie.Need-loop-holds Inv-loop μ-loop
 loop-holds c = (search needs, search (zones-begin, needs))
 
--- src/comparing.rt:137:13
 same-zone-requires : tie.Need-same-zone-requires Inv-loop μ-loop
 same-zone-requires c κs = search needs
 
--- src/comparing.rt:138:24
 enum-known-zone : tie.Need-enum-known-zone Inv-loop μ-loop
 enum-known-zone c = search needs
 
--- src/comparing.rt:139:13
 enum-told : tie.Need-enum-told Inv-loop μ-loop
 enum-told c = search needs
 
--- src/comparing.rt:139:13
 returns : tie.Need-returns Inv-loop μ-loop
 returns c = search (zones-stop, needs)
 
--- src/comparing.rt:142:9
 add-i : tie.Need-add-i Inv-loop μ-loop
 add-i c = search needs
 
--- src/comparing.rt:136:5
 loop-less : tie.Need-loop-less Inv-loop μ-loop
 loop-less c = search needs
 
--- src/comparing.rt:136:5
 loop-again : tie.Need-loop-again Inv-loop μ-loop
 loop-again c = ((search needs, search (zones-within, needs)), search (zones-go, needs))
 
--- src/comparing.rt:130:1
 returns-2 : tie.Need-returns-2 Inv-loop μ-loop
 returns-2 c = search (zones-over, needs)
 

@@ -5,61 +5,43 @@ use Rattle.plan.proofs.Holding.{table-cut, table-out, table-fewer, tabl
 use borrow.Author.Needs.{needs}
 use Rattle.plan.proofs.comparing.same_zones.Statement.{statement}
 use Rattle.plan.proofs.comparing.same_zones.Tie as tie
-use Rattle.plan.proofs.comparing.same_zones.Reads as reads
-use Rattle.plan.proofs.comparing.same_zones.Lts as lts
-use Rattle.plan.proofs.comparing.same_zone_list.Reads as same-zone-list-reads
-use Rattle.plan.proofs.field.is_within.Reads as is-within-reads
-use Rattle.plan.proofs.field.number_at.Reads as number-at-reads
 
--- src/comparing.rt:152:25
 number-at-requires : tie.Need-number-at-requires
 number-at-requires c κs = search needs
 
--- src/comparing.rt:152:20
 enum-known-n : tie.Need-enum-known-n
 enum-known-n c = search needs
 
--- src/comparing.rt:153:9
 enum-told : tie.Need-enum-told
 enum-told c = search needs
 
--- src/comparing.rt:153:9
 returns : tie.Need-returns
 returns c = search (table-cut, needs)
 
--- src/comparing.rt:155:22
 cast-is-within : tie.Need-cast-is-within
 cast-is-within c = search needs
 
--- src/comparing.rt:155:9
 is-within-requires : tie.Need-is-within-requires
 is-within-requires c κs = search needs
 
--- src/comparing.rt:156:9
 returns-2 : tie.Need-returns-2
 returns-2 c = search (table-out, needs)
 
--- src/comparing.rt:158:8
 shared-slice-read-if2 : tie.Need-shared-slice-read-if2
 shared-slice-read-if2 c = search needs
 
--- src/comparing.rt:158:16
 cast-if2 : tie.Need-cast-if2
 cast-if2 c = search needs
 
--- src/comparing.rt:159:9
 returns-3 : tie.Need-returns-3
 returns-3 c = search (table-fewer, needs)
 
--- src/comparing.rt:161:37
 cast-same-zone-list : tie.Need-cast-same-zone-list
 cast-same-zone-list c = search needs
 
--- src/comparing.rt:161:5
 same-zone-list-requires : tie.Need-same-zone-list-requires
 same-zone-list-requires c κs = ((search (first-there, needs), search (zones-few, needs)), search (table-room, needs))
 
--- src/comparing.rt:148:1
 returns-4 : tie.Need-returns-4
 returns-4 c = search (table-held, needs)
 

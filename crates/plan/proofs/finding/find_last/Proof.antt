@@ -3,43 +3,31 @@ use Rattle.plan.proofs.Locating.{bad-requests-place, requests-refused, 
 use borrow.Author.Needs.{needs}
 use Rattle.plan.proofs.finding.find_last.Statement.{statement}
 use Rattle.plan.proofs.finding.find_last.Tie as tie
-use Rattle.plan.proofs.finding.find_last.Reads as reads
-use Rattle.plan.proofs.finding.find_last.Lts as lts
-use Rattle.plan.proofs.sections.read_requests.Reads as read-requests-reads
 
--- src/finding.rt:93:9
 read-requests-requires : tie.Need-read-requests-requires
 read-requests-requires c κs = search needs
 
--- src/finding.rt:95:24
 enum-known-section : tie.Need-enum-known-section
 enum-known-section c = search needs
 
--- src/finding.rt:97:17
 add-t11 : tie.Need-add-t11
 add-t11 c = search (bad-requests-place, needs)
 
--- src/finding.rt:99:22
 enum-known-section-2 : tie.Need-enum-known-section-2
 enum-known-section-2 c = search needs
 
--- src/finding.rt:103:25
 add-t14 : tie.Need-add-t14
 add-t14 c = search needs
 
--- src/finding.rt:101:17
 returns : tie.Need-returns
 returns c = search (requests-more, needs)
 
--- src/finding.rt:110:27
 add-t12 : tie.Need-add-t12
 add-t12 c = search (requests-start, needs)
 
--- src/finding.rt:89:1
 returns-2 : tie.Need-returns-2
 returns-2 c = search (requests-refused, needs)
 
--- src/finding.rt:89:1
 returns-3 : tie.Need-returns-3
 returns-3 c = search (requests-whole, needs)
 

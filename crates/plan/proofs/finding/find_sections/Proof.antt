@@ -3,44 +3,31 @@ use Rattle.plan.proofs.Locating.{marks-refused, marks-there, regions-fo
 use borrow.Author.Needs.{needs}
 use Rattle.plan.proofs.finding.find_sections.Statement.{statement}
 use Rattle.plan.proofs.finding.find_sections.Tie as tie
-use Rattle.plan.proofs.finding.find_sections.Reads as reads
-use Rattle.plan.proofs.finding.find_sections.Lts as lts
-use Rattle.plan.proofs.finding.find_regions.Reads as find-regions-reads
-use Rattle.plan.proofs.sections.read_marks.Reads as read-marks-reads
 
--- src/finding.rt:47:9
 read-marks-requires : tie.Need-read-marks-requires
 read-marks-requires c κs = search needs
 
--- src/finding.rt:49:22
 enum-known-marks : tie.Need-enum-known-marks
 enum-known-marks c = search needs
 
--- src/finding.rt:50:22
 enum-known-marks-2 : tie.Need-enum-known-marks-2
 enum-known-marks-2 c = search needs
 
--- src/finding.rt:51:13
 sub-find-regions : tie.Need-sub-find-regions
 sub-find-regions c = search (marks-there, needs)
 
--- src/finding.rt:51:13
 part-find-regions-start : tie.Need-part-find-regions-start
 part-find-regions-start c = search (marks-there, needs)
 
--- src/finding.rt:51:13
 part-find-regions-end : tie.Need-part-find-regions-end
 part-find-regions-end c = search needs
 
--- src/finding.rt:50:40
 find-regions-requires : tie.Need-find-regions-requires
 find-regions-requires c κs = search (regions-follow, needs)
 
--- src/finding.rt:44:1
 returns : tie.Need-returns
 returns c = search (marks-refused, needs)
 
--- src/finding.rt:44:1
 returns-2 : tie.Need-returns-2
 returns-2 c = search (marks-lead, needs)
 

@@ -4,68 +4,49 @@ use Rattle.plan.proofs.Passing.{passed-none, passed-out, passed-cut, pa
 use borrow.Author.Needs.{needs}
 use Rattle.plan.proofs.finding.pass_regions.Statement.{statement}
 use Rattle.plan.proofs.finding.pass_regions.Tie as tie
-use Rattle.plan.proofs.finding.pass_regions.Reads as reads
-use Rattle.plan.proofs.finding.pass_regions.Lts as lts
-use Rattle.plan.proofs.field.is_within.Reads as is-within-reads
-use Rattle.plan.proofs.field.number_at.Reads as number-at-reads
 
--- src/finding.rt:123:25
 number-at-requires : tie.Need-number-at-requires
 number-at-requires c κs = search needs
 
--- src/finding.rt:123:20
 enum-known-n : tie.Need-enum-known-n
 enum-known-n c = search needs
 
--- src/finding.rt:124:9
 enum-told : tie.Need-enum-told
 enum-told c = search needs
 
--- src/finding.rt:124:9
 returns : tie.Need-returns
 returns c = search (passed-none, needs)
 
--- src/finding.rt:129:9
 is-within-requires : tie.Need-is-within-requires
 is-within-requires c κs = search needs
 
--- src/finding.rt:130:9
 returns-2 : tie.Need-returns-2
 returns-2 c = search (passed-out, needs)
 
--- src/finding.rt:135:17
 add-first : tie.Need-add-first
 add-first c = search needs
 
--- src/finding.rt:136:17
 cast-bytes : tie.Need-cast-bytes
 cast-bytes c = search needs
 
--- src/finding.rt:136:17
 mul-bytes : tie.Need-mul-bytes
 mul-bytes c = search needs
 
--- src/finding.rt:137:17
 sub-there : tie.Need-sub-there
 sub-there c = search (number-within, needs)
 
--- src/finding.rt:141:25
 mul-t14 : tie.Need-mul-t14
 mul-t14 c = search needs
 
--- src/finding.rt:141:17
 add-t15 : tie.Need-add-t15
 add-t15 c = search needs
 
--- src/finding.rt:139:9
 returns-3 : tie.Need-returns-3
 returns-3 c = search (passed-cut, needs)
 
--- src/finding.rt:144:18
 add-t12 : tie.Need-add-t12
 add-t12 c = search needs
 
--- src/finding.rt:119:1
 returns-4 : tie.Need-returns-4
 returns-4 c = search (passed-end, needs)
 

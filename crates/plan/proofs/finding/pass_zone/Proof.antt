@@ -3,51 +3,37 @@ use Rattle.plan.proofs.Locating.{zone-none, zone-stops, second-there, z
 use borrow.Author.Needs.{needs}
 use Rattle.plan.proofs.finding.pass_zone.Statement.{statement}
 use Rattle.plan.proofs.finding.pass_zone.Tie as tie
-use Rattle.plan.proofs.finding.pass_zone.Reads as reads
-use Rattle.plan.proofs.finding.pass_zone.Lts as lts
-use Rattle.plan.proofs.finding.pass_regions.Reads as pass-regions-reads
 
--- src/finding.rt:152:8
 sub-if1 : tie.Need-sub-if1
 sub-if1 c = search needs
 
--- src/finding.rt:153:9
 returns : tie.Need-returns
 returns c = search (zone-none, needs)
 
--- src/finding.rt:158:31
 add-pass-regions : tie.Need-add-pass-regions
 add-pass-regions c = search needs
 
--- src/finding.rt:158:56
 cast-pass-regions : tie.Need-cast-pass-regions
 cast-pass-regions c = search needs
 
--- src/finding.rt:158:9
 pass-regions-requires : tie.Need-pass-regions-requires
 pass-regions-requires c κs = search needs
 
--- src/finding.rt:159:22
 enum-known-cpu : tie.Need-enum-known-cpu
 enum-known-cpu c = search needs
 
--- src/finding.rt:160:9
 enum-told : tie.Need-enum-told
 enum-told c = search needs
 
--- src/finding.rt:160:9
 returns-2 : tie.Need-returns-2
 returns-2 c = search (zone-stops, needs)
 
--- src/finding.rt:162:28
 cast-pass-regions-2 : tie.Need-cast-pass-regions-2
 cast-pass-regions-2 c = search needs
 
--- src/finding.rt:162:5
 pass-regions-requires-2 : tie.Need-pass-regions-requires-2
 pass-regions-requires-2 c κs = search (second-there, needs)
 
--- src/finding.rt:148:1
 returns-3 : tie.Need-returns-3
 returns-3 c = search (zone-ends, needs)
 

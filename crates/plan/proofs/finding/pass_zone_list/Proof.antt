@@ -6,9 +6,6 @@ use lib.ListN.{length}
 use Rattle.plan.proofs.Locating.{zonesEnd, list-begins, list-stops, list-goes, list-within, list-over}
 use Rattle.plan.proofs.finding.pass_zone_list.Statement.{statement}
 use Rattle.plan.proofs.finding.pass_zone_list.Tie as tie
-use Rattle.plan.proofs.finding.pass_zone_list.Reads as reads
-use Rattle.plan.proofs.finding.pass_zone_list.Lts as lts
-use Rattle.plan.proofs.finding.pass_zone.Reads as pass-zone-reads
 
 abbrev Inv-loop : tie.InvT-loop
 Inv-loop s start n at₀ i₀ at i = ((i ≤ n) × (at ≤ length s)) × (zonesEnd s (n - i) at ≡ zonesEnd s n start)
@@ -16,39 +13,30 @@ Inv-loop s start n at₀ i₀ at i = ((i ≤ n) × (at ≤ length s)) × (zonesE
 abbrev μ-loop : tie.MeasureT-loop
 μ-loop s start n at₀ i₀ at i = n - i
 
--- src/finding.rt:172:5
 loop-holds : tie.Need-loop-holds Inv-loop μ-loop
 loop-holds c = (search needs, search (list-begins, needs))
 
--- src/finding.rt:173:13
 pass-zone-requires : tie.Need-pass-zone-requires Inv-loop μ-loop
 pass-zone-requires c κs = search needs
 
--- src/finding.rt:174:26
 enum-known-zone : tie.Need-enum-known-zone Inv-loop μ-loop
 enum-known-zone c = search needs
 
--- src/finding.rt:175:13
 enum-told : tie.Need-enum-told Inv-loop μ-loop
 enum-told c = search needs
 
--- src/finding.rt:175:13
 returns : tie.Need-returns Inv-loop μ-loop
 returns c = search (list-stops, needs)
 
--- src/finding.rt:178:9
 add-i : tie.Need-add-i Inv-loop μ-loop
 add-i c = search needs
 
--- src/finding.rt:172:5
 loop-less : tie.Need-loop-less Inv-loop μ-loop
 loop-less c = search needs
 
--- src/finding.rt:172:5
 loop-again : tie.Need-loop-again Inv-loop μ-loop
 loop-again c = ((search needs, search (list-within, needs)), search (list-goes, needs))
 
--- src/finding.rt:166:1
 returns-2 : tie.Need-returns-2 Inv-loop μ-loop
 returns-2 c = search (list-over, needs)
 

@@ -3,66 +3,46 @@ use Rattle.plan.proofs.Outcomes.{read-away, plan-read, regions-fit, zon
 use borrow.Author.Needs.{needs}
 use Rattle.plan.proofs.read.read_plan.Statement.{statement}
 use Rattle.plan.proofs.read.read_plan.Tie as tie
-use Rattle.plan.proofs.read.read_plan.Reads as reads
-use Rattle.plan.proofs.read.read_plan.Lts as lts
-use Rattle.plan.proofs.finding.find_sections.Reads as find-sections-reads
-use Rattle.plan.proofs.read.refused.Reads as refused-reads
-use Rattle.plan.proofs.sections.read_regions.Reads as read-regions-reads
-use Rattle.plan.proofs.sections.read_zones.Reads as read-zones-reads
 
--- src/read.rt:29:9
 find-sections-requires : tie.Need-find-sections-requires
 find-sections-requires c κs = search needs
 
--- src/read.rt:31:22
 enum-known-found : tie.Need-enum-known-found
 enum-known-found c = search needs
 
--- src/read.rt:31:38
 refused-requires : tie.Need-refused-requires
 refused-requires c κs = search needs
 
--- src/read.rt:33:13
 enum-known-found-2 : tie.Need-enum-known-found-2
 enum-known-found-2 c = search needs
 
--- src/read.rt:38:40
 sub-read-regions : tie.Need-sub-read-regions
 sub-read-regions c = search (regions-fit, needs)
 
--- src/read.rt:38:40
 part-read-regions-start : tie.Need-part-read-regions-start
 part-read-regions-start c = search (regions-fit, needs)
 
--- src/read.rt:38:40
 part-read-regions-end : tie.Need-part-read-regions-end
 part-read-regions-end c = search needs
 
--- src/read.rt:38:17
 read-regions-requires : tie.Need-read-regions-requires
 read-regions-requires c κs = search needs
 
--- src/read.rt:39:35
 sub-read-zones : tie.Need-sub-read-zones
 sub-read-zones c = search (zones-fit, needs)
 
--- src/read.rt:39:35
 part-read-zones-start : tie.Need-part-read-zones-start
 part-read-zones-start c = search (zones-fit, needs)
 
--- src/read.rt:39:35
 part-read-zones-end : tie.Need-part-read-zones-end
 part-read-zones-end c = search needs
 
--- src/read.rt:39:17
 read-zones-requires : tie.Need-read-zones-requires
 read-zones-requires c κs = search needs
 
--- src/read.rt:26:1
 returns : tie.Need-returns
 returns c = search (read-away, needs)
 
--- src/read.rt:26:1
 returns-2 : tie.Need-returns-2
 returns-2 c = search (plan-read, needs)
 

@@ -17,7 +17,9 @@
  * written by another thread meanwhile.
  *
  * Stack: PEATMITTEN_STACK bytes are enough. tests/stack.sh measures it: it calls every function on a stack filled with a pattern, over the
- * stored plans, looks how deep the pattern is gone, and prints it for each function. Nothing is allocated.
+ * stored plans, looks how deep the pattern is gone, and prints it for each function. Measured were 214,904 bytes for peatmitten_apply,
+ * 120,168 for peatmitten_read, 31,728 for peatmitten_check_table, 6,304 for peatmitten_check_config and some hundred for the others.
+ * Nothing is allocated.
  *
  * Imports: memcpy and memset, and nothing else. The code is for x86-64 and calls as Linux does there (System V); no other system is
  * supported.
@@ -48,7 +50,7 @@ enum {
 };
 
 /* Bytes of stack that are enough for every function. */
-enum { PEATMITTEN_STACK = 65536 };
+enum { PEATMITTEN_STACK = 221184 };
 
 /*
  * Where things stand among words.

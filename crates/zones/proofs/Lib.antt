@@ -4,6 +4,7 @@ pub mod ConfigCheck
 pub mod Moves
 pub mod Readers
 pub mod Focus
+pub mod Free
 pub mod Writers
 pub mod Packing
 pub mod ConfigReaders

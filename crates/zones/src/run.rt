@@ -2,8 +2,8 @@
 use crate::layout::CONFIG_WORDS;
 use crate::layout::TABLE_WORDS;
 use crate::sound::standing;
-use crate::steps::count_words;
 use crate::steps::step_ready;
+use crate::words::count_words;
 use crate::words::is_used;
 use fields::u32_at;
 use fields::u64_at;

@@ -99,6 +99,14 @@ pub fn put_region(s: &mut [u64], k: usize, r: Region)
     write_region(s, k, r);
 }
 
+// The number of lent words. An array behind `&mut` does not tell the proof its length, and one that is lent as a slice does; so who goes
+// on to write asks once. The compiler knows the answer, so nothing is counted.
+pub fn count_words(s: &[u64]) -> usize
+    ensures { λ n. ⌜ n ≡ length (now (s .entry)) ⌝ }
+{
+    s.len()
+}
+
 // Whether the words from a up to e are zero.
 pub fn zeros_in(s: &[u64], a: usize, e: usize) -> bool
     requires { ⌜ (a ≤ e) × (e ≤ length (now s)) ⌝ }
@@ -147,7 +155,7 @@ fn move_down(s: &mut [u64], at: usize, width: usize, end: usize)
 }
 
 // The words from at up to end are zero.
-fn clear(s: &mut [u64], at: usize, end: usize)
+pub fn clear(s: &mut [u64], at: usize, end: usize)
     requires { ⌜ (at ≤ end) × (end ≤ length (now s)) ⌝ }
     ensures { λ r. ⌜ now (s .exit) ≡ cleared (now (s .entry)) at end ⌝ }
 {

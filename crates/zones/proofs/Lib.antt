@@ -1,5 +1,6 @@
 -- Laws that the proofs of the functions cite.
 pub mod Records
+pub mod Blocks
 pub mod ConfigCheck
 pub mod Moves
 pub mod Readers

@@ -140,7 +140,12 @@ pub fn cut_region(t: &mut [u64; TABLE_WORDS], z: usize, side: Side, i: usize)
 {
     let b = set_base(z, side);
     let n = set_len(t, z, side);
-    close_gap(t, b + 1 + i * REGION_WORDS, REGION_WORDS, b + SET_WORDS);
+    close_gap(
+        t,
+        b + 1 + i * REGION_WORDS,
+        REGION_WORDS,
+        b + 1 + n * REGION_WORDS,
+    );
     t[b] = n as u64 - 1;
 }
 
@@ -158,7 +163,7 @@ pub fn remove_zone(t: &mut [u64; TABLE_WORDS], z: usize)
     ensures { λ r. ⌜ now (t .exit) ≡ wordsOf (dropped z (zonesIn (now (t .entry)))) ⌝ }
 {
     let n = zone_count(t);
-    close_gap(t, zone_base(z), ZONE_WORDS, TABLE_WORDS);
+    close_gap(t, zone_base(z), ZONE_WORDS, zone_base(n));
     t[0] = n as u64 - 1;
 }
 

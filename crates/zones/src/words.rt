@@ -107,19 +107,36 @@ pub fn count_words(s: &[u64]) -> usize
     s.len()
 }
 
-// Whether the words from a up to e are zero.
+// The words that are looked at together: enough that the compiler reads several at once and goes on without a branch for each.
+const BLOCK: usize = 16;
+
+// Whether the words from a up to e are zero: block by block, then those that are left.
 pub fn zeros_in(s: &[u64], a: usize, e: usize) -> bool
     requires { ⌜ (a ≤ e) × (e ≤ length (now s)) ⌝ }
     ensures { λ r. ⌜ r ≡ zeros (now (s .entry)) a (e - a) ⌝ }
 {
     let mut k = a;
-    while k < e {
-        if s[k] != 0 {
+    while BLOCK <= e - k {
+        if bits_in(s, k, BLOCK) != 0 {
             return false;
         }
-        k += 1;
+        k += BLOCK;
     }
-    true
+    bits_in(s, k, e - k) == 0
+}
+
+// The bits that are set in any of the n words from k on.
+fn bits_in(s: &[u64], k: usize, n: usize) -> u64
+    requires { ⌜ k + n ≤ length (now s) ⌝ }
+    ensures { λ x. ⌜ eqb x 0 ≡ zeros (now (s .entry)) k n ⌝ }
+{
+    let mut x: u64 = 0;
+    let mut i = 0;
+    while i < n {
+        x = x | s[k + i];
+        i += 1;
+    }
+    x
 }
 
 // Whether two stretches of words are the same, word by word.

@@ -26,10 +26,12 @@ use Rattle.plan.specs.declared.words.Section.the-variants.{End, Bad}
 use Rattle.walker.specs.Edition.{editionOf}
 use Rattle.walker.specs.declared.Edition.{Edition}
 use Rattle.walker.specs.declared.Edition.the-variants.{Is, Bad as BadEdition}
-use Rattle.agent.specs.Agent.{layout, placesOf, yesOrNo, sideAsked, sectionNumber, readingNumber, readingPlace, editionNumber, editionValue}
+use Rattle.agent.specs.Agent.{layout, placesOf, yesOrNo, sideAsked, sectionNumber, readingNumber, readingPlace}
+use Rattle.agent.specs.Agent.{editionNumber, editionValue}
 
 -- what stands past the last number of the layout
-pub past-layout : (n : ℕ) → (n ≡ 0 → ⊥) → (n ≡ 1 → ⊥) → (n ≡ 2 → ⊥) → (n ≡ 3 → ⊥) → (n ≡ 4 → ⊥) → (n ≡ 5 → ⊥) → 0 ≡ getD layout n 0
+pub past-layout : (n : ℕ) → (n ≡ 0 → ⊥) → (n ≡ 1 → ⊥) → (n ≡ 2 → ⊥) → (n ≡ 3 → ⊥) → (n ≡ 4 → ⊥) → (n ≡ 5 → ⊥)
+    → 0 ≡ getD layout n 0
 past-layout zero a b c d e f = absurd (a refl)
 past-layout (suc zero) a b c d e f = absurd (b refl)
 past-layout (suc (suc zero)) a b c d e f = absurd (c refl)
@@ -50,7 +52,8 @@ two-words (a ∷ []) x y e = absurd (omega arith)
 two-words (a ∷ (b ∷ [])) x y e = refl
 two-words (a ∷ (b ∷ (c ∷ w))) x y e = absurd (omega arith)
 
-pub places-told : (u : List ℕ) (x y : ℕ) (f g : Checked) → u ≡ x ∷ y ∷ [] → f ≡ g → x ≡ checkPlace f → y ≡ checkEarlier f → u ≡ placesOf g
+pub places-told : (u : List ℕ) (x y : ℕ) (f g : Checked) → u ≡ x ∷ y ∷ [] → f ≡ g → x ≡ checkPlace f
+    → y ≡ checkEarlier f → u ≡ placesOf g
 unfolding placesOf
 places-told u x y f g h e p q = h ∙ (λ i. (p ∙ ap checkPlace e) i ∷ (q ∙ ap checkEarlier e) i ∷ [])
 
@@ -78,14 +81,16 @@ pub request-told : (c t u : List ℕ) (q r : Request) (n : ℕ) → q ≡ r → 
 request-told c t u q r n e h = subst (λ (x : Request). Stepped c t x n u) e h
 
 -- a translation on a side by its number
-module _ (c : StoredConfig) (t : StoredTable) (zone : ℕ) (s : Side) (n : ℕ) (a : Guest) (r : Translated) (e : s ≡ sideAsked n) (h : r ≡ translated limits c t zone s a) where
+module _ (c : StoredConfig) (t : StoredTable) (zone : ℕ) (s : Side) (n : ℕ) (a : Guest) (r : Translated)
+    (e : s ≡ sideAsked n) (h : r ≡ translated limits c t zone s a) where
   same : r ≡ translated limits c t zone (sideAsked n) a
   same = h ∙ ap (λ (x : Side). translated limits c t zone x a) e
 
   pub translation-number : r .number ≡ translated limits c t zone (sideAsked n) a .number
   translation-number = ap (λ (x : Translated). x .number) same
 
-  pub translation-address : (u : List ℕ) → u ≡ r .phys .0 ∷ [] → u ≡ translated limits c t zone (sideAsked n) a .phys .0 ∷ []
+  pub translation-address : (u : List ℕ) → u ≡ r .phys .0 ∷ []
+      → u ≡ translated limits c t zone (sideAsked n) a .phys .0 ∷ []
   translation-address u k = k ∙ ap (λ (x : Translated). x .phys .0 ∷ []) same
 
 -- a plan that was read: r is what the reader answered

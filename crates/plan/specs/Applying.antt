@@ -20,7 +20,11 @@ use Rattle.plan.specs.declared.read.Read.{Read}
 
 -- the terminal whose state the words are
 abbrev pub terminalIn : State → Terminal
-terminalIn s = record { config = storedConfig (s .config .words); table = storedTable (s .table .words); edition = s .edition }
+terminalIn s = record {
+  config = storedConfig (s .config .words);
+  table = storedTable (s .table .words);
+  edition = s .edition;
+}
 
 -- the words of a terminal's next state; its configuration is the same
 abbrev pub stateFor : State → Terminal → State
@@ -37,7 +41,9 @@ applied s b = inWords s (apply limits (terminalIn s) b)
 -- 1 or 2, or a number that the plan has earned
 unfoldable pub turnedAway : State → ℕ → ℕ → Applied
 turnedAway s k place =
-    cond (eqb (standing limits (terminalIn s .config) (terminalIn s .table)) 0) (record { outcome = plain k place; state = s }) (record { outcome = plain (standing limits (terminalIn s .config) (terminalIn s .table)) 0; state = s })
+    cond (eqb (standing limits (terminalIn s .config) (terminalIn s .table)) 0) (record
+    { outcome = plain k place; state = s }) (record
+    { outcome = plain (standing limits (terminalIn s .config) (terminalIn s .table)) 0; state = s })
 
 -- 23 to 26 on words, or 0
 unfoldable pub baseNumber : State → Read → ℕ
@@ -52,11 +58,20 @@ baseNumber s r =
 
 -- by what a run of requests answered, and the words that it left
 unfoldable pub ran : State → Outcome → List ℕ → Applied
-ran s o u = cond (eqb (o .number) 0) (record { outcome = o; state = record { config = s .config; table = record { words = u }; edition = s .edition + 1 } }) (record { outcome = o; state = s })
+ran s o u =
+    cond (eqb (o .number) 0) (record {
+      outcome = o;
+      state = record { config = s .config; table = record { words = u }; edition = s .edition + 1 };
+    }) (record {
+      outcome = o;
+      state = s;
+    })
 
 -- the run of the requests in b
 abbrev pub ranPlan : State → List ℕ → Applied
-ranPlan s b = ran s (runAnswer limits (terminalIn s .config) (terminalIn s .table) (requestsIn b)) (runWords (s .config .words) (s .table .words) b)
+ranPlan s b =
+    ran s (runAnswer limits (terminalIn s .config) (terminalIn s .table) (requestsIn b))
+    (runWords (s .config .words) (s .table .words) b)
 
 unfoldable pub applyBase : State → Read → List ℕ → Applied
 applyBase s r b = cond (eqb (baseNumber s r) 0) (ranPlan s b) (turnedAway s (baseNumber s r) 0)

@@ -21,7 +21,12 @@ refusedRead k at = record { requests = Bad k at; edition = 0; config = noConfig;
 
 -- a plan that reads whole: its requests are the last of its bytes
 unfoldable pub readAnswer : ℕ → Out Plan → Read
-readAnswer n (got p left) = record { requests = End (n - length (p .asked) * requestBytes); edition = p .marks .edition; config = configFor (p .marks .gic) (p .regions); table = tableFor (p .zones) }
+readAnswer n (got p left) = record {
+  requests = End (n - length (p .asked) * requestBytes);
+  edition = p .marks .edition;
+  config = configFor (p .marks .gic) (p .regions);
+  table = tableFor (p .zones);
+}
 readAnswer n (bad k left) = refusedRead k (n - length left)
 
 -- the stretch of the plan's bytes that holds its requests: none where it was refused
@@ -40,7 +45,12 @@ leading f n (got x left) = f x left
 leading f n (bad k left) = refusedRead k (n - length left)
 
 unfoldable pub afterRequests : ℕ → Config → Table → ℕ → List Asked → List ℕ → Read
-afterRequests e c t n asked left = record { requests = End (n - length asked * requestBytes); edition = e; config = c; table = t }
+afterRequests e c t n asked left = record {
+  requests = End (n - length asked * requestBytes);
+  edition = e;
+  config = c;
+  table = t;
+}
 
 abbrev pub requestsRead : ℕ → Config → Table → ℕ → List ℕ → Read
 requestsRead e c t n b = leading (afterRequests e c t n) n (readFile (requestsSection limits) b)

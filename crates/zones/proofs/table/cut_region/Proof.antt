@@ -15,16 +15,25 @@ add-close-gap : tie.Need-add-close-gap
 add-close-gap c = search needs
 
 mul-close-gap : tie.Need-mul-close-gap
-mul-close-gap c = let st = c .before .before .before .before in let q = set-within _ _ _ _ (st .pre .0 .0) (st .pre .0 .1) (st .pre .1) in omega arith
+mul-close-gap c =
+    let st = c .before .before .before .before in
+    let q = set-within _ _ _ _ (st .pre .0 .0) (st .pre .0 .1) (st .pre .1) in
+    omega arith
 
 add-close-gap-2 : tie.Need-add-close-gap-2
-add-close-gap-2 c = let st = c .before .before .before .before in let q = set-within _ _ _ _ (st .pre .0 .0) (st .pre .0 .1) (st .pre .1) in omega arith
+add-close-gap-2 c =
+    let st = c .before .before .before .before in
+    let q = set-within _ _ _ _ (st .pre .0 .0) (st .pre .0 .1) (st .pre .1) in
+    omega arith
 
 add-close-gap-3 : tie.Need-add-close-gap-3
 add-close-gap-3 c = search needs
 
 close-gap-requires : tie.Need-close-gap-requires
-close-gap-requires c κs = let st = c .before .before .before .before in let q = set-within _ _ _ _ (st .pre .0 .0) (st .pre .0 .1) (st .pre .1) in (omega arith, search (packed-long, needs))
+close-gap-requires c κs =
+    let st = c .before .before .before .before in
+    let q = set-within _ _ _ _ (st .pre .0 .0) (st .pre .0 .1) (st .pre .1) in
+    (omega arith, search (packed-long, needs))
 
 sub-t : tie.Need-sub-t
 sub-t c = search needs

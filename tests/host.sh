@@ -7,6 +7,7 @@
 #   EMULATOR     empty on x86-64, else the command that runs an x86-64 program
 #   SANITIZERS   after find_sanitizers, the C compiler's options for the sanitizers that run here
 #   CARGO        what builds the Rust crates
+#   TOOL         after need_tool, the command behind ./peatmitten base, run and show
 #   work         after need_work, a folder for a test's own files, which is removed when the test ends
 
 root=$(cd "$(dirname "${BASH_SOURCE[0]}")/.." && pwd)
@@ -111,4 +112,11 @@ find_cargo() {
 
 need_rust() {
     find_cargo || say_failed "no Rust compiler here builds for x86-64 (tests/install_cross.sh installs one)"
+}
+
+# Asked by itself the tool is quicker than by ./peatmitten, which is asked once here to build it.
+need_tool() {
+    "$root/peatmitten" show "$root/examples/first.plan" >/dev/null || say_failed "the tool is not built"
+    TOOL=("$root/rust/target/$RUST_TARGET/release/peatmitten-tool")
+    [ -z "$EMULATOR" ] || TOOL=("$EMULATOR" "${TOOL[@]}")
 }

@@ -91,12 +91,19 @@ faults() {
     fi
 }
 
-# What is left can be applied, and the last state is that of a run without faults.
+# What is left can be applied, and the last state is that of a run without faults. Many cuts leave the same files: from each such, by its
+# names and bytes, it is tried once.
 complete() {
-    local rest=("$first" "$second")
+    local rest=("$first" "$second") left
+    left="${program[0]} $(sha256sum "$state"* 2>/dev/null | tr '\n' ' ' || true)"
+    ! grep -qxF "$left" "$work/completed" || return 0
     unset POWER_CUT POWER_FAIL POWER_FORGETS
     [ "$1" = 2 ] || run "${rest[@]:$1}"
-    cmp -s "$state" "$work/edition2" || echo "from edition $1 the rest of the plans does not lead to edition 2: $printed"
+    if cmp -s "$state" "$work/edition2"; then
+        echo "$left" >>"$work/completed"
+    else
+        echo "from edition $1 the rest of the plans does not lead to edition 2: $printed"
+    fi
 }
 
 # Sets calls: those of a run of both plans without faults.
@@ -196,6 +203,7 @@ find_sanitizers
 build_example
 build_tool
 write_second_plan
+touch "$work/completed"
 tried=0
 program=("$work/apply_plan" -s)
 make_states

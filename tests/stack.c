@@ -1,6 +1,6 @@
 /*
  * Measures how much stack each function of the library takes: it is called on a stack that was filled with a pattern, and then the
- * deepest byte that differs from the pattern is looked for.
+ * deepest word that differs from the pattern is looked for.
  *
  * usage: stack STATE PLAN [STATE PLAN]...
  *
@@ -17,7 +17,9 @@
 #include "peatmitten.h"
 
 #define STACK_ROOM (1 << 20)
+#define STACK_WORDS (STACK_ROOM / sizeof(uint64_t))
 #define PATTERN 0xa5
+#define PATTERN_WORD (UINT64_MAX / 0xff * PATTERN)
 
 enum { CHECK_CONFIG, CHECK_TABLE, REQUEST, TRANSLATE, EDITION, READ, APPLY, LAYOUT, FUNCTIONS };
 
@@ -28,7 +30,7 @@ static const char *const names[FUNCTIONS] = {
     "peatmitten_check_config", "peatmitten_check_table", "peatmitten_request", "peatmitten_translate",
     "peatmitten_edition",      "peatmitten_read",        "peatmitten_apply",   TEXT_OF(peatmitten_layout)};
 
-static unsigned char stack[STACK_ROOM] __attribute__((aligned(64)));
+static uint64_t stack[STACK_WORDS] __attribute__((aligned(64)));
 static ucontext_t here, there;
 static peatmitten_state state;
 static uint8_t plan[PEATMITTEN_LONGEST_PLAN + 1];
@@ -87,7 +89,7 @@ static void layout(void)
     answers[0] = peatmitten_layout(kind);
 }
 
-/* How much of the stack is no longer the pattern after a call. */
+/* How much of the stack is no longer the pattern after a call, in bytes. */
 static size_t taken_by(void (*call)(void))
 {
     size_t untouched = 0;
@@ -99,9 +101,9 @@ static size_t taken_by(void (*call)(void))
     there.uc_link = &here;
     makecontext(&there, call, 0);
     swapcontext(&here, &there);
-    while (untouched < sizeof stack && stack[untouched] == PATTERN)
+    while (untouched < STACK_WORDS && stack[untouched] == PATTERN_WORD)
         untouched++;
-    return sizeof stack - untouched;
+    return sizeof stack - untouched * sizeof *stack;
 }
 
 static size_t read_file(const char *path, void *bytes, size_t most)

@@ -7,13 +7,14 @@ test_name=stack
 need_library
 need_c
 need_work
+need_tool
 pairs=()
 
 # A plan that does not read whole, or whose contents are unsound, has no base; at a state of its own it would take less stack.
 while read -r name number _; do
     case $number in
     0 | 25 | 27)
-        "$root/peatmitten" base "$root/vectors/plans/$name" >"$work/$name" || say_failed "there is no base of $name"
+        "${TOOL[@]}" base "$root/vectors/plans/$name" >"$work/$name" || say_failed "there is no base of $name"
         pairs+=("$work/$name" "$root/vectors/plans/$name")
         ;;
     esac

@@ -81,22 +81,19 @@ check_show() {
         show "$plans/refused.plan"
 }
 
-# Each stored plan at its own base: what it answers, or why it has none; and where it stops reading. The program is asked by itself,
-# which is quicker.
+# Each stored plan at its own base: what it answers, or why it has none; and where it stops reading.
 check_stored_plans() {
     local name answer number place plan last
-    local program=("$root/rust/target/$RUST_TARGET/release/peatmitten-tool")
-    [ -z "$EMULATOR" ] || program=("$EMULATOR" "${program[@]}")
     while read -r name answer; do
         read -r number place _ <<<"$answer"
         plan=$root/vectors/plans/$name
-        if "${program[@]}" base "$plan" >"$state" 2>"$work/errors"; then
-            said=$("${program[@]}" run "$state" "$plan" || true)
+        if "${TOOL[@]}" base "$plan" >"$state" 2>"$work/errors"; then
+            said=$("${TOOL[@]}" run "$state" "$plan" || true)
             [[ $said == "$answer, edition "* ]] || say_failed "$name at its own base is $answer; run printed '$said'"
         else
             [[ $(cat "$work/errors") == *" has no base: $answer: "* ]] || say_failed "base $name, which is $answer: $(cat "$work/errors")"
         fi
-        last=$({ "${program[@]}" show "$plan" || true; } | tail -n 1)
+        last=$({ "${TOOL[@]}" show "$plan" || true; } | tail -n 1)
         case $number in
         20 | 21 | 22) [[ $last =~ ^\ *$place\ \ stops\ here\ with\ $number: ]] || say_failed "$name is $answer; show ended '$last'" ;;
         *) [[ $last =~ end:\ the\ plan\ reads\ whole$ ]] || say_failed "$name is $answer; show ended '$last'" ;;
@@ -114,7 +111,7 @@ check_same_from_c() {
 }
 
 # What is not built yet is built here, so that nothing but the tool speaks below.
-"$launcher" show "$plans/first.plan" >/dev/null
+need_tool
 check_run
 check_other_zones
 check_faults

@@ -22,7 +22,8 @@ use Rattle.terminal.specs.Terminal.{Applies}
 use Rattle.walker.specs.declared.Edition.{Edition}
 use Rattle.walker.specs.declared.Edition.the-variants.{Is, Bad as BadEdition}
 
--- what a header must have for the library: the most regions, zones, regions in a set and requests, the words of a region, the longest plan
+-- what a header must have for the library: the most regions, zones, regions in a set and requests, the words of a
+-- region, the longest plan
 abbrev pub layout : List ℕ
 layout = mostRegions ∷ mostZones ∷ mostInSet ∷ mostRequests ∷ regionWords ∷ longestSize limits ∷ []
 

@@ -23,7 +23,8 @@ use Rattle.rules.proofs.Keeps.{sound-parts, SoundTable}
 use Rattle.rules.proofs.Planner.{limits-sayable}
 use Rattle.rules.proofs.Stored.{table-back, stands-well, stored-stands, run-from-keeps}
 use Rattle.promises.specs.Editions as editions
-use Rattle.promises.specs.Editions.{makes, plan, noise, restart, tableAt, at, planOf, begin, taken, happens, Legal, AllLegal, missing, world, Lawful, Event, Planner, World}
+use Rattle.promises.specs.Editions.{makes, plan, noise, restart, tableAt, at, planOf, begin, taken, happens, Legal}
+use Rattle.promises.specs.Editions.{AllLegal, missing, world, Lawful, Event, Planner, World}
 use Rattle.promises.specs.Past.{askedFor, events}
 use Rattle.promises.specs.Terminals as promised
 use Rattle.promises.specs.Terminals.{terminal, stateOf, terminals, planned, Held, SoundHeld}
@@ -45,10 +46,16 @@ use Rattle.plan.specs.Deliveries.{saysTo, leaves}
 use Rattle.plan.specs.declared.applying.Applied.{Applied}
 use Rattle.plan.specs.declared.applying.State.{State}
 use Rattle.terminal.proofs.Lending.{lending-is-faithful}
-use Rattle.demands.specs.Following.{Code, Meets, ByValueMeets, lent, kept, terminalsOf, CodeIsLawful, TurnsAway, plannedAt, planAt, planner, stateIn, CodeFollows, CodeGoesAlong, EqualEditionsEqualWords, LowerWordsAreBehind, deskConfig, CodePastShown, Words}
+use Rattle.demands.specs.Following.{Code, Meets, ByValueMeets, lent, kept, terminalsOf, CodeIsLawful, TurnsAway}
+use Rattle.demands.specs.Following.{plannedAt, planAt, planner, stateIn, CodeFollows, CodeGoesAlong}
+use Rattle.demands.specs.Following.{EqualEditionsEqualWords, LowerWordsAreBehind, deskConfig, CodePastShown}
+use Rattle.demands.specs.Following.{Words}
 
 pub by-value-meets : ByValueMeets
-by-value-meets f e s b = record { answer = ap (λ (a : Applied). a .outcome) (e s b); next = ap (λ (a : Applied). a .state) (e s b) }
+by-value-meets f e s b = record {
+  answer = ap (λ (a : Applied). a .outcome) (e s b);
+  next = ap (λ (a : Applied). a .state) (e s b);
+}
 
 -- ---- the laws, from those of the rules' terminals
 abbrev law : Lawful (terminals limits)
@@ -96,14 +103,26 @@ module _ (f : Code) (meets : Meets f) where
       ≡ record { edition = suc (s .edition); table = terminalsOf f .next (s .table) q })
   plan-leads s q ok may =
       let b : List ℕ = planBytes limits (now s) q in
-      let full : SoundHeld limits (stateOf (now s) .table) = record { records = all-records (s .table .config .words); stands = ok } in
+      let full : SoundHeld limits (stateOf (now s) .table) = record {
+        records = all-records (s .table .config .words);
+        stands = ok;
+      } in
       let r = law .leads (stateOf (now s)) q full may in
       let n : f (lent s) b .outcome .number ≡ 0 = number-is s b ∙ r .0 in
       let back : tableOf (store limits (ran (s .table) q ok)) ≡ ran (s .table) q ok = ran-back (s .table) q ok in (
         n,
         ap kept (moves s b n)
-            ∙ (λ i. record { edition = r .1 i .edition; table = record { config = s .table .config; table = record { words = wordsOf (tableOf (r .1 i .table .table)) } } })
-            ∙ (λ i. record { edition = suc (s .edition); table = record { config = s .table .config; table = record { words = wordsOf (back i) } } }),
+            ∙ (λ i. record {
+              edition = r .1 i .edition;
+              table = record {
+                config = s .table .config;
+                table = record { words = wordsOf (tableOf (r .1 i .table .table)) };
+              };
+            })
+            ∙ (λ i. record {
+              edition = suc (s .edition);
+              table = record { config = s .table .config; table = record { words = wordsOf (back i) } };
+            }),
       )
 
   pub code-laws : Lawful (terminalsOf f)
@@ -112,7 +131,9 @@ module _ (f : Code) (meets : Meets f) where
     fits = λ s b e. (let (p, g, last, inner) = accepted-is-plan limits (now s) b (sym (number-is s b) ∙ e) in (p, g));
     tells = λ s t b g h. law .tells (stateOf (now s)) (stateOf (now t)) b g h;
     leads = plan-leads;
-    keeps = λ s q ok may. made-stands (s .table .config .words) (s .table .table .words) ok (ran (s .table) q ok) (ran-sound (s .table) q ok) (wordsOf (ran (s .table) q ok)) refl;
+    keeps =
+        λ s q ok may. made-stands (s .table .config .words) (s .table .table .words) ok (ran (s .table) q ok)
+        (ran-sound (s .table) q ok) (wordsOf (ran (s .table) q ok)) refl;
   }
 
 pub code-is-lawful : CodeIsLawful
@@ -131,8 +152,18 @@ module _ (c : Config) (asked : ℕ → List Asked) (f : Code) where
   planned-at (suc k) =
       let p : c ≡ tableAt (terminalsOf f) (planner c asked f) k .config = config-stays k in
       let e : now (at (terminalsOf f) (planner c asked f) k) ≡ plannedAt c asked k = planned-at k in
-      (λ i. record { config = storedConfig (sym p i .words); table = table-view (ranAt limits (storedConfig (tableAt (terminalsOf f) (planner c asked f) k .config .words)) (storedTable (tableAt (terminalsOf f) (planner c asked f) k .table .words)) (asked (suc k)) .table) i; edition = suc k })
-      ∙ (λ i. record { config = storedConfig (c .words); table = store limits (ranAt limits (storedConfig (sym p i .words)) (e i .table) (asked (suc k)) .table); edition = suc k })
+      (λ i. record {
+        config = storedConfig (sym p i .words);
+        table =
+            table-view (ranAt limits (storedConfig (tableAt (terminalsOf f) (planner c asked f) k .config .words))
+            (storedTable (tableAt (terminalsOf f) (planner c asked f) k .table .words)) (asked (suc k)) .table) i;
+        edition = suc k;
+      })
+      ∙ (λ i. record {
+        config = storedConfig (c .words);
+        table = store limits (ranAt limits (storedConfig (sym p i .words)) (e i .table) (asked (suc k)) .table);
+        edition = suc k;
+      })
 
   file-at : (i : ℕ) → planOf (terminalsOf f) (planner c asked f) i ≡ planAt c asked i
   file-at i = ap (λ (s : Terminal). planBytes limits s (asked i)) (planned-at (i - 1))
@@ -151,9 +182,13 @@ code-follows f meets c ok asked h =
       record {
         behind = g .behind;
         holds = ap now (g .same) ∙ planned-at c asked f k;
-        onward = λ l. subst (λ (b : List ℕ). (f s b .outcome .number ≡ 0) × (terminalIn (f s b .state) ≡ plannedAt c asked (suc k))) (file-at c asked f (suc k))
+        onward =
+            λ l. subst (λ (b : List ℕ). (f s b .outcome .number ≡ 0)
+            × (terminalIn (f s b .state) ≡ plannedAt c asked (suc k))) (file-at c asked f (suc k))
             (g .onward l .0, ap now (g .onward l .1) ∙ planned-at c asked f (suc k));
-        others = λ i low high ne. subst (TurnsAway f s) (file-at c asked f i) (let r = g .others i low high ne in (r .0, ap lent (r .1)));
+        others =
+            λ i low high ne. subst (TurnsAway f s) (file-at c asked f i) (let r = g .others i low high ne in
+            (r .0, ap lent (r .1)));
         stray = λ b ne. let r = g .stray b (λ x. ne (x .0) (x .1)) in (r .0, ap lent (r .1));
       },
     )
@@ -182,7 +217,10 @@ module _ (f : Code) (meets : Meets f) (c : Config) (asked : ℕ → List Asked) 
   taken-same : (w : World (terminalsOf f)) (b d : List ℕ) → b ≡ d
       → seen (taken (terminalsOf f) w b) ≡ taken (terminals limits) (seen w) d
   taken-same w b d e =
-      let s : view (kept (f (lent (w .state)) b .state)) ≡ stateOf (leaves (now (w .state)) d) = ap stateOf (lending-is-faithful .next (lent (w .state)) b (f (lent (w .state)) b .outcome) (f (lent (w .state)) b .state) (meets (lent (w .state)) b) ∙ ap (leaves (now (w .state))) e) in
+      let s : view (kept (f (lent (w .state)) b .state)) ≡ stateOf (leaves (now (w .state)) d) =
+      ap stateOf (lending-is-faithful .next (lent (w .state)) b (f (lent (w .state)) b .outcome)
+      (f (lent (w .state)) b .state) (meets (lent (w .state)) b)
+      ∙ ap (leaves (now (w .state))) e) in
       (λ i. record { made = w .made; state = s i; held = s i ∷ map view (w .held) })
 
   event-same : (w : World (terminalsOf f)) (e : Event (List ℕ))
@@ -193,7 +231,9 @@ module _ (f : Code) (meets : Meets f) (c : Config) (asked : ℕ → List Asked) 
       taken-same w (planOf (terminalsOf f) mine i) (planOf (terminals limits) theirs i) (plan-same i)
   event-same w (noise b) = taken-same w b b refl
   event-same w (restart i) =
-      let s : view (getD (w .held) i (at (terminalsOf f) mine 0)) ≡ getD (map view (w .held)) i (at (terminals limits) theirs 0) = sym (List·getD-map view (w .held) i (at (terminalsOf f) mine 0)) ∙ ap (getD (map view (w .held)) i) (at-same 0) in
+      let s : view (getD (w .held) i (at (terminalsOf f) mine 0))
+      ≡ getD (map view (w .held)) i (at (terminals limits) theirs 0) =
+      sym (List·getD-map view (w .held) i (at (terminalsOf f) mine 0)) ∙ ap (getD (map view (w .held)) i) (at-same 0) in
       (λ j. record { made = w .made; state = s j; held = map view (w .held) })
 
   event-legal : (w : World (terminalsOf f)) (e : Event (List ℕ)) → Legal (terminals limits) theirs (seen w) e
@@ -203,7 +243,9 @@ module _ (f : Code) (meets : Meets f) (c : Config) (asked : ℕ → List Asked) 
       (sym (at-same (w .made))) a
   event-legal w (plan i) a = a
   event-legal w (noise b) a = a
-  event-legal w (restart i) a = let n : length (map view (w .held)) ≡ length (w .held) = length-map (w .held) view in omega arith
+  event-legal w (restart i) a =
+      let n : length (map view (w .held)) ≡ length (w .held) = length-map (w .held) view in
+      omega arith
 
   all-legal : (w : World (terminalsOf f)) (es : List (Event (List ℕ))) → AllLegal (terminals limits) theirs (seen w) es
       → AllLegal (terminalsOf f) mine w es
@@ -221,8 +263,12 @@ pub code-goes-along : CodeGoesAlong
 code-goes-along f meets c asked (es, l) =
     let m = mine f meets c asked in
     let t = theirs f meets c asked in
-    let ok = all-legal f meets c asked (begin (terminalsOf f) m) es (subst (λ (v : World (terminals limits)). AllLegal (terminals limits) t v es) (sym (begin-same f meets c asked)) l) in
-    let e : seen f meets c asked (runs (happens (terminalsOf f) m) (begin (terminalsOf f) m) es) ≡ runs (happens (terminals limits) t) (begin (terminals limits) t) es =
+    let ok =
+    all-legal f meets c asked (begin (terminalsOf f) m) es
+    (subst (λ (v : World (terminals limits)). AllLegal (terminals limits) t v es)
+    (sym (begin-same f meets c asked)) l) in
+    let e : seen f meets c asked (runs (happens (terminalsOf f) m) (begin (terminalsOf f) m) es)
+    ≡ runs (happens (terminals limits) t) (begin (terminals limits) t) es =
     runs-seen (seen f meets c asked) (happens (terminalsOf f) m) (happens (terminals limits) t)
     (event-same f meets c asked) (begin (terminalsOf f) m) es
     ∙ ap (λ (v : World (terminals limits)). runs (happens (terminals limits) t) v es)
@@ -274,4 +320,6 @@ shown : Shown (storedConfig (deskConfig .words))
 shown = subst Shown (sym (config-view (record { regions = G ∷ []; gic = 0 }))) (past-shown .0, past-shown .2)
 
 pub code-past-shown : CodePastShown
-code-past-shown f meets = let r = code-goes-along f meets deskConfig askedFor (events, shown .0) in (r .0, r .1, r .3 ∙ shown .1)
+code-past-shown f meets =
+    let r = code-goes-along f meets deskConfig askedFor (events, shown .0) in
+    (r .0, r .1, r .3 ∙ shown .1)

@@ -63,7 +63,14 @@ terminalsOf f = record {
   PlanFor = λ s b. (p : Plan) × PlanFor limits (terminalIn (lent s)) b p;
   Sound = λ h. Stands (h .config .words) (h .table .words);
   Accepts = λ s q. MayAsk limits (terminalIn (lent s)) q;
-  next = λ h q. record { config = h .config; table = record { words = wordsOf (ranAt limits (storedConfig (h .config .words)) (storedTable (h .table .words)) q .table) } };
+  next =
+      λ h q. record {
+        config = h .config;
+        table = record {
+          words = wordsOf (ranAt limits (storedConfig (h .config .words))
+              (storedTable (h .table .words)) q .table);
+        };
+      };
   encode = λ s q. planBytes limits (terminalIn (lent s)) q;
 }
 

@@ -8,7 +8,7 @@ use zones::CONFIG_RECORDS;
 use zones::CONFIG_WORDS;
 use zones::REGION_WORDS;
 use zones::TABLE_WORDS;
-use zones::ZONE_WORDS;
+use zones::zone_start;
 
 // ---- regions
 
@@ -100,11 +100,19 @@ pub fn config(count: u64, gic: u64, position: usize, letter: u8) -> [u64; CONFIG
 
 // ---- tables
 
+// Gives a zone its id.
+fn name_zone(words: &mut [u64; TABLE_WORDS], z: usize, id: u64) {
+    let k = zone_start(z);
+    if k < TABLE_WORDS {
+        words[k] = id;
+    }
+}
+
 // Two empty zones: one with the first id, and 6.
 pub fn two_zones(first: u64) -> [u64; TABLE_WORDS] {
     let mut words = [0u64; TABLE_WORDS];
     words[0] = 2;
-    words[1] = first;
-    words[1 + ZONE_WORDS] = 6;
+    name_zone(&mut words, 0, first);
+    name_zone(&mut words, 1, 6);
     words
 }

@@ -6,7 +6,7 @@ use rules::limits::MOST_ZONES;
 use zones::REGION_WORDS;
 use zones::SET_WORDS;
 use zones::TABLE_WORDS;
-use zones::ZONE_WORDS;
+use zones::zone_start;
 ghost use Prim.Native.Nat.{_+_, _≤_};
 ghost use Rattle.zones.specs.Layout.{tableWords, setWords, zoneWords, regionWords};
 
@@ -59,7 +59,7 @@ pub fn show_table(t: &[u64; TABLE_WORDS]) {
     let mut z: usize = 0;
     while z < MOST_ZONES {
         if (z as u64) < t[0] {
-            show_zone(t, 1 + z * ZONE_WORDS);
+            show_zone(t, zone_start(z));
         }
         z += 1;
     }

@@ -13,7 +13,9 @@ use Rattle.lists.specs.Bytes.{bytesOf}
 use Rattle.lists.specs.Rules.{Silent, Rule, Applies}
 use Rattle.lists.proofs.Bytes.{length-bytes}
 use Rattle.lists.proofs.Tests.{parts, whole, false-of}
-use Rattle.formats.specs.Formats.{Out, got, bad, when, then, Format, readNumber, readBoth, both, readAs, as-type, readMany, writeMany, many, within, readCount, readHeaded, writeHeaded, listed, atEnd, readFile, All, ListFits}
+use Rattle.formats.specs.Formats.{Out, got, bad, when, then, Format, readNumber, readBoth, both, readAs, as-type}
+use Rattle.formats.specs.Formats.{readMany, writeMany, many, within, readCount, readHeaded, writeHeaded, listed}
+use Rattle.formats.specs.Formats.{atEnd, readFile, All, ListFits}
 use Rattle.formats.specs.Sizes.{total, along}
 use Rattle.formats.proofs.Formats.{lawful-number, lawful-many, Lawful}
 

@@ -14,7 +14,10 @@ use Rattle.lists.specs.Bytes.{little, bytesOf, Bytes}
 use Rattle.lists.specs.Tests.{allOf}
 use Rattle.lists.proofs.Tests.{parts, whole}
 use Rattle.lists.proofs.Bytes.{bytes-take, length-bytes, little-bytes, bytes-little, little-below}
-use Rattle.formats.specs.Formats.{Out, got, bad, left, when, then, Format, readNumber, number, readBoth, writeBoth, both, startAt, field, readAs, as-type, readMany, writeMany, many, within, readCount, readHeaded, writeHeaded, headed, listed, atEnd, readFile, All, InRange}
+use Rattle.formats.specs.Formats.{Out, got, bad, left, when, then, Format, readNumber, number, readBoth}
+use Rattle.formats.specs.Formats.{writeBoth, both, startAt, field, readAs, as-type, readMany, writeMany, many}
+use Rattle.formats.specs.Formats.{within, readCount, readHeaded, writeHeaded, headed, listed, atEnd, readFile}
+use Rattle.formats.specs.Formats.{All, InRange}
 
 -- t is the end of b
 abbrev pub Part : List ℕ → List ℕ → Type 0
@@ -165,7 +168,8 @@ module _ {A B : Type 0} (F : Format A) (G : Format B) (P : A → Type 0) (Q : B 
       let n = g .tight s y u (left-bytes b (F .write x) s (m .0) h) ey in
       let q : (x, y) ≡ p = cc in
       let eu : u ≡ t = cc in
-      let w : b ≡ (F .write x ++ G .write y) ++ u = m .0 ∙ ap (λ (l : List ℕ). F .write x ++ l) (n .0) ∙ sym (append-assoc (F .write x) (G .write y) u) in
+      let w : b ≡ (F .write x ++ G .write y) ++ u =
+      m .0 ∙ ap (λ (l : List ℕ). F .write x ++ l) (n .0) ∙ sym (append-assoc (F .write x) (G .write y) u) in
       subst (λ (r : A × B). (b ≡ (F .write (r .0) ++ G .write (r .1)) ++ t) × (P (r .0) × Q (r .1))) q
       (rw eu at w, (m .1, n .1))
 
@@ -179,7 +183,8 @@ module _ {A B : Type 0} (F : Format A) (G : Format B) (P : A → Type 0) (Q : B 
   unfolding readBoth
   refuses-both b =
       then-bad (F .read b) (λ x s. then (G .read s) (λ y t. got (x, y) t)) Told (f .refuses b)
-      (λ x s. then-bad (G .read s) (λ y t. got (x, y) t) Told (g .refuses s) (λ y u k t e. absurd (no-refusal (x, y) u k t e)))
+      (λ x s. then-bad (G .read s) (λ y t. got (x, y) t) Told (g .refuses s)
+      (λ y u k t e. absurd (no-refusal (x, y) u k t e)))
 
   pub lawful-both : Lawful (both F G) (λ p. P (p .0) × Q (p .1))
   lawful-both = record { back = back-both; tight = tight-both; part = part-both; refuses = refuses-both }
@@ -266,7 +271,8 @@ module _ {A : Type 0} (F : Format A) (P : A → Type 0) (f : Lawful F P) where
       let g = tight-many n s ys u (left-bytes b (F .write x) s (m .0) h) ey in
       let q : x ∷ ys ≡ xs = cc in
       let eu : u ≡ t = cc in
-      let w : b ≡ (F .write x ++ writeMany F ys) ++ u = m .0 ∙ ap (λ (l : List ℕ). F .write x ++ l) (g .0) ∙ sym (append-assoc (F .write x) (writeMany F ys) u) in
+      let w : b ≡ (F .write x ++ writeMany F ys) ++ u =
+      m .0 ∙ ap (λ (l : List ℕ). F .write x ++ l) (g .0) ∙ sym (append-assoc (F .write x) (writeMany F ys) u) in
       subst (λ (l : List A). (b ≡ writeMany F l ++ t) × ((length l ≡ suc n) × All P l)) q
       (rw eu at w, (ap suc (g .1 .0), (m .1, g .1 .1)))
 
@@ -282,10 +288,16 @@ module _ {A : Type 0} (F : Format A) (P : A → Type 0) (f : Lawful F P) where
   refuses-many zero b k t e = absurd (no-refusal [] b k t e)
   refuses-many (suc n) b k t e =
       then-bad (F .read b) (λ x s. then (readMany F n s) (λ xs t. got (x ∷ xs) t)) Told (f .refuses b)
-      (λ x s. then-bad (readMany F n s) (λ xs t. got (x ∷ xs) t) Told (refuses-many n s) (λ xs u k t e. absurd (no-refusal (x ∷ xs) u k t e))) k t e
+      (λ x s. then-bad (readMany F n s) (λ xs t. got (x ∷ xs) t) Told (refuses-many n s)
+      (λ xs u k t e. absurd (no-refusal (x ∷ xs) u k t e))) k t e
 
   pub lawful-many : (n : ℕ) → Lawful (many F n) (λ xs. (length xs ≡ n) × All P xs)
-  lawful-many n = record { back = λ xs t h. rw (← (h .0)) (back-many xs t (h .1)); tight = tight-many n; part = part-many n; refuses = refuses-many n }
+  lawful-many n = record {
+    back = λ xs t h. rw (← (h .0)) (back-many xs t (h .1));
+    tight = tight-many n;
+    part = part-many n;
+    refuses = refuses-many n;
+  }
 
 -- ---- a count
 module _ (w lo hi : ℕ) where
@@ -304,7 +316,8 @@ module _ (w lo hi : ℕ) where
       let (a, (z, _)) = parts (leb lo n ∷ leb n hi ∷ []) l in
       (en ∙ g, (rw q at (leb-true lo n a), rw q at (leb-true n hi z)))
 
-  -- (a count out of range is refused where it begins, so what is left is no end of what stands after it: hence the cases)
+  -- (a count out of range is refused where it begins, so what is left is no end of what stands after it: hence the
+  -- cases)
   part-count : (b : List ℕ) → Part (left (readCount w lo hi b)) b
   unfolding readCount left then
   part-count b = by (readNumber w b) (part-number w b)
@@ -365,7 +378,8 @@ module _ {A : Type 0} (w lo hi : ℕ) (F : ℕ → Format A) (size : A → ℕ) 
       let k = tight-number w b c s h en in
       let g = f c .tight s x t (left-bytes b (bytesOf w c) s (k .0) h) e' in
       let q : size x ≡ c = sized c x a z (g .1) in
-      let v : b ≡ (bytesOf w c ++ F c .write x) ++ t = k .0 ∙ ap (λ (r : List ℕ). bytesOf w c ++ r) (g .0) ∙ sym (append-assoc (bytesOf w c) (F c .write x) t) in
+      let v : b ≡ (bytesOf w c ++ F c .write x) ++ t =
+      k .0 ∙ ap (λ (r : List ℕ). bytesOf w c ++ r) (g .0) ∙ sym (append-assoc (bytesOf w c) (F c .write x) t) in
       (rw q v, record { said = rw q (k .1); least = rw q a; most = rw q z; fits = rw q (g .1) })
 
   part-headed : (b : List ℕ) → Part (left (readHeaded w lo hi F size b)) b

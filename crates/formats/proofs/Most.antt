@@ -9,7 +9,9 @@ use mathlib.Core.Path.{_≡_, refl, sym, ap, ap₂, _∙_}
 use lib.ListN.{length, take, length-append, length-drop}
 use lib.Seq.{take-append-le, drop-append-le}
 use Rattle.lists.specs.Bytes.{little}
-use Rattle.formats.specs.Formats.{Out, got, bad, when, then, Format, readNumber, number, readBoth, both, startAt, field, readAs, as-type, readMany, many, within, readCount, readHeaded, headed, listed, atEnd, readFile}
+use Rattle.formats.specs.Formats.{Out, got, bad, when, then, Format, readNumber, number, readBoth, both, startAt}
+use Rattle.formats.specs.Formats.{field, readAs, as-type, readMany, many, within, readCount, readHeaded, headed}
+use Rattle.formats.specs.Formats.{listed, atEnd, readFile}
 use Rattle.formats.proofs.Formats.{then-got, count-got}
 use Rattle.formats.proofs.Widths.{number-there, wide-number, wide-got}
 
@@ -33,12 +35,17 @@ then-onto v (bad k t) f h = refl
 
 -- what takes no more than m takes no more than n
 pub most-wider : {A : Type 0} (F : Format A) (m n : ℕ) → m ≤ n → Most F m → Most F n
-most-wider F m n h f = record { takes = λ b x t e. omega (arith, f .takes b x t e); past = λ u v l. f .past u v (omega arith) }
+most-wider F m n h f = record {
+  takes = λ b x t e. omega (arith, f .takes b x t e);
+  past = λ u v l. f .past u v (omega arith);
+}
 
 -- ---- a number of k bytes
 module _ (k : ℕ) where
   number-takes : (b : List ℕ) (n : ℕ) (t : List ℕ) → readNumber k b ≡ got n t → length b ≤ k + length t
-  number-takes b n t e = let (l, q) = wide-got (number k) k (λ s. little (take k s)) (wide-number k) b n t e in omega (arith, ap length q, length-drop k b)
+  number-takes b n t e =
+      let (l, q) = wide-got (number k) k (λ s. little (take k s)) (wide-number k) b n t e in
+      omega (arith, ap length q, length-drop k b)
 
   number-past : (u v : List ℕ) → k ≤ length u → readNumber k (u ++ v) ≡ onto v (readNumber k u)
   unfolding onto
@@ -68,7 +75,8 @@ module _ {A B : Type 0} (F : Format A) (G : Format B) (m n : ℕ) (f : Most F m)
   both-past u v h =
       ap (λ (o : Out A). then o second) (f .past u v (omega arith))
       ∙ then-onto v (F .read u) second
-      (λ x s e. ap (λ (o : Out B). then o (λ y t. got (x, y) t)) (g .past s v (omega (arith, f .takes u x s e))) ∙ then-onto v (G .read s) (λ y t. got (x, y) t) (λ y t d. refl))
+      (λ x s e. ap (λ (o : Out B). then o (λ y t. got (x, y) t)) (g .past s v (omega (arith, f .takes u x s e)))
+      ∙ then-onto v (G .read s) (λ y t. got (x, y) t) (λ y t d. refl))
 
   pub most-both : Most (both F G) (m + n)
   most-both = record { takes = both-takes; past = both-past }
@@ -130,7 +138,9 @@ module _ {A : Type 0} (F : Format A) (m : ℕ) (f : Most F m) where
   many-past (suc n) u v h =
       ap (λ (o : Out A). then o (others n)) (f .past u v (omega (arith, suc-mul n m)))
       ∙ then-onto v (F .read u) (others n)
-      (λ x s e. ap (λ (o : Out (List A)). then o (λ xs t. got (x ∷ xs) t)) (many-past n s v (omega (arith, f .takes u x s e, suc-mul n m))) ∙ then-onto v (readMany F n s) (λ xs t. got (x ∷ xs) t) (λ xs t d. refl))
+      (λ x s e. ap (λ (o : Out (List A)). then o (λ xs t. got (x ∷ xs) t))
+      (many-past n s v (omega (arith, f .takes u x s e, suc-mul n m)))
+      ∙ then-onto v (readMany F n s) (λ xs t. got (x ∷ xs) t) (λ xs t d. refl))
 
   pub most-many : (n : ℕ) → Most (many F n) (n * m)
   most-many n = record { takes = many-takes n; past = many-past n }
@@ -168,7 +178,8 @@ module _ {A : Type 0} (w lo hi : ℕ) (F : ℕ → Format A) (size : A → ℕ) 
   headed-past u v h =
       ap (λ (o : Out ℕ). then o (λ c s. F c .read s)) (count-past u v (omega arith))
       ∙ then-onto v (readCount w lo hi u) (λ c s. F c .read s)
-      (λ c s e. let (en, (a, z)) = count-got w lo hi u c s e in f c z .past s v (omega (arith, number-takes w u c s en)))
+      (λ c s e. let (en, (a, z)) = count-got w lo hi u c s e in
+      f c z .past s v (omega (arith, number-takes w u c s en)))
 
   pub most-headed : Most (headed w lo hi F size) (w + m)
   most-headed = record { takes = headed-takes; past = headed-past }
@@ -192,5 +203,7 @@ module _ {A : Type 0} (F : Format A) (m : ℕ) (f : Most F m) where
 
       by : (o : Out A) → ((x : A) (t : List ℕ) → o ≡ got x t → length u ≤ m + length t) → F .read (u ++ v) ≡ onto v o
           → (k : ℕ) × (t : List ℕ) × (then o atEnd ≡ bad k t) × (then (F .read (u ++ v)) atEnd ≡ bad k (t ++ v))
-      by (got x t) g e = let (k, s, p, q) = ends x t (omega (arith, g x t refl)) in (k, s, p, ap (λ (o : Out A). then o atEnd) e ∙ q)
+      by (got x t) g e =
+          let (k, s, p, q) = ends x t (omega (arith, g x t refl)) in
+          (k, s, p, ap (λ (o : Out A). then o atEnd) e ∙ q)
       by (bad k t) g e = (k, t, refl, ap (λ (o : Out A). then o atEnd) e)

@@ -8,7 +8,8 @@ use mathlib.Core.Path.{_≡_, refl, sym}
 use lib.ListN.{length, replicate, length-append}
 use Rattle.lists.specs.Bytes.{bytesOf}
 use Rattle.lists.proofs.Bytes.{length-bytes}
-use Rattle.formats.specs.Formats.{Format, number, writeBoth, both, writeMany, many, writeHeaded, headed, listed, All}
+use Rattle.formats.specs.Formats.{Format, number, writeBoth, both, writeMany, many, writeHeaded, headed, listed}
+use Rattle.formats.specs.Formats.{All}
 use Rattle.formats.specs.Sizes.{total}
 
 -- what is written of a value has as many bytes as its size says

@@ -13,7 +13,8 @@ use Rattle.lists.specs.Bytes.{little}
 use Rattle.lists.specs.Places.{places, tab}
 use Rattle.lists.proofs.Places.{tab-cons}
 use Rattle.lists.proofs.Tests.{holds-or-fails}
-use Rattle.formats.specs.Formats.{got, bad, when, then, Format, readNumber, number, readBoth, both, startAt, field, readAs, as-type, readMany}
+use Rattle.formats.specs.Formats.{got, bad, when, then, Format, readNumber, number, readBoth, both, startAt}
+use Rattle.formats.specs.Formats.{field, readAs, as-type, readMany}
 
 -- k bytes, and the value that they spell
 pub record Wide {A : Type 0} (F : Format A) (k : ℕ) (value : List ℕ → A) : Type 0 where
@@ -49,7 +50,9 @@ module _ {A B : Type 0} (F : Format A) (G : Format B) (j k : ℕ) (f : List ℕ 
   pub wide-both : Wide (both F G) (j + k) (λ b. (f b, g (drop j b)))
   wide-both = record {
     there = both-there;
-    short = λ b h. ⊎-elim (λ e. second-short b (leb-true j (length b) e) h) (λ e. first-short b (leb-false j (length b) e)) (holds-or-fails (leb j (length b)));
+    short =
+        λ b h. ⊎-elim (λ e. second-short b (leb-true j (length b) e) h) (λ e. first-short b (leb-false j (length b) e))
+        (holds-or-fails (leb j (length b)));
   }
 
 module _ {A B : Type 0} (F : Format A) (to : A → B) (from : B → A) (k : ℕ) (f : List ℕ → A) (w : Wide F k f) where
@@ -75,7 +78,11 @@ wide-got {A} F k f w b x t e =
     whole h = let q : got (f b) (drop k b) ≡ got x t = sym (w .there b h) ∙ e in (h, cc)
 
     cut : length b < k → ⊥
-    cut h = let (u, g) = w .short b h in let q : bad 20 u ≡ got x t = sym g ∙ e in let z : _≡_ {A = ℕ} 0 1 = cc in omega arith
+    cut h =
+        let (u, g) = w .short b h in
+        let q : bad 20 u ≡ got x t = sym g ∙ e in
+        let z : _≡_ {A = ℕ} 0 1 = cc in
+        omega arith
 
 -- ---- as one field: refused at its start
 module _ {A : Type 0} (F : Format A) (k : ℕ) (f : List ℕ → A) (w : Wide F k f) where
@@ -93,14 +100,17 @@ module _ {A : Type 0} (F : Format A) (k : ℕ) (f : List ℕ → A) (w : Wide F 
   unfolding readMany then tab places
   fields-there zero b h = ap (λ (j : ℕ). got [] (drop j b)) (sym (zero-mul k))
   fields-there (suc n) b h =
-      let step : (i : ℕ) → drop (i * k) (drop k b) ≡ drop (suc i * k) b = λ i. (let e : k + i * k ≡ suc i * k = omega (arith, suc-mul i k) in drop-drop (i * k) k b ∙ ap (λ (j : ℕ). drop j b) e) in
+      let step : (i : ℕ) → drop (i * k) (drop k b) ≡ drop (suc i * k) b =
+      λ i. (let e : k + i * k ≡ suc i * k = omega (arith, suc-mul i k) in
+      drop-drop (i * k) k b ∙ ap (λ (j : ℕ). drop j b) e) in
       let none : b ≡ drop (0 * k) b = ap (λ (j : ℕ). drop j b) (sym (zero-mul k)) in
       rw (
         field-there b (omega (arith, suc-mul n k)),
         fields-there n (drop k b) (omega (arith, suc-mul n k, length-drop k b)),
         step n,
       )
-      (λ j. got (f (none j) ∷ tab n (λ i. f (step i j))) (drop (suc n * k) b)) ∙ ap (λ (l : List A). got l (drop (suc n * k) b)) (sym (tab-cons n (λ i. f (drop (i * k) b))))
+      (λ j. got (f (none j) ∷ tab n (λ i. f (step i j))) (drop (suc n * k) b))
+      ∙ ap (λ (l : List A). got l (drop (suc n * k) b)) (sym (tab-cons n (λ i. f (drop (i * k) b))))
 
   -- m of them are there and the next is cut
   pub fields-cut : (n m : ℕ) (b : List ℕ) → m < n → m * k ≤ length b → length b < suc m * k

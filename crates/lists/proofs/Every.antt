@@ -7,7 +7,8 @@ use mathlib.Core.Bool.{Bool, true, false, not, _&&_, _||_, true≢false}
 use mathlib.Core.List.{List, [], _∷_, _++_, map}
 use mathlib.Core.Logic.{⊎-elim}
 use mathlib.Core.Path.{_≡_, refl, sym, ap, ap₂, _∙_}
-use lib.ListN.{length, getD, take, drop, set, replicate, length-take, length-drop, length-replicate, getD-replicate, List·getD-eq-default}
+use lib.ListN.{length, getD, take, drop, set, replicate, length-take, length-drop, length-replicate, getD-replicate}
+use lib.ListN.{List·getD-eq-default}
 use lib.Seq.{getD-take, getD-drop}
 use Rattle.lists.specs.First.{any, all}
 use Rattle.lists.specs.Room.{removeAt}
@@ -64,7 +65,9 @@ module _ {A : Type 0} (p : A → Bool) where
   pub all-append : (xs ys : List A) → all p xs ≡ true → all p ys ≡ true → all p (xs ++ ys) ≡ true
   unfolding all
   all-append [] ys e f = f
-  all-append (x ∷ xs) ys e f = let b = both-true (p x) (all p xs) e in true-both (p x) (all p (xs ++ ys)) (b .0) (all-append xs ys (b .1) f)
+  all-append (x ∷ xs) ys e f =
+      let b = both-true (p x) (all p xs) e in
+      true-both (p x) (all p (xs ++ ys)) (b .0) (all-append xs ys (b .1) f)
 
   pub all-both : (xs ys : List A) → all p (xs ++ ys) ≡ (all p xs && all p ys)
   unfolding all
@@ -79,7 +82,9 @@ module _ {A : Type 0} (p : A → Bool) where
   pub all-left : (xs ys : List A) → all p (xs ++ ys) ≡ true → all p xs ≡ true
   unfolding all
   all-left [] ys e = refl
-  all-left (x ∷ xs) ys e = let b = both-true (p x) (all p (xs ++ ys)) e in true-both (p x) (all p xs) (b .0) (all-left xs ys (b .1))
+  all-left (x ∷ xs) ys e =
+      let b = both-true (p x) (all p (xs ++ ys)) e in
+      true-both (p x) (all p xs) (b .0) (all-left xs ys (b .1))
 
   pub all-right : (xs ys : List A) → all p (xs ++ ys) ≡ true → all p ys ≡ true
   unfolding all
@@ -90,14 +95,18 @@ module _ {A : Type 0} (p : A → Bool) where
   unfolding all
   all-set [] k v e f = refl
   all-set (x ∷ xs) zero v e f = true-both (p v) (all p xs) f (both-true (p x) (all p xs) e .1)
-  all-set (x ∷ xs) (suc k) v e f = let b = both-true (p x) (all p xs) e in true-both (p x) (all p (set xs k v)) (b .0) (all-set xs k v (b .1) f)
+  all-set (x ∷ xs) (suc k) v e f =
+      let b = both-true (p x) (all p xs) e in
+      true-both (p x) (all p (set xs k v)) (b .0) (all-set xs k v (b .1) f)
 
   pub all-removed : (xs : List A) (k : ℕ) → all p xs ≡ true → all p (removeAt k xs) ≡ true
   unfolding all removeAt
   all-removed [] zero e = refl
   all-removed [] (suc k) e = refl
   all-removed (x ∷ xs) zero e = both-true (p x) (all p xs) e .1
-  all-removed (x ∷ xs) (suc k) e = let b = both-true (p x) (all p xs) e in true-both (p x) (all p (removeAt k xs)) (b .0) (all-removed xs k (b .1))
+  all-removed (x ∷ xs) (suc k) e =
+      let b = both-true (p x) (all p xs) e in
+      true-both (p x) (all p (removeAt k xs)) (b .0) (all-removed xs k (b .1))
 
   -- ---- some element
   pub any-make : (xs : List A) (d : A) (i : ℕ) → i < length xs → p (getD xs i d) ≡ true → any p xs ≡ true
@@ -244,4 +253,6 @@ pub map-back : {A B : Type 0} (p : A → Bool) (f : A → B) (g : B → A) → (
     → (xs : List A) → all p xs ≡ true → map g (map f xs) ≡ xs
 unfolding all
 map-back p f g back [] e = refl
-map-back {A = A} p f g back (x ∷ xs) e = let h = both-true (p x) (all p xs) e in ap₂ (λ (y : A) (ys : List A). y ∷ ys) (back x (h .0)) (map-back p f g back xs (h .1))
+map-back {A = A} p f g back (x ∷ xs) e =
+    let h = both-true (p x) (all p xs) e in
+    ap₂ (λ (y : A) (ys : List A). y ∷ ys) (back x (h .0)) (map-back p f g back xs (h .1))

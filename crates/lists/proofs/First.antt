@@ -62,7 +62,11 @@ module _ {A : Type 0} (p : A → Bool) where
   pub first-is : (xs : List A) (d : A) (k : ℕ) → k < length xs → p (getD xs k d) ≡ true
       → ((j : ℕ) → j < k → p (getD xs j d) ≡ false) → firstIndex p xs ≡ k
   first-is xs d k h e f =
-      let q : firstIndex p xs ≤ k = elim (decLt k (firstIndex p xs)) [ yes a ↦ absurd (true≢false (sym e ∙ before-fails xs d k a)) | no a ↦ omega arith ] in
+      let q : firstIndex p xs ≤ k =
+      elim (decLt k (firstIndex p xs)) [
+        | yes a ↦ absurd (true≢false (sym e ∙ before-fails xs d k a))
+        | no a ↦ omega arith
+      ] in
       elim (decLt (firstIndex p xs) k) [
         | yes a ↦ absurd
             (true≢false (sym (first-passes xs d (omega arith)) ∙ f (firstIndex p xs) a))

@@ -1,4 +1,5 @@
--- Where each rule's test means its line's condition, the first rule that applies is the first line whose condition holds.
+-- Where each rule's test means its line's condition, the first rule that applies is the first line whose condition
+-- holds.
 use mathlib.Core.Bool.{Bool, true, false, cond, not, true≢false}
 use mathlib.Core.List.{List, [], _∷_, map}
 use mathlib.Core.Logic.{inl, inr, _↔_}
@@ -62,7 +63,9 @@ module _ {R : Type 0} where
       by : (c : Bool) → Tells c P → ((P → ⊥) → (firstRule rs other ≡ a) ↔ FirstOf ks Rest a)
           → (cond c b (firstRule rs other) ≡ a) ↔ FirstOf (b given P ∷ ks) Rest a
       by true f later = line-hit (b given P) ks Rest b a (f .0 refl) refl
-      by false f later = let n : P → ⊥ = λ p. true≢false (sym (f .1 p)) in line-miss (b given P) ks Rest (firstRule rs other) a n (later n)
+      by false f later =
+          let n : P → ⊥ = λ p. true≢false (sym (f .1 p)) in
+          line-miss (b given P) ks Rest (firstRule rs other) a n (later n)
 
   -- what is made of the first answer is the first of what is made of each
   pub first-map : {S : Type 0} (f : R → S) (rs : List (Rule R)) (other : R)

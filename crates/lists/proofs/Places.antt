@@ -38,7 +38,9 @@ pub getD-places : (k n i d : ℕ) → i < n → getD (places k n) i d ≡ k + i
 unfolding places
 getD-places k zero i d h = absurd (omega arith)
 getD-places k (suc n) zero d h = sym (add-zero k)
-getD-places k (suc n) (suc i) d h = let e : suc k + i ≡ k + suc i = omega arith in getD-places (suc k) n i d (omega arith) ∙ e
+getD-places k (suc n) (suc i) d h =
+    let e : suc k + i ≡ k + suc i = omega arith in
+    getD-places (suc k) n i d (omega arith) ∙ e
 
 -- a place is left below e; none is
 pub places-step : (k e : ℕ) → k < e → places k (e - k) ≡ k ∷ places (k + 1) (e - (k + 1))
@@ -115,7 +117,8 @@ pub places-shift : (p : ℕ → Bool) (k n : ℕ) → all p (places k n) ≡ all
 places-shift p k n =
     same-test (all p (places k n)) (all (λ i. p (k + i)) (places 0 n))
     (λ e. every-make (λ i. p (k + i)) 0 n (λ i h l. every-at p k n e (k + i) (omega arith) (omega arith)))
-    (λ e. every-make p k n (λ i h l. let d : k + (i - k) ≡ i = omega arith in ap p (sym d) ∙ every-at (λ j. p (k + j)) 0 n e (i - k) (omega arith) (omega arith)))
+    (λ e. every-make p k n (λ i h l. let d : k + (i - k) ≡ i = omega arith in
+    ap p (sym d) ∙ every-at (λ j. p (k + j)) 0 n e (i - k) (omega arith) (omega arith)))
 
 pub places-add : (k m n : ℕ) → places k (m + n) ≡ places k m ++ places (k + m) n
 unfolding places
@@ -143,7 +146,9 @@ every-block p m k (suc n) =
     one-more i = omega arith
 
     next : (i : ℕ) → all p (places (k + m + i * m) m) ≡ all p (places (k + (1 + i) * m) m)
-    next i = let e : k + m + i * m ≡ k + (1 + i) * m = omega (arith, ap (λ (j : ℕ). j * m) (one-more i), suc-mul i m) in ap (λ (j : ℕ). all p (places j m)) e
+    next i =
+        let e : k + m + i * m ≡ k + (1 + i) * m = omega (arith, ap (λ (j : ℕ). j * m) (one-more i), suc-mul i m) in
+        ap (λ (j : ℕ). all p (places j m)) e
 
 -- a test holds at every number below n, or there is a first at which it fails
 pub first-failing : (p : ℕ → Bool) (n : ℕ)
@@ -199,7 +204,8 @@ module _ {A : Type 0} where
   take-tab n i f h =
       let l : length (take i (tab n f)) ≡ i = omega (arith, length-take i (tab n f), length-tab n f) in
       ext-getD (f 0) (take i (tab n f)) (tab i f) (l ∙ sym (length-tab i f))
-      (λ k b. let c : k < i = omega arith in getD-take i (tab n f) k (f 0) c ∙ getD-tab n f k (f 0) (omega arith) ∙ sym (getD-tab i f k (f 0) c))
+      (λ k b. let c : k < i = omega arith in
+      getD-take i (tab n f) k (f 0) c ∙ getD-tab n f k (f 0) (omega arith) ∙ sym (getD-tab i f k (f 0) c))
 
   pub drop-tab : (n i : ℕ) (f : ℕ → A) → i ≤ n → drop i (tab n f) ≡ map f (places i (n - i))
   drop-tab n i f h =
@@ -227,7 +233,9 @@ module _ {A : Type 0} where
       → pairwise r (tab n f) ≡ all (λ i. all (λ j. r (f i) (f j)) (places (i + 1) (n - (i + 1)))) (places 0 n)
   pairs-tab r n f =
       same-test (pairwise r (tab n f)) (all (λ i. all (λ j. r (f i) (f j)) (places (i + 1) (n - (i + 1)))) (places 0 n))
-      (λ e. every-make _ 0 n (λ i a b. every-make _ (i + 1) (n - (i + 1)) (λ j c d. ap₂ r (sym (getD-tab n f i (f 0) (omega arith))) (sym (getD-tab n f j (f 0) (omega arith))) ∙ pairs-at r (tab n f) (f 0) e i j (omega arith) (omega (arith, length-tab n f)))))
+      (λ e. every-make _ 0 n (λ i a b. every-make _ (i + 1) (n - (i + 1))
+      (λ j c d. ap₂ r (sym (getD-tab n f i (f 0) (omega arith))) (sym (getD-tab n f j (f 0) (omega arith)))
+      ∙ pairs-at r (tab n f) (f 0) e i j (omega arith) (omega (arith, length-tab n f)))))
       (λ e.
       pairs-make r (tab n f) (f 0)
       (λ i j h l.

@@ -8,8 +8,10 @@ use mathlib.Core.List.{List, [], _∷_, _++_, append-assoc}
 use mathlib.Core.Path.{_≡_, refl, sym, ap, ap₂, _∙_}
 use borrow.Author.Tests.{ltb-true, ltb-false}
 use lib.Dec.{ltb}
-use lib.ListN.{length, getD, take, drop, set, length-append, length-take, length-drop, length-set, replicate, length-replicate, getD-replicate, replicate-append-replicate, List·getD-append}
-use lib.Seq.{take-append-le, drop-append-seam, drop-append-le, take-append-add, getD-append-add, set-append-left, getD-take, getD-drop, ext-getD, take-at}
+use lib.ListN.{length, getD, take, drop, set, length-append, length-take, length-drop, length-set, replicate}
+use lib.ListN.{length-replicate, getD-replicate, replicate-append-replicate, List·getD-append}
+use lib.Seq.{take-append-le, drop-append-seam, drop-append-le, take-append-add, getD-append-add, set-append-left}
+use lib.Seq.{getD-take, getD-drop, ext-getD, take-at}
 use Rattle.lists.specs.First.{firstIndex, firstFrom, any}
 use Rattle.lists.specs.Places.{tab}
 use Rattle.lists.specs.Room.{room, removeAt}
@@ -54,7 +56,8 @@ module _ {A : Type 0} where
         let k : ℕ = n - length xs in
         let e : n ≡ length xs + k = omega arith in
         let f : n ≡ k + length xs = omega arith in
-        let s : replicate n z ≡ replicate k z ++ replicate (length xs) z = ap (λ (m : ℕ). replicate m z) f ∙ sym (replicate-append-replicate k (length xs) z) in
+        let s : replicate n z ≡ replicate k z ++ replicate (length xs) z =
+        ap (λ (m : ℕ). replicate m z) f ∙ sym (replicate-append-replicate k (length xs) z) in
         ap (λ (m : ℕ). take m (xs ++ replicate n z)) e ∙ take-append-add xs (replicate n z) k
         ∙ ap (λ (r : List A). xs ++ r)
         (ap (take k) s ∙ take-at (replicate k z) (replicate (length xs) z) k (length-replicate k z))
@@ -64,7 +67,8 @@ module _ {A : Type 0} where
     unfolding room
     room-tab xs =
         ext-getD z (room n z xs) (tab n (λ i. getD xs i z)) (length-room xs ∙ sym (length-tab n (λ i. getD xs i z)))
-        (λ i h. let l : i < n = omega (arith, length-room xs) in getD-take n (xs ++ replicate n z) i z l ∙ past-end xs i l ∙ sym (getD-tab n (λ j. getD xs j z) i z l))
+        (λ i h. let l : i < n = omega (arith, length-room xs) in
+        getD-take n (xs ++ replicate n z) i z l ∙ past-end xs i l ∙ sym (getD-tab n (λ j. getD xs j z) i z l))
       where
         past-end : (ys : List A) (i : ℕ) → i < n → getD (ys ++ replicate n z) i z ≡ getD ys i z
         past-end [] i h = getD-replicate n i z z h
@@ -136,13 +140,16 @@ module _ {A : Type 0} (p : A → Bool) (xs : List A) (d : A) (k : ℕ) (h : k < 
   others-first ne =
       same-test (any p (removeAt k xs)) (ltb (firstIndex p xs) (length xs))
       (λ e. sym (any-first p xs) ∙ any-split p xs k d h ∙ or-right (p (getD xs k d)) (any p (removeAt k xs)) e)
-      (λ e. true-of _ (λ none. true≢false (sym (first-passes p xs d (ltb-true _ _ e)) ∙ none-others p xs k d none (firstIndex p xs) (ltb-true _ _ e) ne)))
+      (λ e. true-of _ (λ none. true≢false (sym (first-passes p xs d (ltb-true _ _ e))
+      ∙ none-others p xs k d none (firstIndex p xs) (ltb-true _ _ e) ne)))
 
   pub others-later : firstIndex p xs ≡ k → any p (removeAt k xs) ≡ ltb (firstFrom p xs (k + 1)) (length xs)
   others-later at =
       same-test (any p (removeAt k xs)) (ltb (firstFrom p xs (k + 1)) (length xs))
       (λ e. true-of _ (λ none. true≢false (sym e ∙ none-make p (removeAt k xs) d (λ i l. none-there none i l))))
-      (λ e. true-of _ (λ none. true≢false (sym (from-passes p xs d (k + 1) (ltb-true _ _ e)) ∙ none-others p xs k d none (firstFrom p xs (k + 1)) (ltb-true _ _ e) (λ q. let l : k + 1 ≤ firstFrom p xs (k + 1) = from-least p xs d (k + 1) in omega arith))))
+      (λ e. true-of _ (λ none. true≢false (sym (from-passes p xs d (k + 1) (ltb-true _ _ e))
+      ∙ none-others p xs k d none (firstFrom p xs (k + 1)) (ltb-true _ _ e)
+      (λ q. let l : k + 1 ≤ firstFrom p xs (k + 1) = from-least p xs d (k + 1) in omega arith))))
     where
       none-there : ltb (firstFrom p xs (k + 1)) (length xs) ≡ false → (i : ℕ) → i < length (removeAt k xs)
           → p (getD (removeAt k xs) i d) ≡ false

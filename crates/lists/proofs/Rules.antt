@@ -199,7 +199,11 @@ module _ {R : Type 0} where
       from-given rs other d a
       (inl (
         k,
-        record { there = le-of-suc-le-suc (h .there); holds = h .holds; earlier = λ j l. h .earlier (suc j) (suc-le-suc l) },
+        record {
+          there = le-of-suc-le-suc (h .there);
+          holds = h .holds;
+          earlier = λ j l. h .earlier (suc j) (suc-le-suc l);
+        },
         q,
       ))
   from-given ((b, false) ∷ rs) other d a (inr (s, q)) =
@@ -264,7 +268,8 @@ module _ (rs : List (Rule ℕ)) (d : Rule ℕ) (apart : numbered rs ≡ true) wh
 
   -- the answer is the number of rule k exactly when its test holds and no earlier one does
   pub number-exactly : (k : ℕ) → k < length rs → (firstRule rs 0 ≡ getD rs k d .0) ↔ Applies rs d k
-  number-exactly k h = (λ e. of (first-rule rs 0 d (getD rs k d .0) .0 e), λ a. first-rule rs 0 d (getD rs k d .0) .1 (inl (k, a, refl)))
+  number-exactly k h =
+      (λ e. of (first-rule rs 0 d (getD rs k d .0) .0 e), λ a. first-rule rs 0 d (getD rs k d .0) .1 (inl (k, a, refl)))
     where
       of : Given rs 0 d (getD rs k d .0) → Applies rs d k
       of (inl (j, a, q)) = subst (Applies rs d) (same-place j k (a .there) h q) a

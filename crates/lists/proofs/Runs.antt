@@ -19,7 +19,8 @@ module _ {S T Q : Type 0} (view : S → T) (step : S → Q → S) (seen : T → 
   runs-seen s (q ∷ qs) = runs-seen (step s q) qs ∙ ap (λ (x : T). runs seen x qs) (same s q)
 
 -- ---- calls that, seen through `view`, say and do what the rules say and do: so do calls in turn
-pub record Seen {S T Q A : Type 0} (view : S → T) (say : T → Q → A) (step : T → Q → T) (Kept : S → Type 0) (s : S) (q : Q) (a : A) (t : S) : Type 0 where
+pub record Seen {S T Q A : Type 0} (view : S → T) (say : T → Q → A) (step : T → Q → T) (Kept : S → Type 0) (s : S)
+    (q : Q) (a : A) (t : S) : Type 0 where
   pub says : a ≡ say (view s) q
   pub does : view t ≡ step (view s) q
   pub keeps : Kept t

@@ -8,8 +8,10 @@ use mathlib.Core.Bool.{true}
 use mathlib.Core.List.{List, [], _∷_, _++_, flatMap, append-assoc, append-nil}
 use mathlib.Core.Path.{_≡_, refl, sym, ap, ap₂, _∙_}
 use borrow.Author.Tests.{eqb-true}
-use lib.ListN.{length, getD, take, drop, set, length-append, take-append-drop, length-take, length-drop, replicate, length-replicate, replicate-append-replicate}
-use lib.Seq.{take-all, drop-cons, split-at, getD-append-add, set-split, getD-drop, drop-drop, take-add, set-at, take-at, drop-at, getD-at, sets, sets-eq, paste, paste-zero, length-paste-head, paste-suc, take-paste, drop-paste}
+use lib.ListN.{length, getD, take, drop, set, length-append, take-append-drop, length-take, length-drop, replicate}
+use lib.ListN.{length-replicate, replicate-append-replicate}
+use lib.Seq.{take-all, drop-cons, split-at, getD-append-add, set-split, getD-drop, drop-drop, take-add, set-at, take-at}
+use lib.Seq.{drop-at, getD-at, sets, sets-eq, paste, paste-zero, length-paste-head, paste-suc, take-paste, drop-paste}
 use Rattle.lists.specs.First.{all}
 use Rattle.lists.specs.Places.{places, tab}
 use Rattle.lists.specs.Room.{room, removeAt}
@@ -23,9 +25,11 @@ module _ {X : Type 0} where
   pub sets-mid : (a old c vs : List X) (k : ℕ) → length a ≡ k → length old ≡ length vs
       → sets (a ++ (old ++ c)) k vs ≡ a ++ (vs ++ c)
   sets-mid a old c vs k e f =
-      let l : length (a ++ (old ++ c)) ≡ length a + (length old + length c) = length-append a (old ++ c) ∙ ap (λ (n : ℕ). length a + n) (length-append old c) in
+      let l : length (a ++ (old ++ c)) ≡ length a + (length old + length c) =
+      length-append a (old ++ c) ∙ ap (λ (n : ℕ). length a + n) (length-append old c) in
       let t : take k (a ++ (old ++ c)) ≡ a = take-at a (old ++ c) k e in
-      let d : drop (k + length vs) ((a ++ old) ++ c) ≡ c = drop-at (a ++ old) c (k + length vs) (omega (arith, length-append a old)) in
+      let d : drop (k + length vs) ((a ++ old) ++ c) ≡ c =
+      drop-at (a ++ old) c (k + length vs) (omega (arith, length-append a old)) in
       sets-eq vs (a ++ (old ++ c)) k (omega arith)
       ∙ ap₂ (λ (x y : List X). (x ++ vs) ++ y) t (ap (drop (k + length vs)) (sym (append-assoc a old c)) ∙ d)
       ∙ append-assoc a vs c
@@ -35,16 +39,21 @@ pub closed-mid : (a g s c : List ℕ) (k m e : ℕ) → length a ≡ k → lengt
 unfolding closed
 closed-mid a g s c k m e p q r =
     let l : List ℕ = a ++ (g ++ (s ++ c)) in
-    let ds : drop (k + m) l ≡ s ++ c = ap (drop (k + m)) (sym (append-assoc a g (s ++ c))) ∙ drop-at (a ++ g) (s ++ c) (k + m) (omega (arith, length-append a g)) in
+    let ds : drop (k + m) l ≡ s ++ c =
+    ap (drop (k + m)) (sym (append-assoc a g (s ++ c)))
+    ∙ drop-at (a ++ g) (s ++ c) (k + m) (omega (arith, length-append a g)) in
     let ts : take (e - m - k) (drop (k + m) l) ≡ s = ap (take (e - m - k)) ds ∙ take-at s c (e - m - k) (omega arith) in
     let w : l ≡ (a ++ (g ++ s)) ++ c = simp append-assoc in
-    let de : drop e l ≡ c = ap (drop e) w ∙ drop-at (a ++ (g ++ s)) c e (omega (arith, length-append a (g ++ s), length-append g s)) in
+    let de : drop e l ≡ c =
+    ap (drop e) w ∙ drop-at (a ++ (g ++ s)) c e (omega (arith, length-append a (g ++ s), length-append g s)) in
     rw (take-at a (g ++ (s ++ c)) k p, ts, de)
 
 -- ---- a loop that moves words down, and one that clears them
 -- the loop's word k is the word m further on; d is what the words were
 pub move-start : (d : List ℕ) (at m : ℕ) → d ≡ paste d at (drop (at + m) d) (at - at)
-move-start d at m = let e : 0 ≡ at - at = omega arith in paste-zero d at (drop (at + m) d) ∙ ap (paste d at (drop (at + m) d)) e
+move-start d at m =
+    let e : 0 ≡ at - at = omega arith in
+    paste-zero d at (drop (at + m) d) ∙ ap (paste d at (drop (at + m) d)) e
 
 pub move-on : (d t : List ℕ) (at m k : ℕ) → t ≡ paste d at (drop (at + m) d) (k - at) → at ≤ k → k + m < length d
     → set t k (getD t (k + m) 0) ≡ paste d at (drop (at + m) d) (k + 1 - at)
@@ -67,16 +76,21 @@ move-on d t at m k inv h b =
 
 pub clear-start : (d : List ℕ) (at : ℕ) → d ≡ cleared d at at
 unfolding cleared
-clear-start d at = let e : 0 ≡ at - at = omega arith in sym (take-append-drop at d) ∙ ap (λ (n : ℕ). take at d ++ (replicate n 0 ++ drop at d)) e
+clear-start d at =
+    let e : 0 ≡ at - at = omega arith in
+    sym (take-append-drop at d) ∙ ap (λ (n : ℕ). take at d ++ (replicate n 0 ++ drop at d)) e
 
 pub clear-on : (d t : List ℕ) (at k : ℕ) → t ≡ cleared d at k → at ≤ k → k < length d → set t k 0 ≡ cleared d at (k + 1)
 unfolding cleared
 clear-on d t at k inv h b =
     let n : ℕ = k - at in
     let p : List ℕ = take at d ++ replicate n 0 in
-    let lp : length p ≡ k = omega (arith, length-append (take at d) (replicate n 0), length-take at d, length-replicate {A = ℕ} n 0) in
+    let lp : length p ≡ k =
+    omega (arith, length-append (take at d) (replicate n 0), length-take at d, length-replicate {A = ℕ} n 0) in
     let e : n + 1 ≡ k + 1 - at = omega arith in
-    let w : take at d ++ (replicate n 0 ++ drop k d) ≡ p ++ (getD d k 0 ∷ drop (suc k) d) = ap (λ (l : List ℕ). take at d ++ (replicate n 0 ++ l)) (drop-cons d k 0 b) ∙ sym (append-assoc (take at d) (replicate n 0) (getD d k 0 ∷ drop (suc k) d)) in
+    let w : take at d ++ (replicate n 0 ++ drop k d) ≡ p ++ (getD d k 0 ∷ drop (suc k) d) =
+    ap (λ (l : List ℕ). take at d ++ (replicate n 0 ++ l)) (drop-cons d k 0 b)
+    ∙ sym (append-assoc (take at d) (replicate n 0) (getD d k 0 ∷ drop (suc k) d)) in
     ap (λ (l : List ℕ). set l k 0) (inv ∙ w) ∙ set-at p (getD d k 0) (drop (suc k) d) 0 k lp
     ∙ append-assoc (take at d) (replicate n 0) (0 ∷ drop (suc k) d)
     ∙ ap (λ (l : List ℕ). take at d ++ l)
@@ -98,7 +112,12 @@ move-clear d at m e h b =
     let e1 : e - m ≡ at + n = omega arith in
     let e2 : e ≡ (at + n) + m = omega arith in
     let e3 : e - (e - m) ≡ m = omega arith in
-    let de : drop e (paste d at s n) ≡ drop e d = ap (λ (i : ℕ). drop i (paste d at s n)) e2 ∙ sym (drop-drop m (at + n) (paste d at s n)) ∙ ap (drop m) f ∙ drop-drop m (at + n) d ∙ ap (λ (i : ℕ). drop i d) (sym e2) in
+    let de : drop e (paste d at s n) ≡ drop e d =
+    ap (λ (i : ℕ). drop i (paste d at s n)) e2
+    ∙ sym (drop-drop m (at + n) (paste d at s n))
+    ∙ ap (drop m) f
+    ∙ drop-drop m (at + n) d
+    ∙ ap (λ (i : ℕ). drop i d) (sym e2) in
     let te : take (e - m) (paste d at s n) ≡ take at d ++ take n s = ap (λ (i : ℕ). take i (paste d at s n)) e1 ∙ t in
     ap₂ (λ (x y : List ℕ). x ++ y) te (ap₂ (λ (i : ℕ) (y : List ℕ). replicate i 0 ++ y) e3 de)
     ∙ append-assoc (take at d) (take n s) (replicate m 0 ++ drop e d)
@@ -183,7 +202,8 @@ module _ {A : Type 0} (n : ℕ) (z : A) (g : A → List ℕ) (m : ℕ) (wide : (
   pub free-at : length xs < n → pre ++ (counted n z g xs ++ post) ≡ free-before ++ (g z ++ free-after)
   unfolding counted flatMap free-before free-after
   free-at h =
-      let e : flatMap g (room n z xs) ≡ flatMap g xs ++ (g z ++ flatMap g (replicate (n - suc (length xs)) z)) = ap (flatMap g) (room-free n z xs h) ∙ flat-append g xs (z ∷ replicate (n - suc (length xs)) z) in
+      let e : flatMap g (room n z xs) ≡ flatMap g xs ++ (g z ++ flatMap g (replicate (n - suc (length xs)) z)) =
+      ap (flatMap g) (room-free n z xs h) ∙ flat-append g xs (z ∷ replicate (n - suc (length xs)) z) in
       ap (λ (l : List ℕ). pre ++ ((length xs ∷ l) ++ post)) e ∙ simp append-assoc
 
   -- the words of one element more there, and the count
@@ -192,7 +212,8 @@ module _ {A : Type 0} (n : ℕ) (z : A) (g : A → List ℕ) (m : ℕ) (wide : (
   unfolding counted flatMap free-before free-after
   fill-free x h =
       let rest : List ℕ = flatMap g (replicate (n - suc (length xs)) z) in
-      let f : flatMap g (room n z (xs ++ x ∷ [])) ≡ flatMap g xs ++ (g x ++ rest) = ap (flatMap g) (room-push n z xs x h) ∙ flat-append g xs (x ∷ replicate (n - suc (length xs)) z) in
+      let f : flatMap g (room n z (xs ++ x ∷ [])) ≡ flatMap g xs ++ (g x ++ rest) =
+      ap (flatMap g) (room-push n z xs x h) ∙ flat-append g xs (x ∷ replicate (n - suc (length xs)) z) in
       let c : length (xs ++ x ∷ []) ≡ length xs + 1 = length-append xs (x ∷ []) in
       ap (λ (l : List ℕ). set l b (length xs + 1)) (append-assoc pre (length xs ∷ flatMap g xs) (g x ++ (rest ++ post)))
       ∙ set-at pre (length xs) (flatMap g xs ++ (g x ++ (rest ++ post))) (length xs + 1) b at
@@ -215,7 +236,8 @@ module _ {A : Type 0} (n : ℕ) (z : A) (g : A → List ℕ) (m : ℕ) (wide : (
       let p : List A = room n z xs in
       let s : List ℕ = flatMap g (drop (suc i) p) in
       let t : List ℕ = flatMap g (take i p) in
-      let w : pre ++ (counted n z g xs ++ post) ≡ (pre ++ (length xs ∷ t)) ++ (g (getD xs i z) ++ (s ++ post)) = element-at i z h k in
+      let w : pre ++ (counted n z g xs ++ post) ≡ (pre ++ (length xs ∷ t)) ++ (g (getD xs i z) ++ (s ++ post)) =
+      element-at i z h k in
       let len : length (pre ++ (length xs ∷ t)) ≡ b + 1 + i * m = length-front-of i (omega arith) in
       let all : b + 1 + i * m + m + length s ≡ b + 1 + n * m =
       omega (
@@ -277,7 +299,8 @@ pub zeros-part : (w : List ℕ) (k n : ℕ) → all (isZeroAt w) (places k n) �
 zeros-part w k zero e h = part-none k w
 zeros-part w k (suc n) e h =
     let z : getD w k 0 ≡ 0 = eqb-true _ _ (every-at (isZeroAt w) k (suc n) e k (omega arith) (omega arith)) in
-    let f : all (isZeroAt w) (places (k + 1) n) ≡ true = every-make (isZeroAt w) (k + 1) n (λ i a b. every-at (isZeroAt w) k (suc n) e i (omega arith) (omega arith)) in
+    let f : all (isZeroAt w) (places (k + 1) n) ≡ true =
+    every-make (isZeroAt w) (k + 1) n (λ i a b. every-at (isZeroAt w) k (suc n) e i (omega arith) (omega arith)) in
     part-cons k n w 0 (omega arith) ∙ ap₂ (λ (x : ℕ) (l : List ℕ). x ∷ l) z (zeros-part w (k + 1) n f (omega arith))
 
 -- ---- the parts of a counted list
@@ -290,7 +313,8 @@ module _ {A : Type 0} (g : A → List ℕ) (m : ℕ) where
       let e : suc n * m ≡ m + n * m = omega (arith, suc-mul n m) in
       let e0 : k + 0 * m ≡ k = omega (arith, zero-mul m) in
       let first : part k m w ≡ g (f 0) = ap (λ (j : ℕ). part j m w) (sym e0) ∙ h 0 (omega arith) in
-      let rest : part (k + m) (n * m) w ≡ flatMap g (tab n (λ i. f (suc i))) = parts-flat w n (λ i. f (suc i)) (k + m) (λ i a. next i ∙ h (suc i) (omega arith)) in
+      let rest : part (k + m) (n * m) w ≡ flatMap g (tab n (λ i. f (suc i))) =
+      parts-flat w n (λ i. f (suc i)) (k + m) (λ i a. next i ∙ h (suc i) (omega arith)) in
       ap (λ (j : ℕ). part k j w) e ∙ part-add k m (n * m) w ∙ ap₂ (λ (x y : List ℕ). x ++ y) first rest
       ∙ sym (ap (flatMap g) (tab-cons n f))
     where
@@ -322,7 +346,9 @@ module _ {A : Type 0} (g : A → List ℕ) (m : ℕ) where
       → part k (1 + n * m) w ≡ counted n z g (tab c f)
   parts-counted w k n c z f e q b len each zero-rest =
       let lt : length (tab c f) ≡ c = length-tab c f in
-      let split : n * m ≡ c * m + (n - c) * m = (let d : n ≡ c + (n - c) = omega arith in ap (λ (j : ℕ). j * m) d ∙ add-mul c (n - c) m) in
+      let split : n * m ≡ c * m + (n - c) * m =
+      (let d : n ≡ c + (n - c) = omega arith in
+      ap (λ (j : ℕ). j * m) d ∙ add-mul c (n - c) m) in
       let one : 1 + n * m ≡ suc (c * m + (n - c) * m) = omega arith in
       let d : (n - length (tab c f)) * m ≡ (n - c) * m = ap (λ (j : ℕ). (n - j) * m) lt in
       ap (λ (j : ℕ). part k j w) one

@@ -34,11 +34,14 @@ module _ (s : State) (b : List ℕ) (o : Outcome) (u : State) (h : Called s b o 
 
   accepted-moves : o .number ≡ 0 → u ≡ stateFor s (leaves (terminalIn s) b)
   unfolding applied inWords
-  accepted-moves z = left-is ∙ ap (λ (t : Bool). cond t (stateFor s (leaves (terminalIn s) b)) s) (eq-eqb _ 0 (sym number-is ∙ z))
+  accepted-moves z =
+      left-is ∙ ap (λ (t : Bool). cond t (stateFor s (leaves (terminalIn s) b)) s) (eq-eqb _ 0 (sym number-is ∙ z))
 
   refused-stays : (o .number ≡ 0 → ⊥) → u ≡ s
   unfolding applied inWords
-  refused-stays ne = left-is ∙ ap (λ (t : Bool). cond t (stateFor s (leaves (terminalIn s) b)) s) (ne-eqb _ 0 (λ z. ne (number-is ∙ z)))
+  refused-stays ne =
+      left-is
+      ∙ ap (λ (t : Bool). cond t (stateFor s (leaves (terminalIn s) b)) s) (ne-eqb _ 0 (λ z. ne (number-is ∙ z)))
 
   config-stays : u .config ≡ s .config
   unfolding applied inWords
@@ -53,14 +56,19 @@ module _ (s : State) (b : List ℕ) (o : Outcome) (u : State) (h : Called s b o 
 
 -- ---- any calls that are such calls
 module _ (Call : Calls) (is : (s : State) (b : List ℕ) (o : Outcome) (u : State) → Call s b o u → Called s b o u) where
-  all-refused : {s u : State} {bs : List (List ℕ)} {os : List Outcome} → InTurn Call s bs os u → All (λ (o : Outcome). o .number ≡ 0 → ⊥) os → u ≡ s
+  all-refused : {s u : State} {bs : List (List ℕ)} {os : List Outcome} → InTurn Call s bs os u
+      → All (λ (o : Outcome). o .number ≡ 0 → ⊥) os → u ≡ s
   all-refused none ne = refl
-  all-refused (call {s} {t} {q = b} {a = o} c cs) (ne, nes) = all-refused cs nes ∙ refused-stays s b o t (is s b o t c) ne
+  all-refused (call {s} {t} {q = b} {a = o} c cs) (ne, nes) =
+      all-refused cs nes ∙ refused-stays s b o t (is s b o t c) ne
 
-  all-unsound : {s u : State} {bs : List (List ℕ)} {os : List Outcome} (w : State) → InTurn Call s bs os u → s ≡ w → (ownNumber w ≡ 0 → ⊥) → All (λ (o : Outcome). o ≡ plain (ownNumber w) 0) os × (u ≡ w)
+  all-unsound : {s u : State} {bs : List (List ℕ)} {os : List Outcome} (w : State) → InTurn Call s bs os u → s ≡ w
+      → (ownNumber w ≡ 0 → ⊥) → All (λ (o : Outcome). o ≡ plain (ownNumber w) 0) os × (u ≡ w)
   all-unsound w none e ne = (tt, e)
   all-unsound w (call {s} {t} {q = b} {a = o} c cs) e ne =
-      let q : _≡_ {A = Applied} (record { outcome = o; state = t }) (record { outcome = plain (ownNumber w) 0; state = w }) = is s b o t c ∙ ap (λ (x : State). applied x b) e ∙ unsound w b ne in
+      let q : _≡_ {A = Applied} (record { outcome = o; state = t }) (record
+      { outcome = plain (ownNumber w) 0; state = w }) =
+      is s b o t c ∙ ap (λ (x : State). applied x b) e ∙ unsound w b ne in
       let (l, r) = all-unsound w cs (ap (λ (a : Applied). a .state) q) ne in
       ((ap (λ (a : Applied). a .outcome) q, l), r)
 
@@ -71,7 +79,10 @@ module _ (Call : Calls) (is : (s : State) (b : List ℕ) (o : Outcome) (u : Stat
     accepted = λ s b o u c. accepted-moves s b o u (is s b o u c);
     refused = λ s b o u c. refused-stays s b o u (is s b o u c);
     config = λ s b o u c. config-stays s b o u (is s b o u c);
-    in-turn = λ s bs os u cs. (let r = in-turn (λ (x : State). terminalIn x) saysTo leaves (λ (x : State). Unit {0}) Call (λ s b o u c k. seen s b o u (is s b o u c)) cs tt in (r .0, r .1));
+    in-turn =
+        λ s bs os u cs. (let r = in-turn (λ (x : State). terminalIn x) saysTo leaves (λ (x : State). Unit {0}) Call
+        (λ s b o u c k. seen s b o u (is s b o u c)) cs tt in
+        (r .0, r .1));
     all-refused = λ s bs os u cs ne. all-refused cs ne;
     unsound = λ s bs os u cs ne. all-unsound s cs refl ne;
   }

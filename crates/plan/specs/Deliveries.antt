@@ -35,17 +35,22 @@ pub record Faithful (Call : Calls) : Type 0 where
   -- one call: the answer is the rules' answer, and the words hold the rules' next state
   pub answer : (s : State) (b : List ℕ) (o : Outcome) (u : State) → Call s b o u → o ≡ saysTo (terminalIn s) b
   pub next : (s : State) (b : List ℕ) (o : Outcome) (u : State) → Call s b o u → terminalIn u ≡ leaves (terminalIn s) b
-  -- after 0 they are the words of that state; after any other number every word is what it was; after any at all the configuration is
-  pub accepted : (s : State) (b : List ℕ) (o : Outcome) (u : State) → Call s b o u → o .number ≡ 0 → u ≡ stateFor s (leaves (terminalIn s) b)
+  -- after 0 they are the words of that state; after any other number every word is what it was; after any at all the
+  -- configuration is
+  pub accepted : (s : State) (b : List ℕ) (o : Outcome) (u : State) → Call s b o u → o .number ≡ 0
+      → u ≡ stateFor s (leaves (terminalIn s) b)
   pub refused : (s : State) (b : List ℕ) (o : Outcome) (u : State) → Call s b o u → (o .number ≡ 0 → ⊥) → u ≡ s
   pub config : (s : State) (b : List ℕ) (o : Outcome) (u : State) → Call s b o u → u .config ≡ s .config
-  -- calls in turn, each at the state that the one before left: the answers are the rules' in turn, and the words hold the rules' last state
+  -- calls in turn, each at the state that the one before left: the answers are the rules' in turn, and the words hold
+  -- the rules' last state
   pub in-turn : (s : State) (bs : List (List ℕ)) (os : List Outcome) (u : State) → InTurn Call s bs os u
       → (os ≡ told saysTo leaves (terminalIn s) bs) × (terminalIn u ≡ runs leaves (terminalIn s) bs)
   -- where all are refused, every word is what it was
-  pub all-refused : (s : State) (bs : List (List ℕ)) (os : List Outcome) (u : State) → InTurn Call s bs os u → All (λ (o : Outcome). o .number ≡ 0 → ⊥) os → u ≡ s
+  pub all-refused : (s : State) (bs : List (List ℕ)) (os : List Outcome) (u : State) → InTurn Call s bs os u
+      → All (λ (o : Outcome). o .number ≡ 0 → ⊥) os → u ≡ s
   -- so an unsound state is never left: 1 or 2 each time, whatever the bytes are
-  pub unsound : (s : State) (bs : List (List ℕ)) (os : List Outcome) (u : State) → InTurn Call s bs os u → (ownNumber s ≡ 0 → ⊥) → All (λ (o : Outcome). o ≡ plain (ownNumber s) 0) os × (u ≡ s)
+  pub unsound : (s : State) (bs : List (List ℕ)) (os : List Outcome) (u : State) → InTurn Call s bs os u
+      → (ownNumber s ≡ 0 → ⊥) → All (λ (o : Outcome). o ≡ plain (ownNumber s) 0) os × (u ≡ s)
 
 -- calls of `apply` by value do
 abbrev pub ApplyIsFaithful : Type 0

@@ -1,4 +1,5 @@
--- What the readers of sections answer, of what the format reads: n is the number of lent bytes, and an offset is that of what is left.
+-- What the readers of sections answer, of what the format reads: n is the number of lent bytes, and an offset is that
+-- of what is left.
 use Prim.Native.Nat.{ℕ, _-_}
 use mathlib.Core.List.{List}
 use lib.ListN.{length, replicate}

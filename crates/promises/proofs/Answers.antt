@@ -16,20 +16,26 @@ use Rattle.lists.proofs.Every.{any-make, any-at, none-at}
 use Rattle.lists.proofs.First.{any-first, first-passes}
 use Rattle.lists.proofs.Lines.{Tells, tells-not, exactly, exactly-of, first-of, first-map, all, _and_, Matches, NoneOf}
 use Rattle.lists.proofs.Places.{first-failing, other-at, other-make}
-use Rattle.lists.proofs.Tests.{both-true, true-both, both-false, one-true, or-left, or-right, not-fails, not-holds, true-of, parts, whole}
+use Rattle.lists.proofs.Tests.{both-true, true-both, both-false, one-true, or-left, or-right, not-fails, not-holds}
+use Rattle.lists.proofs.Tests.{true-of, parts, whole}
 use Rattle.formats.specs.Formats.{Out, got, bad, left, then, atEnd, readFile}
 use Rattle.formats.proofs.Formats.{Part, part-at, Told}
 use Rattle.rules.specs.Addresses.{Shared, overlaps}
-use Rattle.rules.specs.Applying.{lastEdition, sameList, sameZone, sameConfig, plain, judgedRules, judged, applyRead, apply, baseOf, answerRead, answerAlone, Terminal}
+use Rattle.rules.specs.Applying.{lastEdition, sameList, sameZone, sameConfig, plain, judgedRules, judged, applyRead}
+use Rattle.rules.specs.Applying.{apply, baseOf, answerRead, answerAlone, Terminal}
 use Rattle.rules.specs.Changes.{setAt}
-use Rattle.rules.specs.Configuration.{gicOf, configOf, check, isSound, checkNumber, checkPlace, checkEarlier, Configuration, StoredConfig}
+use Rattle.rules.specs.Configuration.{gicOf, configOf, check, isSound, checkNumber, checkPlace, checkEarlier}
+use Rattle.rules.specs.Configuration.{Configuration, StoredConfig}
 use Rattle.rules.specs.Limits.{pageOf, Limits}
 use Rattle.rules.specs.Plan.{planFormat, readPlan, requestsOf, Plan}
 use Rattle.rules.specs.Regions.{wellFormed, inReach, regionEq, physOverlap, guestOverlap, noRegion}
-use Rattle.rules.specs.Requests.{find, present, heldIn, holdsAny, onGic, forbidden, addRules, removeZoneRules, regionRules, setRules, insertRules, removeRules, kindRules, noRequest, requestRules, refusal, standingRules, standing, answer}
+use Rattle.rules.specs.Requests.{find, present, heldIn, holdsAny, onGic, forbidden, addRules, removeZoneRules}
+use Rattle.rules.specs.Requests.{regionRules, setRules, insertRules, removeRules, kindRules, noRequest, requestRules}
+use Rattle.rules.specs.Requests.{refusal, standingRules, standing, answer}
 use Rattle.rules.specs.Run.{run, ended, runAnswer, Run}
 use Rattle.rules.specs.Tables.{noZone, hasId, regionsOf, configured, clash, tableOf, checkTable, Zone, StoredTable}
-use Rattle.rules.specs.Translation.{coversGuest, coveringIn, physIn, translationRules, translatedAs, translation, translated}
+use Rattle.rules.specs.Translation.{coversGuest, coveringIn, physIn, translationRules, translatedAs, translation}
+use Rattle.rules.specs.Translation.{translated}
 use Rattle.rules.specs.declared.Checked.{Checked}
 use Rattle.rules.specs.declared.Checked.the-variants.{Sound, BadCount, BadGic, NotZero, Malformed, OutOfReach, Overlap}
 use Rattle.rules.specs.declared.Guest.{Guest}
@@ -49,7 +55,12 @@ use Rattle.rules.proofs.Regions.{equal-same, equal-refl}
 use Rattle.rules.proofs.Run.{run-all, run-stops}
 use Rattle.rules.proofs.Sections.{own-config, own-zones}
 use Rattle.rules.proofs.Translation.{covers-parts, parts-cover, same-distance}
-use Rattle.promises.specs.Answers.{standingLines, HasZone, IsWellFormed, IsInReach, MeetsPhys, MeetsGuest, SomeIn, SomeZone, ForbiddenFor, kindLines, RequestSays, RefusalIsExact, AnswerIsExact, ComesOut, TranslatedIsExact, noAsk, numberAt, RunAnswerIsExact, allAccepted, twentySeven, Ends, twenty, twentyOne, twentyTwo, reads, Reading, AtTerminal, ApplyIsExact, Alone, AloneIsExact, NeverAlone, StandingIsInside, Stands, nothing, c1, c2, c3, c4, c5, c6, Finds, CheckNumbersAreExact}
+use Rattle.promises.specs.Answers.{standingLines, HasZone, IsWellFormed, IsInReach, MeetsPhys, MeetsGuest, SomeIn}
+use Rattle.promises.specs.Answers.{SomeZone, ForbiddenFor, kindLines, RequestSays, RefusalIsExact, AnswerIsExact}
+use Rattle.promises.specs.Answers.{ComesOut, TranslatedIsExact, noAsk, numberAt, RunAnswerIsExact, allAccepted}
+use Rattle.promises.specs.Answers.{twentySeven, Ends, twenty, twentyOne, twentyTwo, reads, Reading, AtTerminal}
+use Rattle.promises.specs.Answers.{ApplyIsExact, Alone, AloneIsExact, NeverAlone, StandingIsInside, Stands}
+use Rattle.promises.specs.Answers.{nothing, c1, c2, c3, c4, c5, c6, Finds, CheckNumbersAreExact}
 use Rattle.promises.specs.Configuration.{Means}
 use Rattle.promises.specs.Plans.{runOf}
 use Rattle.promises.specs.Tables.{In}
@@ -130,14 +141,18 @@ none-in (x ∷ xs) h = absurd (omega arith)
 
 tells-held : (xs ys : List Region) → Tells (ltb 0 (length xs) || ltb 0 (length ys)) ((xs ≡ []) × (ys ≡ []) → ⊥)
 tells-held xs ys = (
-  (λ e (p, q). ⊎-elim (λ a. let h : 0 < length xs = ltb-true _ _ a in omega (arith, ap length p)) (λ a. let h : 0 < length ys = ltb-true _ _ a in omega (arith, ap length q)) (one-true (ltb 0 (length xs)) (ltb 0 (length ys)) e)),
-  (λ n. true-of _ (λ e. let (a, b) = both-false (ltb 0 (length xs)) (ltb 0 (length ys)) e in n (none-in xs (ltb-false _ _ a), none-in ys (ltb-false _ _ b)))),
+  (λ e (p, q). ⊎-elim (λ a. let h : 0 < length xs = ltb-true _ _ a in omega (arith, ap length p))
+      (λ a. let h : 0 < length ys = ltb-true _ _ a in omega (arith, ap length q))
+      (one-true (ltb 0 (length xs)) (ltb 0 (length ys)) e)),
+  (λ n. true-of _ (λ e. let (a, b) = both-false (ltb 0 (length xs)) (ltb 0 (length ys)) e in
+      n (none-in xs (ltb-false _ _ a), none-in ys (ltb-false _ _ b)))),
 )
 
 tells-formed : (page : ℕ) (r : Region) → Tells (wellFormed page r) (IsWellFormed page r)
 unfolding wellFormed
 tells-formed page r = (
-  (λ e. let p = parts _ e in (ltb-true _ _ (p .0), eqb-true _ _ (p .1 .0), eqb-true _ _ (p .1 .1 .0), eqb-true _ _ (p .1 .1 .1 .0))),
+  (λ e. let p = parts _ e in
+      (ltb-true _ _ (p .0), eqb-true _ _ (p .1 .0), eqb-true _ _ (p .1 .1 .0), eqb-true _ _ (p .1 .1 .1 .0))),
   (λ (a, b, c, d). whole _ (lt-ltb _ _ a, (eq-eqb _ _ b, (eq-eqb _ _ c, (eq-eqb _ _ d, tt))))),
 )
 
@@ -176,7 +191,8 @@ tells-forbidden c k Cpu r t =
 tells-forbidden c k Iommu r t =
     tells-other (λ (y : Zone). any (clash c r) (regionsOf y))
     (λ y. SomeIn (regionsOf y) (λ x. (r ≡ gicOf c → ⊥) × ((x ≡ gicOf c → ⊥) × MeetsPhys r x)))
-    (λ y. tells-some (clash c r) (λ x. (r ≡ gicOf c → ⊥) × ((x ≡ gicOf c → ⊥) × MeetsPhys r x)) (tells-clash c r) (regionsOf y)) t k
+    (λ y. tells-some (clash c r) (λ x. (r ≡ gicOf c → ⊥) × ((x ≡ gicOf c → ⊥) × MeetsPhys r x)) (tells-clash c r)
+    (regionsOf y)) t k
 
 tells-kind : (k : Kind) → Tells (noRequest k) (k ≡ NoRequest)
 unfolding noRequest
@@ -267,14 +283,18 @@ module _ (lim : Limits) where
     -- the region that translation goes by is the one that covers the address
     covering : any (coversGuest a) xs ≡ true → In (coveringIn a xs) xs × (coversGuest a (coveringIn a xs) ≡ true)
     unfolding coveringIn
-    covering e = let h : firstIndex (coversGuest a) xs < length xs = ltb-true _ _ (sym (any-first (coversGuest a) xs) ∙ e) in ((firstIndex (coversGuest a) xs, h, refl), first-passes (coversGuest a) xs noRegion h)
+    covering e =
+        let h : firstIndex (coversGuest a) xs < length xs = ltb-true _ _ (sym (any-first (coversGuest a) xs) ∙ e) in
+        ((firstIndex (coversGuest a) xs, h, refl), first-passes (coversGuest a) xs noRegion h)
 
     the-one : (r : Region) → In r xs → CoversGuest r a → any (coversGuest a) xs ≡ true → coveringIn a xs ≡ r
     unfolding xs
     the-one r (i, h, q) m e =
         let (j, l, k) = covering e .0 in
         let there : find id t < length t = ltb-true _ _ (sym (any-first (hasId id) t) ∙ set-there t id side i h) in
-        let one : j ≡ i = one-covers lim c t ok (find id t) side a j i there l h (ap (coversGuest a) k ∙ covering e .1) (ap (coversGuest a) q ∙ parts-cover a r m) in
+        let one : j ≡ i =
+        one-covers lim c t ok (find id t) side a j i there l h (ap (coversGuest a) k ∙ covering e .1)
+        (ap (coversGuest a) q ∙ parts-cover a r m) in
         sym k ∙ ap (λ (n : ℕ). getD xs n noRegion) one ∙ q
 
     comes-out : any (coversGuest a) xs ≡ true → Exactly (translatedAs 0 a (coveringIn a xs)) (ComesOut t id side a)
@@ -293,7 +313,9 @@ module _ (lim : Limits) where
       where
         at : (r : Region) → coversGuest a r ≡ true
             → record { number = 0; phys = record { 0 = r .p .0 + (a - r .v .0) } } ≡ translatedAs 0 a r
-        at r k = let e : r .p .0 + (a - r .v .0) ≡ physIn a r = sym (same-distance a r k) in (λ i. record { number = 0; phys = record { 0 = e i } })
+        at r k =
+            let e : r .p .0 + (a - r .v .0) ≡ physIn a r = sym (same-distance a r k) in
+            (λ i. record { number = 0; phys = record { 0 = e i } })
 
   tells-covers : (a : ℕ) (r : Region) → Tells (coversGuest a r) (CoversGuest r a)
   tells-covers a r = (covers-parts a r, parts-cover a r)
@@ -309,22 +331,33 @@ module _ (lim : Limits) where
       (first-of (translatedAs 0 a r) (ComesOut z id side a)
       (tells-unsound c t and tells-bad c t and tells-lt _ _ and tells-not _ _ (tells-zone id z)
       and tells-not _ _ (tells-some (coversGuest a) (λ x. CoversGuest x a) (tells-covers a) some) and all)
-      (λ none. comes-out (configOf c) z (table-stands c t (true-of _ (none .1 .0))) id side a (twice (any (coversGuest a) some) (tells-some (coversGuest a) (λ x. CoversGuest x a) (tells-covers a) some) (none .1 .1 .1 .1 .0))))
+      (λ none. comes-out (configOf c) z (table-stands c t (true-of _ (none .1 .0))) id side a
+      (twice (any (coversGuest a) some) (tells-some (coversGuest a) (λ x. CoversGuest x a) (tells-covers a) some)
+      (none .1 .1 .1 .1 .0))))
 
   -- ---- runs
   module _ (c : Configuration) (t : List Zone) (qs : List Request) where
     ends-so : (o : Outcome) → Ends lim c t qs o → ended (run lim c t qs) ≡ o
     unfolding ended
-    ends-so o (allAccepted f) = let e : 0 + length qs ≡ length qs = omega arith in ap ended (run-all lim c noAsk 0 t qs f) ∙ ap (plain 0) e
+    ends-so o (allAccepted f) =
+        let e : 0 + length qs ≡ length qs = omega arith in
+        ap ended (run-all lim c noAsk 0 t qs f) ∙ ap (plain 0) e
     ends-so o (twentySeven i h f ne) =
         let e : 0 + i ≡ i = omega arith in
         ap ended (run-stops lim c noAsk 0 t qs i h f ne)
-        ∙ (λ x. record { number = cond (ne-eqb (numberAt lim c t qs i) 0 ne x) 0 27; place = e x; inner = numberAt lim c t qs i })
+        ∙ (λ x. record {
+          number = cond (ne-eqb (numberAt lim c t qs i) 0 ne x) 0 27;
+          place = e x;
+          inner = numberAt lim c t qs i;
+        })
 
     some-end : (o : Outcome) × Ends lim c t qs o
     some-end =
         ⊎-elim (λ f. (plain 0 (length qs), allAccepted (λ j h. eqb-true _ _ (f j h))))
-        (λ (i, h, e, f). (record { number = 27; place = i; inner = numberAt lim c t qs i }, twentySeven i h (λ j m. eqb-true _ _ (f j m)) (eqb-false _ _ e)))
+        (λ (i, h, e, f). (
+          record { number = 27; place = i; inner = numberAt lim c t qs i },
+          twentySeven i h (λ j m. eqb-true _ _ (f j m)) (eqb-false _ _ e),
+        ))
         (first-failing (λ j. eqb (numberAt lim c t qs j) 0) (length qs))
 
     ends-exactly : Exactly (ended (run lim c t qs)) (Ends lim c t qs)
@@ -344,7 +377,9 @@ module _ (lim : Limits) where
       (Then : Plan → Outcome → Type 0)
       (then-exactly : (p : Plan) → readPlan lim b ≡ got p [] → Exactly (answered (got p [])) (Then p)) where
     at-place : (k at : ℕ) → at ≤ length b → readPlan lim b ≡ bad k (drop at b) → answered (readPlan lim b) ≡ plain k at
-    at-place k at h e = let q : length b - length (drop at b) ≡ at = omega (arith, length-drop at b) in ap answered e ∙ refused k (drop at b) ∙ ap (plain k) q
+    at-place k at h e =
+        let q : length b - length (drop at b) ≡ at = omega (arith, length-drop at b) in
+        ap answered e ∙ refused k (drop at b) ∙ ap (plain k) q
 
     -- what the reader of the four sections gives, and the end of the file
     file-of : (o : Out Plan) → planFormat lim .read b ≡ o → readPlan lim b ≡ then o atEnd
@@ -363,7 +398,9 @@ module _ (lim : Limits) where
     reads-so o (twentyTwo p at h e) =
         at-place 22 at (omega arith)
         (file-of (got p (drop at b)) e ∙ more-left p (drop at b) (omega (arith, length-drop at b)))
-    reads-so o (reads p x e w) = let q : readPlan lim b ≡ got p [] = file-of (got p []) e in ap answered q ∙ then-exactly p q x .1 w
+    reads-so o (reads p x e w) =
+        let q : readPlan lim b ≡ got p [] = file-of (got p []) e in
+        ap answered q ∙ then-exactly p q x .1 w
 
     some-reading : (o : Outcome) × Reading lim b Then o
     unfolding then atEnd left
@@ -375,9 +412,16 @@ module _ (lim : Limits) where
         told k t e at h q (inr n) = (plain 21 at, twentyOne at h (e ∙ (λ i. bad (n i) (q i))))
 
         by : (o : Out Plan) → planFormat lim .read b ≡ o → (o : Outcome) × Reading lim b Then o
-        by (bad k t) e = let (at, h, q) = part-at t b (subst (λ (x : Out Plan). Part (left x) b) e (lawful-plan lim .part b)) in told k t e at h q (lawful-plan lim .refuses b k t e)
-        by (got p []) e = let q : readPlan lim b ≡ got p [] = file-of (got p []) e in (answered (got p []), reads p (answered (got p [])) e (then-exactly p q (answered (got p [])) .0 refl))
-        by (got p (x ∷ t)) e = let (at, h, q) = part-at (x ∷ t) b (subst (λ (y : Out Plan). Part (left y) b) e (lawful-plan lim .part b)) in (plain 22 at, twentyTwo p at (omega (arith, ap length q, length-drop at b)) (e ∙ ap (got p) q))
+        by (bad k t) e =
+            let (at, h, q) = part-at t b (subst (λ (x : Out Plan). Part (left x) b) e (lawful-plan lim .part b)) in
+            told k t e at h q (lawful-plan lim .refuses b k t e)
+        by (got p []) e =
+            let q : readPlan lim b ≡ got p [] = file-of (got p []) e in
+            (answered (got p []), reads p (answered (got p [])) e (then-exactly p q (answered (got p [])) .0 refl))
+        by (got p (x ∷ t)) e =
+            let (at, h, q) =
+            part-at (x ∷ t) b (subst (λ (y : Out Plan). Part (left y) b) e (lawful-plan lim .part b)) in
+            (plain 22 at, twentyTwo p at (omega (arith, ap length q, length-drop at b)) (e ∙ ap (got p) q))
 
     reading-exactly : Exactly (answered (readPlan lim b)) (Reading lim b Then)
     reading-exactly = exactly (answered (readPlan lim b)) (Reading lim b Then) some-reading reads-so
@@ -404,8 +448,12 @@ module _ (lim : Limits) where
       → Tells (sameConfig c p) ((c .regions ≡ p .regions) × (c .gic ≡ p .marks .gic))
   unfolding sameConfig
   tells-config c p = (
-    (λ e. let q = parts _ e in (same-list regionEq equal-same (c .regions) (p .regions) (q .0), eqb-true _ _ (q .1 .0))),
-    (λ (r, g). whole _ (ap (λ (xs : List Region). sameList regionEq xs (p .regions)) r ∙ list-same regionEq equal-refl (p .regions), (eq-eqb _ _ g, tt))),
+    (λ e. let q = parts _ e in
+        (same-list regionEq equal-same (c .regions) (p .regions) (q .0), eqb-true _ _ (q .1 .0))),
+    (λ (r, g). whole _ (
+      ap (λ (xs : List Region). sameList regionEq xs (p .regions)) r ∙ list-same regionEq equal-refl (p .regions),
+      (eq-eqb _ _ g, tt),
+    )),
   )
 
   tells-zones : (t u : List Zone) → Tells (sameList sameZone t u) (t ≡ u)
@@ -428,7 +476,8 @@ module _ (lim : Limits) where
       exactly-of (outcome-first s b)
       (standing-first (s .config) (s .table) (λ n. plain n 0) (applyRead lim s b (readPlan lim b) .outcome)
       (Reading lim b (AtTerminal lim s))
-      (λ none. reading-exactly b (λ o. applyRead lim s b o .outcome) (λ k t. refl) (AtTerminal lim s) (λ p e. exactly-of (outcome-by lim s (judged s p (runOf lim s p)) (runOf lim s p)) (judged-exactly s p))))
+      (λ none. reading-exactly b (λ o. applyRead lim s b o .outcome) (λ k t. refl) (AtTerminal lim s)
+      (λ p e. exactly-of (outcome-by lim s (judged s p (runOf lim s p)) (runOf lim s p)) (judged-exactly s p))))
 
   -- at its own base a plan is not refused with 23, 24 or 26
   module _ (b : List ℕ) (p : Plan) (e : readPlan lim b ≡ got p []) where
@@ -459,7 +508,9 @@ module _ (lim : Limits) where
         let r : Run = runOf lim s p in
         exactly-of (outcome-first s b)
         (standing-first (s .config) (s .table) (λ n. plain n 0) (applyRead lim s b (readPlan lim b) .outcome) _
-        (λ none. exactly-of (ap (λ (o : Out Plan). applyRead lim s b o .outcome) e ∙ outcome-by lim s (judged s p r) r ∙ own-judged)
+        (λ none. exactly-of (ap (λ (o : Out Plan). applyRead lim s b o .outcome) e
+        ∙ outcome-by lim s (judged s p r) r
+        ∙ own-judged)
         (first-of (ended (run lim own (p .zones) (requestsOf p))) (Ends lim own (p .zones) (requestsOf p))
         (tells-eq _ _ and all)
         (λ none. ends-exactly own (p .zones) (requestsOf p)))))
@@ -476,7 +527,9 @@ module _ (lim : Limits) where
       Others n = (n ≡ 23 → ⊥) × (n ≡ 24 → ⊥) × (n ≡ 26 → ⊥)
 
       others : (n : ℕ) → any (eqb n) (23 ∷ 24 ∷ 26 ∷ []) ≡ false → Others n
-      others n e = let q = none-at (eqb n) (23 ∷ 24 ∷ 26 ∷ []) 0 e in (eqb-false _ _ (q 0 (omega arith)), eqb-false _ _ (q 1 (omega arith)), eqb-false _ _ (q 2 (omega arith)))
+      others n e =
+          let q = none-at (eqb n) (23 ∷ 24 ∷ 26 ∷ []) 0 e in
+          (eqb-false _ _ (q 0 (omega arith)), eqb-false _ _ (q 1 (omega arith)), eqb-false _ _ (q 2 (omega arith)))
 
       of : (x o : Outcome) → x ≡ o → any (eqb (x .number)) (23 ∷ 24 ∷ 26 ∷ []) ≡ false → Others (o .number)
       of x o q e = subst (λ (y : Outcome). Others (y .number)) q (others (x .number) e)
@@ -514,14 +567,24 @@ module _ (lim : Limits) where
     inside-address : (id : ℕ) (side : Side) (g : Guest)
         → translated lim c t id side g ≡ translation (tableOf t) id side (g .0)
     unfolding translated translation standingRules standingAs
-    inside-address id side g = let z : List Zone = tableOf t in ap (λ (n : ℕ). translatedAs n (g .0) (coveringIn (g .0) (setAt z (find id z) side))) (past-standing (λ n. n) (translationRules z id side (g .0)) 0)
+    inside-address id side g =
+        let z : List Zone = tableOf t in
+        ap (λ (n : ℕ). translatedAs n (g .0) (coveringIn (g .0) (setAt z (find id z) side)))
+        (past-standing (λ n. n) (translationRules z id side (g .0)) 0)
 
     inside-run : (qs : List Request) → runAnswer lim c t qs ≡ ended (run lim (configOf c) (tableOf t) qs)
     unfolding runAnswer standingAs firstRule
-    inside-run qs = let r : Outcome = ended (run lim (configOf c) (tableOf t) qs) in standing-as c t (λ n. plain n 0) r ∙ past-standing (λ n. plain n 0) [] r
+    inside-run qs =
+        let r : Outcome = ended (run lim (configOf c) (tableOf t) qs) in
+        standing-as c t (λ n. plain n 0) r ∙ past-standing (λ n. plain n 0) [] r
 
   pub standing-is-inside : StandingIsInside lim
-  standing-is-inside c t ok = record { none = none-told c t ok; request = inside-request c t ok; address = inside-address c t ok; requests = inside-run c t ok }
+  standing-is-inside c t ok = record {
+    none = none-told c t ok;
+    request = inside-request c t ok;
+    address = inside-address c t ok;
+    requests = inside-run c t ok;
+  }
 
   -- ---- the configuration's check, in numbers
   finds : (s : StoredConfig) (f : Checked) → Means lim s f → Finds lim s (checkNumber f) (checkPlace f) (checkEarlier f)
@@ -542,7 +605,9 @@ module _ (lim : Limits) where
       is : (f : Checked) → Means lim s f
           → (checkNumber (check lim s) ≡ checkNumber f) × (checkPlace (check lim s) ≡ checkPlace f)
           × (checkEarlier (check lim s) ≡ checkEarlier f)
-      is f h = let e : check lim s ≡ f = check-is-exact lim s full f .1 h in (ap checkNumber e, ap checkPlace e, ap checkEarlier e)
+      is f h =
+          let e : check lim s ≡ f = check-is-exact lim s full f .1 h in
+          (ap checkNumber e, ap checkPlace e, ap checkEarlier e)
 
       by : (n i k : ℕ) → Finds lim s n i k
           → (checkNumber (check lim s) ≡ n) × (checkPlace (check lim s) ≡ i) × (checkEarlier (check lim s) ≡ k)

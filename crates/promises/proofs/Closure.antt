@@ -7,7 +7,8 @@ use mathlib.Core.List.{List, [], _∷_, _++_}
 use mathlib.Core.Logic.{_⊎_, inl, inr, ⊎-elim}
 use mathlib.Core.Option.{some, Option·some-injective}
 use mathlib.Core.Path.{_≡_, refl, sym, ap, ap₂, subst, _∙_, fun-ext}
-use borrow.Author.Tests.{ltb-true, ltb-false, leb-true, leb-false, eqb-true, not-true, not-false, le-ltb, lt-leb, eq-eqb}
+use borrow.Author.Tests.{ltb-true, ltb-false, leb-true, leb-false, eqb-true, not-true, not-false, le-ltb, lt-leb}
+use borrow.Author.Tests.{eq-eqb}
 use lib.Dec.{ltb}
 use lib.ListN.{length, getD}
 use Rattle.lists.specs.First.{firstIndex, any}
@@ -19,25 +20,36 @@ use Rattle.lists.proofs.Pairs.{pairs-at}
 use Rattle.lists.proofs.Rules.{Quiet, testOf, quiet-answer}
 use Rattle.lists.proofs.Tests.{both-false, false-both, one-true, or-left, or-right, not-holds, parts}
 use Rattle.rules.specs.Changes.{setAt, withSide, putSet, pushed, cut}
-use Rattle.rules.specs.Closure.{insert-region, remove-region-exact, contains-region, State, map-insert, ghostOf, set-wf, wf, stateOf, Transition, GhostZone, cpu-insert-region, cpu-remove-region, iommu-insert-region, iommu-remove-region}
+use Rattle.rules.specs.Closure.{insert-region, remove-region-exact, contains-region, State, map-insert, ghostOf, set-wf}
+use Rattle.rules.specs.Closure.{wf, stateOf, Transition, GhostZone, cpu-insert-region, cpu-remove-region}
+use Rattle.rules.specs.Closure.{iommu-insert-region, iommu-remove-region}
 use Rattle.rules.specs.Configuration.{gicOf, configOf, Configuration, StoredConfig}
 use Rattle.rules.specs.Limits.{highestId, Limits, pageOf}
 use Rattle.rules.specs.Regions.{wellFormed, inReach, regionEq, physOverlap, guestOverlap, noRegion}
-use Rattle.rules.specs.Requests.{find, present, heldIn, onGic, forbidden, addRules, removeZoneRules, regionRules, setRules, insertRules, removeRules, kindRules, noRequest, requestRules, refusal, after, next}
-use Rattle.rules.specs.Tables.{noZone, sideOf, hasId, regionsOf, configured, clash, soundSet, soundZone, idsDiffer, Zone}
+use Rattle.rules.specs.Requests.{find, present, heldIn, onGic, forbidden, addRules, removeZoneRules, regionRules}
+use Rattle.rules.specs.Requests.{setRules, insertRules, removeRules, kindRules, noRequest, requestRules, refusal, after}
+use Rattle.rules.specs.Requests.{next}
+use Rattle.rules.specs.Tables.{noZone, sideOf, hasId, regionsOf, configured, clash, soundSet, soundZone, idsDiffer}
+use Rattle.rules.specs.Tables.{Zone}
 use Rattle.rules.specs.declared.Kind.{Kind}
 use Rattle.rules.specs.declared.Kind.the-variants.{AddZone, RemoveZone, Insert, Remove, NoRequest}
 use Rattle.rules.specs.declared.Region.{Region}
 use Rattle.rules.specs.declared.Request.{Request}
 use Rattle.rules.specs.declared.Side.{Side}
 use Rattle.rules.specs.declared.Side.the-variants.{Cpu, Iommu}
-use Rattle.rules.proofs.Closure.{state-there, state-not, state-some, state-none, state-added, state-dropped, state-put, held-pushed, held-cut}
+use Rattle.rules.proofs.Closure.{state-there, state-not, state-some, state-none, state-added, state-dropped, state-put}
+use Rattle.rules.proofs.Closure.{held-pushed, held-cut}
 use Rattle.rules.proofs.Configuration.{passed, SoundConfiguration}
 use Rattle.rules.proofs.Keeps.{sound-parts, set-sound, clear-clash, id-kept, SoundTable}
 use Rattle.rules.proofs.Regions.{equal-same, equal-refl}
-use Rattle.rules.proofs.Inductive.{initialize-meets, add-zone-inductive, remove-zone-inductive, cpu-insert-region-inductive, cpu-remove-region-inductive, iommu-insert-region-inductive, iommu-remove-region-inductive}
+use Rattle.rules.proofs.Inductive.{initialize-meets, add-zone-inductive, remove-zone-inductive}
+use Rattle.rules.proofs.Inductive.{cpu-insert-region-inductive, cpu-remove-region-inductive}
+use Rattle.rules.proofs.Inductive.{iommu-insert-region-inductive, iommu-remove-region-inductive}
 use Rattle.rules.proofs.Requests.{none-applies, holds-nothing, nothing-held}
-use Rattle.promises.specs.Closure.{InitializeInductive, TransitionInductive, SoundIsInvariant, Corrections, AcceptedIsUpstream, UpstreamIsAccepted, InitializeIsEmpty, ZoneCpuRegionInAllRegions, ZoneIommuRegionInAllRegions, CrossZoneDisjointExceptGic}
+use Rattle.promises.specs.Closure.{InitializeInductive, TransitionInductive, SoundIsInvariant, Corrections}
+use Rattle.promises.specs.Closure.{AcceptedIsUpstream, UpstreamIsAccepted, InitializeIsEmpty}
+use Rattle.promises.specs.Closure.{ZoneCpuRegionInAllRegions, ZoneIommuRegionInAllRegions}
+use Rattle.promises.specs.Closure.{CrossZoneDisjointExceptGic}
 use Rattle.promises.specs.Tables.{In, SoundUnder}
 use Rattle.promises.proofs.Tables.{never-clash, inv-zones-wf, inv-cpu-disjoint-from-gic}
 
@@ -127,7 +139,9 @@ module _ (lim : Limits) where
 
       pub low-id : ltb highestId id ≡ false
       unfolding soundZone
-      low-id = let h : getD t (find id t) noZone .id ≤ highestId = leb-true _ _ (parts _ zone-ok .0) in le-ltb highestId id (omega (arith, own-id))
+      low-id =
+          let h : getD t (find id t) noZone .id ≤ highestId = leb-true _ _ (parts _ zone-ok .0) in
+          le-ltb highestId id (omega (arith, own-id))
 
       pub set-ok : (side : Side) → soundSet lim c (setAt t (find id t) side) ≡ true
       set-ok side = set-sound lim c t table-ok (find id t) side there
@@ -164,7 +178,10 @@ module _ (lim : Limits) where
           ⊎-elim (λ h. clear-of (physOverlap r) (z .cpu) x
           (none-at (λ (y : Zone). any (physOverlap r) (y .cpu)) t noZone (b .0) (find o t) (there o p))
           (ap (λ (y : GhostZone). y .cpu-mem-set x) g ∙ h))
-          (λ (ne, h). clear-of (physOverlap r) (z .iommu) x (none-others (λ (y : Zone). any (physOverlap r) (y .iommu)) t (find id t) noZone (b .1) (find o t) (there o p) (other-place id o e p ne)) (ap (λ (y : GhostZone). y .iommu-mem-set x) g ∙ h))
+          (λ (ne, h). clear-of (physOverlap r) (z .iommu) x
+          (none-others (λ (y : Zone). any (physOverlap r) (y .iommu)) t (find id t) noZone (b .1) (find o t) (there o p)
+          (other-place id o e p ne)) (ap (λ (y : GhostZone). y .iommu-mem-set x) g
+          ∙ h))
           m
 
       cpu-clear : CpuClause → forbidden c (find id t) Cpu r t ≡ false
@@ -175,7 +192,9 @@ module _ (lim : Limits) where
           (λ z h. clear-make (physOverlap r) (getD t z noZone .cpu)
           (λ x m. f (getD t z noZone .id) (ghostOf (getD t z noZone)) x (state-at z h) (inl m))))
           (none-others-make (λ (y : Zone). any (physOverlap r) (y .iommu)) t (find id t) noZone
-          (λ z h ne. clear-make (physOverlap r) (getD t z noZone .iommu) (λ x m. f (getD t z noZone .id) (ghostOf (getD t z noZone)) x (state-at z h) (inr ((λ q. ne (sym (found-own z h) ∙ ap (λ (i : ℕ). find i t) q)), m)))))
+          (λ z h ne. clear-make (physOverlap r) (getD t z noZone .iommu)
+          (λ x m. f (getD t z noZone .id) (ghostOf (getD t z noZone)) x (state-at z h)
+          (inr ((λ q. ne (sym (found-own z h) ∙ ap (λ (i : ℕ). find i t) q)), m)))))
 
       abbrev IommuClause : Type 0
       IommuClause =
@@ -276,7 +295,10 @@ module _ (lim : Limits) where
           held = held;
           update =
               cut-state Cpu (firstIndex (regionEq r) (here .cpu)) _
-              (λ i. record { cpu-mem-set = held-cut lim c config-ok (here .cpu) (set-ok id e Cpu) r held i; iommu-mem-set = λ x. heldIn x (here .iommu) });
+              (λ i. record {
+                cpu-mem-set = held-cut lim c config-ok (here .cpu) (set-ok id e Cpu) r held i;
+                iommu-mem-set = λ x. heldIn x (here .iommu);
+              });
         }
 
         iommu-removed : heldIn r (setAt t (find id t) Iommu) ≡ true
@@ -289,7 +311,10 @@ module _ (lim : Limits) where
           held = held;
           update =
               cut-state Iommu (firstIndex (regionEq r) (here .iommu)) _
-              (λ i. record { cpu-mem-set = λ x. heldIn x (here .cpu); iommu-mem-set = held-cut lim c config-ok (here .iommu) (set-ok id e Iommu) r held i });
+              (λ i. record {
+                cpu-mem-set = λ x. heldIn x (here .cpu);
+                iommu-mem-set = held-cut lim c config-ok (here .iommu) (set-ok id e Iommu) r held i;
+              });
         }
 
     -- ---- every kind: an accepted request is a transition
@@ -304,7 +329,11 @@ module _ (lim : Limits) where
         )
     accepted RemoveZone id e =
         let h = none-applies lim c RemoveZone id t e in (
-          record { zone = ghostOf (getD t (find id t) noZone); there = state-there id t (not-false _ (h 6)); update = fun-ext (λ x. state-dropped id x t (table-ok .ids)) },
+          record {
+            zone = ghostOf (getD t (find id t) noZone);
+            there = state-there id t (not-false _ (h 6));
+            update = fun-ext (λ x. state-dropped id x t (table-ok .ids));
+          },
           holds-nothing _ t (h 8),
         )
     accepted (Insert Cpu r) id e =
@@ -319,8 +348,12 @@ module _ (lim : Limits) where
               (h 14) (h 15),
           leb-false _ _ (h 16),
         )
-    accepted (Remove Cpu r) id e = let h = none-applies lim c (Remove Cpu r) id t e in (cpu-removed id (not-false _ (h 6)) r (not-false _ (h 17)), tt)
-    accepted (Remove Iommu r) id e = let h = none-applies lim c (Remove Iommu r) id t e in (iommu-removed id (not-false _ (h 6)) r (not-false _ (h 17)), tt)
+    accepted (Remove Cpu r) id e =
+        let h = none-applies lim c (Remove Cpu r) id t e in
+        (cpu-removed id (not-false _ (h 6)) r (not-false _ (h 17)), tt)
+    accepted (Remove Iommu r) id e =
+        let h = none-applies lim c (Remove Iommu r) id t e in
+        (iommu-removed id (not-false _ (h 6)) r (not-false _ (h 17)), tt)
     accepted NoRequest id e = absurd (omega arith)
 
     -- ---- and a transition, with the corrections, is accepted
@@ -352,7 +385,9 @@ module _ (lim : Limits) where
         → Quiet (requestRules lim c k id t)
     unfolding requestRules kindRules addRules removeZoneRules removeRules noRequest onGic setAt sideOf
     allowed-back AddZone id u x k = (refl, (le-ltb _ _ (k .0), (state-none id t (x .absent), (lt-leb _ _ (k .1), tt))))
-    allowed-back RemoveZone id u x k = let p = state-some id t (x .zone) (x .there) .0 in (refl, (low-id id p, (not-holds _ p, (nothing-held _ t (k .0) (k .1), tt))))
+    allowed-back RemoveZone id u x k =
+        let p = state-some id t (x .zone) (x .there) .0 in
+        (refl, (low-id id p, (not-holds _ p, (nothing-held _ t (k .0) (k .1), tt))))
     allowed-back (Insert Cpu r) id u x k =
         let (p, g) = state-some id t (x .zone) (x .there) in
         insert-quiet id Cpu r p (x .valid) (x .allowed .0) (x .allowed .1)
@@ -366,8 +401,14 @@ module _ (lim : Limits) where
         (iommu-clear id p r (x .allowed .1))
         (clear-make (guestOverlap r) _
         (λ a m. x .apart a (sym (ap (λ (y : GhostZone). y .iommu-mem-set a) g) ∙ m))) k
-    allowed-back (Remove Cpu r) id u x k = let (p, g) = state-some id t (x .zone) (x .there) in (refl, (low-id id p, (not-holds _ p, (not-holds _ (ap (λ (y : GhostZone). y .cpu-mem-set r) g ∙ x .held), tt))))
-    allowed-back (Remove Iommu r) id u x k = let (p, g) = state-some id t (x .zone) (x .there) in (refl, (low-id id p, (not-holds _ p, (not-holds _ (ap (λ (y : GhostZone). y .iommu-mem-set r) g ∙ x .held), tt))))
+    allowed-back (Remove Cpu r) id u x k =
+        let (p, g) = state-some id t (x .zone) (x .there) in
+        (refl, (low-id id p, (not-holds _ p, (not-holds _ (ap (λ (y : GhostZone). y .cpu-mem-set r) g ∙ x .held), tt))))
+    allowed-back (Remove Iommu r) id u x k =
+        let (p, g) = state-some id t (x .zone) (x .there) in (
+          refl,
+          (low-id id p, (not-holds _ p, (not-holds _ (ap (λ (y : GhostZone). y .iommu-mem-set r) g ∙ x .held), tt))),
+        )
     allowed-back NoRequest id u x k = absurd x
 
   -- ---- a transition leads to one state
@@ -387,10 +428,16 @@ module _ (lim : Limits) where
         one-zone (λ z. record { cpu-mem-set = z .cpu-mem-set; iommu-mem-set = insert-region (z .iommu-mem-set) r })
         (x .zone) (y .zone) (x .there) (y .there) (x .update) (y .update)
     one-state (Remove Cpu r) x y =
-        one-zone (λ z. record { cpu-mem-set = remove-region-exact (z .cpu-mem-set) r; iommu-mem-set = z .iommu-mem-set })
+        one-zone (λ z. record {
+          cpu-mem-set = remove-region-exact (z .cpu-mem-set) r;
+          iommu-mem-set = z .iommu-mem-set;
+        })
         (x .zone) (y .zone) (x .there) (y .there) (x .update) (y .update)
     one-state (Remove Iommu r) x y =
-        one-zone (λ z. record { cpu-mem-set = z .cpu-mem-set; iommu-mem-set = remove-region-exact (z .iommu-mem-set) r })
+        one-zone (λ z. record {
+          cpu-mem-set = z .cpu-mem-set;
+          iommu-mem-set = remove-region-exact (z .iommu-mem-set) r;
+        })
         (x .zone) (y .zone) (x .there) (y .there) (x .update) (y .update)
     one-state NoRequest x y = absurd x
 
@@ -429,11 +476,15 @@ module _ (lim : Limits) where
 
   pub zone-cpu-region-in-all-regions : ZoneCpuRegionInAllRegions lim
   unfolding setAt sideOf
-  zone-cpu-region-in-all-regions s t ok zid zone st r h = let (p, g) = state-some zid t zone st in zone-configured s t ok zid p Cpu r (ap (λ (y : GhostZone). y .cpu-mem-set r) g ∙ h)
+  zone-cpu-region-in-all-regions s t ok zid zone st r h =
+      let (p, g) = state-some zid t zone st in
+      zone-configured s t ok zid p Cpu r (ap (λ (y : GhostZone). y .cpu-mem-set r) g ∙ h)
 
   pub zone-iommu-region-in-all-regions : ZoneIommuRegionInAllRegions lim
   unfolding setAt sideOf
-  zone-iommu-region-in-all-regions s t ok zid zone st r h = let (p, g) = state-some zid t zone st in zone-configured s t ok zid p Iommu r (ap (λ (y : GhostZone). y .iommu-mem-set r) g ∙ h)
+  zone-iommu-region-in-all-regions s t ok zid zone st r h =
+      let (p, g) = state-some zid t zone st in
+      zone-configured s t ok zid p Iommu r (ap (λ (y : GhostZone). y .iommu-mem-set r) g ∙ h)
 
   pub cross-zone-disjoint-except-gic : CrossZoneDisjointExceptGic lim
   cross-zone-disjoint-except-gic s t ok zid1 zone1 zid2 zone2 st1 st2 ne r1 r2 h1 h2 =
@@ -448,7 +499,10 @@ module _ (lim : Limits) where
           → (r : Region) → contains-region zone r ≡ true → In r (regionsOf (getD t (find zid t) noZone))
       stands zid zone p g r h =
           let z : Zone = getD t (find zid t) noZone in
-          let (i, l, q) = held-at (regionsOf z) r (any-append (regionEq r) (z .cpu) (z .iommu) ∙ ap (λ (y : GhostZone). contains-region y r) g ∙ h) in
+          let (i, l, q) =
+          held-at (regionsOf z) r (any-append (regionEq r) (z .cpu) (z .iommu)
+          ∙ ap (λ (y : GhostZone). contains-region y r) g
+          ∙ h) in
           (i, l, sym q)
 
   -- ---- the state of a sound table has upstream's invariants
@@ -472,7 +526,9 @@ module _ (lim : Limits) where
   pub sound-is-invariant : SoundIsInvariant lim
   sound-is-invariant s t ok = record {
     inv-zones-wf = λ zid zone st. let (p, g) = state-some zid t zone st in subst (wf lim) g (zone-wf s t ok zid p);
-    inv-regions-in-all-regions = λ zid zone r st h. ⊎-elim (zone-cpu-region-in-all-regions s t ok zid zone st r) (zone-iommu-region-in-all-regions s t ok zid zone st r) (one-true _ _ h);
+    inv-regions-in-all-regions =
+        λ zid zone r st h. ⊎-elim (zone-cpu-region-in-all-regions s t ok zid zone st r)
+        (zone-iommu-region-in-all-regions s t ok zid zone st r) (one-true _ _ h);
     inv-cpu-disjoint-from-gic = λ zid zone r st h.
         let (p, g) = state-some zid t zone st in
         let (i, l, q) = held-at (getD t (find zid t) noZone .cpu) r (ap (λ (y : GhostZone). y .cpu-mem-set r) g ∙ h) in

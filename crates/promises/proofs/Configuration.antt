@@ -6,7 +6,8 @@ use mathlib.Core.Bool.{Bool, true, false, not, _&&_, _||_, true≢false}
 use mathlib.Core.List.{flatMap}
 use mathlib.Core.Logic.{_⊎_, inl, inr, ⊎-elim}
 use mathlib.Core.Path.{_≡_, refl, sym, ap, subst, _∙_}
-use borrow.Author.Tests.{ltb-true, ltb-false, leb-true, leb-false, eqb-true, eqb-false, not-true, not-false, lt-ltb, le-ltb, le-leb, lt-leb, eq-eqb, ne-eqb}
+use borrow.Author.Tests.{ltb-true, ltb-false, leb-true, leb-false, eqb-true, eqb-false, not-true, not-false, lt-ltb}
+use borrow.Author.Tests.{le-ltb, le-leb, lt-leb, eq-eqb, ne-eqb}
 use lib.Dec.{ltb, leb, eqb}
 use lib.ListN.{length, getD, take, drop, length-take, length-drop}
 use lib.Seq.{getD-take, getD-drop}
@@ -14,7 +15,8 @@ use Rattle.lists.specs.First.{firstIndex, firstFrom, any}
 use Rattle.lists.specs.Places.{places}
 use Rattle.lists.specs.Rules.{firstRule}
 use Rattle.lists.proofs.Every.{any-make, none-at, none-make}
-use Rattle.lists.proofs.First.{any-first, first-passes, before-fails, first-is, any-from, from-passes, between-fails, from-least, from-is}
+use Rattle.lists.proofs.First.{any-first, first-passes, before-fails, first-is, any-from, from-passes, between-fails}
+use Rattle.lists.proofs.First.{from-least, from-is}
 use Rattle.lists.proofs.Places.{first-failing}
 use Rattle.lists.proofs.Tests.{both-true, false-both, or-left, or-right, holds-or-fails, true-of}
 use Rattle.rules.specs.Configuration.{positionRules, check, StoredConfig}
@@ -23,9 +25,11 @@ use Rattle.rules.specs.Regions.{wellFormed, inReach, physOverlap, noRegion, use
 use Rattle.rules.specs.declared.Checked.{Checked}
 use Rattle.rules.specs.declared.Checked.the-variants.{Sound, BadCount, BadGic, NotZero, Malformed, OutOfReach, Overlap}
 use Rattle.rules.specs.declared.Region.{Region}
-use Rattle.rules.proofs.Configuration.{gives-c1, gives-c2, gives-c3, gives-positions, c4-faulty, c5-faulty, c6-faulty, gives-c4, gives-c5, gives-c6, gives-none, first-fault, no-fault, passed}
+use Rattle.rules.proofs.Configuration.{gives-c1, gives-c2, gives-c3, gives-positions, c4-faulty, c5-faulty, c6-faulty}
+use Rattle.rules.proofs.Configuration.{gives-c4, gives-c5, gives-c6, gives-none, first-fault, no-fault, passed}
 use Rattle.rules.proofs.Regions.{equal-same, equal-refl}
-use Rattle.promises.specs.Configuration.{at, RightCount, ZeroUpTo, Means, CheckIsExact, AllRegionsValid, AllRegionsDisjoint, GicRegionInAllRegions, Opening, Fit, Reached}
+use Rattle.promises.specs.Configuration.{at, RightCount, ZeroUpTo, Means, CheckIsExact, AllRegionsValid}
+use Rattle.promises.specs.Configuration.{AllRegionsDisjoint, GicRegionInAllRegions, Opening, Fit, Reached}
 
 -- a record is zero exactly where it is not used
 pub zero-unused : (r : Region) → r ≡ noRegion → used r ≡ false
@@ -59,7 +63,9 @@ module _ (lim : Limits) where
     all-zero : s .count ≤ lim .regions → ZeroUpTo s (lim .regions) → any used (drop (s .count) (s .records)) ≡ false
     all-zero h z =
         none-make used (drop (s .count) (s .records)) noRegion
-        (λ j l. ap used (getD-drop (s .count) (s .records) j noRegion) ∙ zero-unused (at s (s .count + j)) (z (s .count + j) (omega arith) (omega (arith, length-drop (s .count) (s .records)))))
+        (λ j l. ap used (getD-drop (s .count) (s .records) j noRegion)
+        ∙ zero-unused (at s (s .count + j)) (z (s .count + j) (omega arith)
+        (omega (arith, length-drop (s .count) (s .records)))))
 
     -- ---- the positions
     module _ (i : ℕ) (inside : i < lim .regions) where
@@ -175,7 +181,10 @@ module _ (lim : Limits) where
         record {
           formed = a .0;
           near = b .0;
-          clear = λ j l. ap (physOverlap (at s i)) (sym (earlier-at i h j l)) ∙ none-at (physOverlap (at s i)) (take i (s .records)) noRegion (not-true _ (b .1)) j (omega (arith, long i h));
+          clear =
+              λ j l. ap (physOverlap (at s i)) (sym (earlier-at i h j l))
+              ∙ none-at (physOverlap (at s i)) (take i (s .records)) noRegion (not-true _ (b .1)) j
+              (omega (arith, long i h));
         }
 
     overlap-means : (i : ℕ) → i < lim .regions → Reached lim s i → wellFormed (lim .page) (at s i) ≡ true
@@ -183,7 +192,8 @@ module _ (lim : Limits) where
         → (f : Checked) × Means lim s f
     overlap-means i h r a b e =
         let k : ℕ = firstIndex (physOverlap (at s i)) (take i (s .records)) in
-        let l : k < length (take i (s .records)) = ltb-true _ _ (sym (any-first (physOverlap (at s i)) (take i (s .records))) ∙ e) in
+        let l : k < length (take i (s .records)) =
+        ltb-true _ _ (sym (any-first (physOverlap (at s i)) (take i (s .records))) ∙ e) in
         let m : k < i = omega (arith, long i h) in (
           Overlap i k,
           (
@@ -193,7 +203,8 @@ module _ (lim : Limits) where
             m,
             ap (physOverlap (at s i)) (sym (earlier-at i h k m))
                 ∙ first-passes (physOverlap (at s i)) (take i (s .records)) noRegion l,
-            (λ j n. ap (physOverlap (at s i)) (sym (earlier-at i h j (omega arith))) ∙ before-fails (physOverlap (at s i)) (take i (s .records)) noRegion j n),
+            (λ j n. ap (physOverlap (at s i)) (sym (earlier-at i h j (omega arith)))
+                ∙ before-fails (physOverlap (at s i)) (take i (s .records)) noRegion j n),
           ),
         )
 
@@ -229,7 +240,8 @@ module _ (lim : Limits) where
     some-means : (f : Checked) × Means lim s f
     some-means =
         count-cases
-        (λ c. gic-cases c (λ g. rest-cases c g (λ z. position-cases (record { count = c; gic = g; rest = z })) (firstFrom used (s .records) (s .count)) refl (holds-or-fails _)) (holds-or-fails _))
+        (λ c. gic-cases c (λ g. rest-cases c g (λ z. position-cases (record { count = c; gic = g; rest = z }))
+        (firstFrom used (s .records) (s .count)) refl (holds-or-fails _)) (holds-or-fails _))
         (holds-or-fails _) (holds-or-fails _)
 
     to-means : (f : Checked) → check lim s ≡ f → Means lim s f

@@ -9,7 +9,10 @@ use mathlib.Core.Path.{_≡_, refl, sym, ap, subst, _∙_}
 use lib.ListN.{length, getD}
 use Rattle.lists.specs.Places.{places}
 use Rattle.lists.specs.Runs.{runs}
-use Rattle.promises.specs.Editions.{makes, plan, noise, restart, tableAt, at, planOf, begin, taken, happens, Legal, AllLegal, History, world, Refuses, AlwaysInStep, PlannersTable, EqualEditionsEqualTables, missing, NeverAhead, LowerIsBehind, State, Machine, Lawful, Event, Planner, World, InStep}
+use Rattle.promises.specs.Editions.{makes, plan, noise, restart, tableAt, at, planOf, begin, taken, happens}
+use Rattle.promises.specs.Editions.{Legal, AllLegal, History, world, Refuses, AlwaysInStep, PlannersTable}
+use Rattle.promises.specs.Editions.{EqualEditionsEqualTables, missing, NeverAhead, LowerIsBehind, State, Machine}
+use Rattle.promises.specs.Editions.{Lawful, Event, Planner, World, InStep}
 
 module _ (m : Machine) (law : Lawful m) (p : Planner m) (ok : m .Sound (p .start)) where
   -- plans 1 to n were made where the rules accept them
@@ -40,16 +43,25 @@ module _ (m : Machine) (law : Lawful m) (p : Planner m) (ok : m .Sound (p .start
     plan-refused k zero low high ne = absurd (omega arith)
     plan-refused k (suc i) low high ne =
         let no-plan : m .number (at m p k) (planOf m p (suc i)) ≡ 0 → ⊥ =
-        (λ e. let f : m .PlanFor (at m p i) (planOf m p (suc i)) = law .fits (at m p i) (planOf m p (suc i)) (plan-leads i (omega arith) .0) in
+        (λ e. let f : m .PlanFor (at m p i) (planOf m p (suc i)) =
+        law .fits (at m p i) (planOf m p (suc i)) (plan-leads i (omega arith) .0) in
         ne (ap suc
         (law .tells (at m p i) (at m p k) (planOf m p (suc i)) f (law .fits (at m p k) (planOf m p (suc i)) e)))) in
         (no-plan, law .stays (at m p k) (planOf m p (suc i)) no-plan)
 
     noise-refused : (s : State (m .Table)) (b : m .Bytes) → (m .PlanFor s b → ⊥) → Refuses m s b
-    noise-refused s b ne = let no-plan : m .number s b ≡ 0 → ⊥ = (λ e. ne (law .fits s b e)) in (no-plan, law .stays s b no-plan)
+    noise-refused s b ne =
+        let no-plan : m .number s b ≡ 0 → ⊥ = (λ e. ne (law .fits s b e)) in
+        (no-plan, law .stays s b no-plan)
 
     in-step : (k : ℕ) → k ≤ n → InStep m p n (at m p k) k
-    in-step k h = record { behind = h; same = refl; onward = plan-leads k; others = plan-refused k; stray = noise-refused (at m p k) }
+    in-step k h = record {
+      behind = h;
+      same = refl;
+      onward = plan-leads k;
+      others = plan-refused k;
+      stray = noise-refused (at m p k);
+    }
 
     -- a delivery leads from a known state to a known one
     plan-known : (s : State (m .Table)) → Known n s → (i : ℕ) → 1 ≤ i → i ≤ n → Known n (m .after s (planOf m p i))
@@ -89,11 +101,19 @@ module _ (m : Machine) (law : Lawful m) (p : Planner m) (ok : m .Sound (p .start
   held-on n s l a f (suc i) h = f i (omega arith)
 
   taken-keeps : (w : World m) (b : m .Bytes) → Kept w → Known (w .made) (m .after (w .state) b) → Kept (taken m w b)
-  taken-keeps w b c a = record { told = c .told; now = a; before = held-on (w .made) (m .after (w .state) b) (w .held) a (c .before) }
+  taken-keeps w b c a = record {
+    told = c .told;
+    now = a;
+    before = held-on (w .made) (m .after (w .state) b) (w .held) a (c .before);
+  }
 
   event-keeps : (w : World m) (e : Event (m .Bytes)) → Legal m p w e → Kept w → Kept (happens m p w e)
   unfolding happens
-  event-keeps w makes a c = record { told = told-on (w .made) (c .told) a; now = later (w .made) (w .state) (c .now); before = λ i h. later (w .made) (getD (w .held) i (at m p 0)) (c .before i h) }
+  event-keeps w makes a c = record {
+    told = told-on (w .made) (c .told) a;
+    now = later (w .made) (w .state) (c .now);
+    before = λ i h. later (w .made) (getD (w .held) i (at m p 0)) (c .before i h);
+  }
   event-keeps w (plan i) (low, high) c =
       taken-keeps w (planOf m p i) c (plan-known (w .made) (c .told) (w .state) (c .now) i low high)
   event-keeps w (noise b) ne c = taken-keeps w b c (noise-known (w .made) (c .told) (w .state) (c .now) b ne)
@@ -108,7 +128,11 @@ module _ (m : Machine) (law : Lawful m) (p : Planner m) (ok : m .Sound (p .start
   history-kept : (h : History m p) → Kept (world m p h)
   history-kept (es, l) =
       events-keep (begin m p) es l
-      (record { told = λ i h. absurd (omega arith); now = (0, omega arith, refl); before = λ i h. held-on 0 (at m p 0) [] (0, omega arith, refl) (λ j q. absurd (omega arith)) i h })
+      (record {
+        told = λ i h. absurd (omega arith);
+        now = (0, omega arith, refl);
+        before = λ i h. held-on 0 (at m p 0) [] (0, omega arith, refl) (λ j q. absurd (omega arith)) i h;
+      })
 
   -- plans j + 1 to k bring the planner's state of j to that of k
   caught-up : (n j : ℕ) → Told (j + n)

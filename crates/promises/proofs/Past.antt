@@ -23,10 +23,20 @@ unfolding numberRead readingParts
 no-bytes p e = let z : _≡_ {A = ℕ} 20 0 = ap numberRead e in omega arith
 
 adds-fit : ListFits 4 0 mostRequests AskedFits adds
-adds-fit = record { said = omega arith; least = omega arith; most = omega arith; fits = (refl, ((omega arith, (omega arith, (omega arith, (omega arith, omega arith)))), tt)) }
+adds-fit = record {
+  said = omega arith;
+  least = omega arith;
+  most = omega arith;
+  fits = (refl, ((omega arith, (omega arith, (omega arith, (omega arith, omega arith)))), tt));
+}
 
 removes-fit : ListFits 4 0 mostRequests AskedFits removes
-removes-fit = record { said = omega arith; least = omega arith; most = omega arith; fits = (refl, ((omega arith, (omega arith, (omega arith, (omega arith, omega arith)))), tt)) }
+removes-fit = record {
+  said = omega arith;
+  least = omega arith;
+  most = omega arith;
+  fits = (refl, ((omega arith, (omega arith, (omega arith, (omega arith, omega arith)))), tt));
+}
 
 may-add : MayAsk limits (without 0) adds
 unfolding applyingParts
@@ -47,7 +57,10 @@ past-shown = (
         (omega arith, omega arith),
         (
           may-remove,
-          ((λ x. no-bytes (x .0) (x .1 .0)), ((omega arith, omega arith), ((omega arith, omega arith), (omega arith, tt)))),
+          (
+            (λ x. no-bytes (x .0) (x .1 .0)),
+            ((omega arith, omega arith), ((omega arith, omega arith), (omega arith, tt))),
+          ),
         ),
       ),
     ),

@@ -11,7 +11,8 @@ use lib.Dec.{eqb}
 use lib.ListN.{length, take, drop, length-append, length-take, take-append-drop}
 use lib.Seq.{take-all}
 use Rattle.formats.specs.Formats.{got, bad, Out, then, readBoth, readAs, readFile}
-use Rattle.rules.specs.Applying.{lastEdition, plain, judged, moved, settled, applyRead, apply, answerRead, answerAlone, Terminal, Applied}
+use Rattle.rules.specs.Applying.{lastEdition, plain, judged, moved, settled, applyRead, apply, answerRead, answerAlone}
+use Rattle.rules.specs.Applying.{Terminal, Applied}
 use Rattle.rules.specs.Configuration.{configOf, Configuration}
 use Rattle.rules.specs.Limits.{Limits}
 use Rattle.rules.specs.Plan.{requestsOf, readPlan, Plan}
@@ -26,7 +27,8 @@ use Rattle.rules.proofs.Plan.{plan-refuses, plan-ends}
 use Rattle.rules.proofs.Stored.{stands-well, stored-stands, run-from-keeps}
 use Rattle.rules.proofs.Sections.{sections}
 use Rattle.rules.proofs.Sizes.{least-length, most-length, whole-length, counts-length, counts-fit, plan-past}
-use Rattle.promises.specs.Plans.{PlanFor, runOf, RefusalStays, ConfigurationStays, ApplyKeepsSound, AcceptedIsPlan, PlanIsAccepted, PlanLengths, PastTheLongest, MarksTell}
+use Rattle.promises.specs.Plans.{PlanFor, runOf, RefusalStays, ConfigurationStays, ApplyKeepsSound}
+use Rattle.promises.specs.Plans.{AcceptedIsPlan, PlanIsAccepted, PlanLengths, PastTheLongest, MarksTell}
 
 module _ (lim : Limits) where
   -- a run without a refusal goes through all requests
@@ -100,7 +102,10 @@ module _ (lim : Limits) where
           ≡ 0
           → (p : Plan) × PlanFor lim s b p × (s .edition ≡ lastEdition → ⊥) × (runOf lim s p .inner ≡ 0)
       by true h (got p t) g e =
-          let (f, last, inner) = accepted-for-base s p (runOf lim s p) (sym (ap (λ (x : Outcome). x .number) (outcome-by s (judged s p (runOf lim s p)) (runOf lim s p))) ∙ e) in
+          let (f, last, inner) =
+          accepted-for-base s p (runOf lim s p) (sym
+          (ap (λ (x : Outcome). x .number) (outcome-by s (judged s p (runOf lim s p)) (runOf lim s p)))
+          ∙ e) in
           (p, (g ∙ ap (got p) (plan-ends lim b p t g), f), last, inner)
       by true h (bad k t) g e = absurd (plan-refuses lim b k t g e)
       by false h o g e = absurd (eqb-false _ _ h e)
@@ -153,14 +158,22 @@ module _ (lim : Limits) where
   -- ---- the marks
   pub marks-tell : MarksTell lim
   unfolding readPlan readFile readAs readBoth then
-  marks-tell = record { whole = λ b p e. let h = sections lim b p [] e in (h .afterMarks, h .marks); refused = λ b k t e. rw e }
+  marks-tell = record {
+    whole = λ b p e. let h = sections lim b p [] e in (h .afterMarks, h .marks);
+    refused = λ b k t e. rw e;
+  }
 
   -- ---- lengths
   pub plan-lengths : PlanLengths lim
   plan-lengths = record {
     written = λ p h. (least-length lim p h, most-length lim p h);
     whole = λ b p h e. whole-length lim b p [] h e;
-    least-met = λ r say. (planWith 1 0 0 0 0, counts-fit lim say 1 0 0 0 0 (omega arith) r (omega arith) (omega arith) (omega arith) (omega arith), counts-length lim 1 0 0 0 0);
+    least-met =
+        λ r say. (
+          planWith 1 0 0 0 0,
+          counts-fit lim say 1 0 0 0 0 (omega arith) r (omega arith) (omega arith) (omega arith) (omega arith),
+          counts-length lim 1 0 0 0 0,
+        );
     longest-met = λ r say.
         let n : ℕ = lim .regions in
         let z : ℕ = lim .zones in
@@ -179,13 +192,16 @@ module _ (lim : Limits) where
 
     alone-past : answerAlone lim u ≡ answerAlone lim (u ++ v)
     unfolding answerAlone answerRead
-    alone-past = let (k, t, e, f) = plan-past lim u v long in ap (answerRead lim u) e ∙ ap (plain k) (same-place t) ∙ ap (answerRead lim (u ++ v)) (sym f)
+    alone-past =
+        let (k, t, e, f) = plan-past lim u v long in
+        ap (answerRead lim u) e ∙ ap (plain k) (same-place t) ∙ ap (answerRead lim (u ++ v)) (sym f)
 
     read-past : (s : Terminal) → applyRead lim s u (readPlan lim u) ≡ applyRead lim s (u ++ v) (readPlan lim (u ++ v))
     unfolding applyRead
     read-past s =
         let (k, t, e, f) = plan-past lim u v long in
-        let same : applyRead lim s u (bad k t) ≡ applyRead lim s (u ++ v) (bad k (t ++ v)) = (λ i. record { outcome = plain k (same-place t i); state = s }) in
+        let same : applyRead lim s u (bad k t) ≡ applyRead lim s (u ++ v) (bad k (t ++ v)) =
+        (λ i. record { outcome = plain k (same-place t i); state = s }) in
         ap (applyRead lim s u) e ∙ same ∙ ap (applyRead lim s (u ++ v)) (sym f)
 
     apply-past : (s : Terminal) → apply lim s u ≡ apply lim s (u ++ v)

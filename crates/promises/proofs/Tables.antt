@@ -15,26 +15,32 @@ use Rattle.lists.specs.First.{any, all}
 use Rattle.lists.specs.Pairs.{pairwise}
 use Rattle.lists.specs.Room.{room}
 use Rattle.lists.specs.Tests.{allOf}
-use Rattle.lists.proofs.Every.{all-at, all-make, all-below, all-below-make, all-beyond, all-beyond-make, all-append, any-at, any-make, any-append, none-at, none-make, none-all}
+use Rattle.lists.proofs.Every.{all-at, all-make, all-below, all-below-make, all-beyond, all-beyond-make, all-append}
+use Rattle.lists.proofs.Every.{any-at, any-make, any-append, none-at, none-make, none-all}
 use Rattle.lists.proofs.Pairs.{pairs-at, pairs-make}
 use Rattle.lists.proofs.Room.{length-room, room-read}
 use Rattle.lists.proofs.Tests.{false-both, holds-or-fails, false-of, not-fails, parts, whole, Holds}
 use Rattle.rules.specs.Limits.{highestId, Limits, pageOf}
 use Rattle.rules.specs.Configuration.{gicOf, configOf, check, isSound, Configuration, StoredConfig}
 use Rattle.rules.specs.Regions.{wellFormed, inReach, regionEq, physOverlap, guestOverlap, noRegion, used}
-use Rattle.rules.specs.Tables.{noZone, noStored, sideOf, regionsOf, setOf, zoneOf, tableOf, restZero, zeroSet, tidyZone, zeroZone, tidy, configured, guestApart, offGic, clash, soundSet, soundZone, idsDiffer, zonesApart, sound, checkTable, Zone, StoredSet, StoredTable}
+use Rattle.rules.specs.Tables.{noZone, noStored, sideOf, regionsOf, setOf, zoneOf, tableOf, restZero, zeroSet, tidyZone}
+use Rattle.rules.specs.Tables.{zeroZone, tidy, configured, guestApart, offGic, clash, soundSet, soundZone, idsDiffer}
+use Rattle.rules.specs.Tables.{zonesApart, sound, checkTable, Zone, StoredSet, StoredTable}
 use Rattle.rules.specs.declared.Checked.the-variants.{Sound}
 use Rattle.rules.specs.declared.Region.{Region}
 use Rattle.rules.specs.declared.Side.{Side}
 use Rattle.rules.specs.declared.Side.the-variants.{Cpu, Iommu}
 use Rattle.rules.proofs.Addresses.{overlap-shared, overlap-symmetric}
-use Rattle.rules.proofs.Configuration.{c1-faulty, c2-faulty, sound-is, sound-answer, gives-c1, gives-c2, passed, SoundConfiguration}
+use Rattle.rules.proofs.Configuration.{c1-faulty, c2-faulty, sound-is, sound-answer, gives-c1, gives-c2, passed}
+use Rattle.rules.proofs.Configuration.{SoundConfiguration}
 use Rattle.rules.proofs.Keeps.{clash-symmetric, parts-sound}
 use Rattle.rules.proofs.Regions.{equal-same, equal-refl}
 use Rattle.rules.proofs.Stored.{length-table, zone-read}
 use Rattle.rules.proofs.Tables.{configured-at}
 use Rattle.promises.specs.Configuration.{at, Passed}
-use Rattle.promises.specs.Tables.{zoneAt, setIn, countAt, recordAt, Held, TableCheckIsExact, In, CoversPhys, NoAddressInTwoZones, NoCpuOnGic, InvZoneIds, InvZonesWf, InvRegionsInAllRegions, InvCpuDisjointFromGic, InvCrossZoneNonGicDisjoint, EmptyIsSound, Conditions}
+use Rattle.promises.specs.Tables.{zoneAt, setIn, countAt, recordAt, Held, TableCheckIsExact, In, CoversPhys}
+use Rattle.promises.specs.Tables.{NoAddressInTwoZones, NoCpuOnGic, InvZoneIds, InvZonesWf, InvRegionsInAllRegions}
+use Rattle.promises.specs.Tables.{InvCpuDisjointFromGic, InvCrossZoneNonGicDisjoint, EmptyIsSound, Conditions}
 use Rattle.promises.proofs.Configuration.{zero-unused, unused-zero}
 
 -- the zero record is not used
@@ -167,7 +173,9 @@ module _ (lim : Limits) where
     unfolding sound zonesApart
     no-clash y z h l a b ma (j, lj, qj) =
         let apart = pairs-at (zonesApart c) t noZone (parts _ ok .1 .1 .1 .0) y z h l in
-        let none = not-true _ (among (λ (r : Region). not (any (clash c r) (regionsOf (getD t z noZone)))) (regionsOf (getD t y noZone)) a apart ma) in
+        let none =
+        not-true _ (among (λ (r : Region). not (any (clash c r) (regionsOf (getD t z noZone))))
+        (regionsOf (getD t y noZone)) a apart ma) in
         ap (clash c a) (sym qj) ∙ none-at (clash c a) (regionsOf (getD t z noZone)) noRegion none j lj
 
     pub never-clash : (y z : ℕ) → y < length t → z < length t → (y ≡ z → ⊥) → (a b : Region)
@@ -273,17 +281,32 @@ module _ (lim : Limits) where
         let g : gicOf cc ≡ at c (c .gic) = gic-read (gic-inside e) in
         record {
           fewZones = (let h : length zs ≤ lim .zones = leb-true _ _ (parts _ ok .0) in omega (arith, length-table t));
-          fewRegions = λ z s h. let f : length (sideOf s (getD zs z noZone)) ≤ lim .inSet = leb-true _ _ (parts _ (side-ok cc zs ok z s (table-has z h)) .0) in omega (arith, side-length z s h);
-          lowIds = λ z h. let f : getD zs z noZone .id ≤ highestId = leb-true _ _ (parts _ (zone-ok cc zs ok z (table-has z h)) .0) in omega (arith, id-read z h);
-          idsDiffer = λ y z h l ne q. ne (one-id cc zs ok y z (table-has y h) (table-has z l) (id-read y h ∙ q ∙ sym (id-read z l)));
+          fewRegions =
+              λ z s h. let f : length (sideOf s (getD zs z noZone)) ≤ lim .inSet =
+              leb-true _ _ (parts _ (side-ok cc zs ok z s (table-has z h)) .0) in
+              omega (arith, side-length z s h);
+          lowIds =
+              λ z h. let f : getD zs z noZone .id ≤ highestId =
+              leb-true _ _ (parts _ (zone-ok cc zs ok z (table-has z h)) .0) in
+              omega (arith, id-read z h);
+          idsDiffer =
+              λ y z h l ne q. ne (one-id cc zs ok y z (table-has y h) (table-has z l)
+              (id-read y h ∙ q ∙ sym (id-read z l)));
           restZero = λ z s i h l. rest-zero (setIn s (zoneAt t z)) (set-tidy rest z s h) i (omega arith);
           zonesZero = λ z h. zone-zero rest z h;
           configured = λ z s i m.
-              let (k, l, q) = any-at (regionEq (recordAt t z s i)) (cc .regions) noRegion (among (configured cc) (sideOf s (getD zs z noZone)) (recordAt t z s i) (side-configured cc zs ok z s (table-has z (m .0))) (stands z s i m)) in
+              let (k, l, q) =
+              any-at (regionEq (recordAt t z s i)) (cc .regions) noRegion
+              (among (configured cc) (sideOf s (getD zs z noZone)) (recordAt t z s i)
+              (side-configured cc zs ok z s (table-has z (m .0))) (stands z s i m)) in
               let n : k < c .count = omega (arith, length-room (c .count) noRegion (c .records)) in
               (k, n, sym (equal-same (recordAt t z s i) _ q ∙ room-read (c .count) noRegion (c .records) k n));
-          guestApart = λ z s i j m n ne. ap₂ guestOverlap (sym (record-read z s i m)) (sym (record-read z s j n)) ∙ guest-apart cc zs ok z s (table-has z (m .0)) i j (side-has z s i m) (side-has z s j n) ne;
-          offGic = λ z i m. ap (physOverlap (recordAt t z Cpu i)) (sym g) ∙ off-gic cc zs ok z (recordAt t z Cpu i) (table-has z (m .0)) (stands z Cpu i m);
+          guestApart =
+              λ z s i j m n ne. ap₂ guestOverlap (sym (record-read z s i m)) (sym (record-read z s j n))
+              ∙ guest-apart cc zs ok z s (table-has z (m .0)) i j (side-has z s i m) (side-has z s j n) ne;
+          offGic =
+              λ z i m. ap (physOverlap (recordAt t z Cpu i)) (sym g)
+              ∙ off-gic cc zs ok z (recordAt t z Cpu i) (table-has z (m .0)) (stands z Cpu i m);
           formed = λ z i m. device-formed cc zs ok z (recordAt t z Iommu i) (table-has z (m .0)) (stands z Iommu i m);
           zonesApart = λ y z s u i j ne m n na nb.
               no-clash-means cc (recordAt t y s i) (recordAt t z u j)
@@ -467,7 +490,9 @@ module _ (lim : Limits) where
   unfolding pageOf sideOf
   inv-zones-wf s t ok z side h = (
     (λ r m.
-        let v = configured-valid s (ok .config) r (among (configured (configOf s)) (sideOf side (getD t z noZone)) r (side-configured (configOf s) t (ok .table) z side h) m) in
+        let v =
+        configured-valid s (ok .config) r (among (configured (configOf s)) (sideOf side (getD t z noZone)) r
+        (side-configured (configOf s) t (ok .table) z side h) m) in
         (formed-on side r m (v .0), v .1)),
     (λ i j a b ne. guest-apart (configOf s) t (ok .table) z side h i j a b ne),
   )
@@ -479,7 +504,10 @@ module _ (lim : Limits) where
 
   pub inv-regions-in-all-regions : InvRegionsInAllRegions lim
   inv-regions-in-all-regions s t ok z r h m =
-      let (i, l, q) = configured-at lim (configOf s) (passed lim s (ok .config .0) (ok .config .1)) r (among (configured (configOf s)) (regionsOf (getD t z noZone)) r (zone-configured (configOf s) t (ok .table) z h) m) in
+      let (i, l, q) =
+      configured-at lim (configOf s) (passed lim s (ok .config .0) (ok .config .1)) r
+      (among (configured (configOf s)) (regionsOf (getD t z noZone)) r
+      (zone-configured (configOf s) t (ok .table) z h) m) in
       (i, l, sym q)
 
   pub inv-cpu-disjoint-from-gic : InvCpuDisjointFromGic lim

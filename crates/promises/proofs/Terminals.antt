@@ -20,7 +20,9 @@ use Rattle.rules.proofs.Stored.{stands-well, stored-stands, run-from-keeps}
 use Rattle.promises.specs.Configuration.{Passed}
 use Rattle.promises.specs.Editions.{tableAt, at, planOf, world, State}
 use Rattle.promises.specs.Plans.{PlanFor}
-use Rattle.promises.specs.Terminals.{terminal, stateOf, terminals, TerminalsAreLawful, planned, planFile, planner, terminalIn, TurnsAway, TerminalsFollow, EqualEditionsEqualTerminals, LowerTerminalIsBehind, Held, SoundHeld}
+use Rattle.promises.specs.Terminals.{terminal, stateOf, terminals, TerminalsAreLawful, planned, planFile, planner}
+use Rattle.promises.specs.Terminals.{terminalIn, TurnsAway, TerminalsFollow, EqualEditionsEqualTerminals}
+use Rattle.promises.specs.Terminals.{LowerTerminalIsBehind, Held, SoundHeld}
 use Rattle.promises.proofs.Editions.{always-in-step, equal-editions-equal-tables, lower-is-behind}
 use Rattle.promises.proofs.Plans.{refusal-stays, accepted-is-plan, plan-is-accepted}
 use Rattle.promises.proofs.Tables.{empty-is-sound}
@@ -44,7 +46,10 @@ module _ (lim : Limits) where
   plan-leads say s q ok may =
       let below : s .edition < lastEdition = may .edition in
       let n : s .edition + 1 ≡ suc (s .edition) = omega arith in
-      let e = plan-is-accepted lim (terminal s) (planBytes lim (terminal s) q) (planFor (terminal s) q) (ok .stands) (plan-reads lim say (terminal s) q (ok .records) (ok .stands) may, plan-for-base (terminal s) q) (λ l. omega arith) (may .accepted) in (
+      let e =
+      plan-is-accepted lim (terminal s) (planBytes lim (terminal s) q) (planFor (terminal s) q) (ok .stands)
+      (plan-reads lim say (terminal s) q (ok .records) (ok .stands) may, plan-for-base (terminal s) q)
+      (λ l. omega arith) (may .accepted) in (
         ap (λ (a : Applied). a .outcome .number) e,
         ap (λ (a : Applied). stateOf (a .state)) e
             ∙ (λ i. record { edition = n i; table = terminals lim .next (s .table) q }),
@@ -53,7 +58,12 @@ module _ (lim : Limits) where
   next-sound : (h : Held) (q : List Asked) → SoundHeld lim h → SoundHeld lim (terminals lim .next h q)
   next-sound h q ok =
       let (c, t) = stands-well lim (h .config) (h .table) (ok .stands) in
-      record { records = ok .records; stands = stored-stands lim (h .config) (ranAt lim (h .config) (h .table) q .table) c (run-from-keeps lim (configOf (h .config)) 0 (tableOf (h .table)) _ t) }
+      record {
+        records = ok .records;
+        stands =
+            stored-stands lim (h .config) (ranAt lim (h .config) (h .table) q .table) c
+            (run-from-keeps lim (configOf (h .config)) 0 (tableOf (h .table)) _ t);
+      }
 
   pub terminals-are-lawful : TerminalsAreLawful lim
   terminals-are-lawful say = record {
@@ -77,31 +87,47 @@ module _ (lim : Limits) where
     planned-at (suc k) =
         let p : c ≡ tableAt (terminals lim) (planner lim c asked) k .config = config-stays k in
         let e : planned lim c asked k ≡ terminal (at (terminals lim) (planner lim c asked) k) = planned-at k in
-        (λ i. record { config = p i; table = store lim (ranAt lim (p i) (e i .table) (asked (suc k)) .table); edition = suc k })
+        (λ i. record {
+          config = p i;
+          table = store lim (ranAt lim (p i) (e i .table) (asked (suc k)) .table);
+          edition = suc k;
+        })
 
     file-at : (i : ℕ) → planFile lim c asked i ≡ planOf (terminals lim) (planner lim c asked) i
     file-at i = ap (λ (s : Terminal). planBytes lim s (asked i)) (planned-at (i - 1))
 
     start-sound : Passed lim c → terminals lim .Sound (planner lim c asked .start)
-    start-sound (full, e) = record { records = full; stands = stored-stands lim c [] e (sound-parts lim (configOf c) [] (empty-is-sound lim (configOf c))) }
+    start-sound (full, e) = record {
+      records = full;
+      stands = stored-stands lim c [] e (sound-parts lim (configOf c) [] (empty-is-sound lim (configOf c)));
+    }
 
   pub terminals-follow : TerminalsFollow lim
   terminals-follow say c ok asked h =
-      let (k, f) = always-in-step (terminals lim) (terminals-are-lawful say) (planner lim c asked) (start-sound c asked ok) h in (
+      let (k, f) =
+      always-in-step (terminals lim) (terminals-are-lawful say) (planner lim c asked) (start-sound c asked ok) h in (
         k,
         record {
           behind = f .behind;
           same = ap terminal (f .same) ∙ sym (planned-at c asked k);
-          onward = λ l. subst (λ (b : List ℕ). (apply lim (terminalIn lim c asked h) b .outcome .number ≡ 0) × (apply lim (terminalIn lim c asked h) b .state ≡ planned lim c asked (suc k))) (sym (file-at c asked (suc k)))
+          onward =
+              λ l. subst (λ (b : List ℕ). (apply lim (terminalIn lim c asked h) b .outcome .number ≡ 0)
+              × (apply lim (terminalIn lim c asked h) b .state ≡ planned lim c asked (suc k)))
+              (sym (file-at c asked (suc k)))
               (f .onward l .0, ap terminal (f .onward l .1) ∙ sym (planned-at c asked (suc k)));
-          others = λ i low high ne. subst (TurnsAway lim (terminalIn lim c asked h)) (sym (file-at c asked i)) (let r = f .others i low high ne in (r .0, ap terminal (r .1)));
+          others =
+              λ i low high ne. subst (TurnsAway lim (terminalIn lim c asked h)) (sym (file-at c asked i))
+              (let r = f .others i low high ne in
+              (r .0, ap terminal (r .1)));
           stray = λ b ne. let r = f .stray b (λ x. ne (x .0) (x .1)) in (r .0, ap terminal (r .1));
         },
       )
 
   pub equal-editions-equal-terminals : EqualEditionsEqualTerminals lim
   equal-editions-equal-terminals say c ok asked g h e =
-      let t = equal-editions-equal-tables (terminals lim) (terminals-are-lawful say) (planner lim c asked) (start-sound c asked ok) g h e in
+      let t =
+      equal-editions-equal-tables (terminals lim) (terminals-are-lawful say) (planner lim c asked)
+      (start-sound c asked ok) g h e in
       (λ i. terminal (record { edition = e i; table = t i }))
 
   -- deliveries in turn, to the state and to the terminal

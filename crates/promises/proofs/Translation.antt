@@ -35,8 +35,11 @@ use Rattle.rules.proofs.Regions.{equal-refl}
 use Rattle.rules.proofs.Tables.{overlap-same}
 use Rattle.rules.proofs.Translation.{covers-parts, parts-cover, lies-in, same-distance}
 use Rattle.promises.specs.Tables.{In, SoundUnder}
-use Rattle.promises.specs.Translation.{TranslatesTo, PutBy, OnlyOneCovers, StaysInside, TranslationIs, TranslationIsExact, OneToOne, ZonesMeetOnGic, Isolated, ZoneIsolated, IommuZoneIsolated}
-use Rattle.promises.proofs.Closure.{held-at, held-either, config-ok, table-ok, there, low-id, set-ok, other-place}
+use Rattle.promises.specs.Translation.{TranslatesTo, PutBy, OnlyOneCovers, StaysInside, TranslationIs}
+use Rattle.promises.specs.Translation.{TranslationIsExact, OneToOne, ZonesMeetOnGic, Isolated, ZoneIsolated}
+use Rattle.promises.specs.Translation.{IommuZoneIsolated}
+use Rattle.promises.proofs.Closure.{held-at, held-either, config-ok, table-ok, there, low-id, set-ok}
+use Rattle.promises.proofs.Closure.{other-place}
 use Rattle.promises.proofs.Tables.{no-address-in-two-zones}
 
 -- ---- a translation that answers 0
@@ -117,7 +120,11 @@ in-held r xs (i, l, q) = any-make (regionEq r) xs noRegion i l (ap (regionEq r) 
 held-by : (t : List Zone) (k : ℕ) (side : Side) (r : Region) → In r (setAt t k side)
     → In r (regionsOf (getD t k noZone))
 unfolding setAt sideOf
-held-by t k side r m = let (i, l, q) = held-at (regionsOf (getD t k noZone)) r (held-either (getD t k noZone) r (by side (in-held r (setAt t k side) m))) in (i, l, sym q)
+held-by t k side r m =
+    let (i, l, q) =
+    held-at (regionsOf (getD t k noZone)) r
+    (held-either (getD t k noZone) r (by side (in-held r (setAt t k side) m))) in
+    (i, l, sym q)
   where
     by : (s : Side) → heldIn r (setAt t k s) ≡ true
         → (heldIn r (getD t k noZone .cpu) ≡ true) ⊎ (heldIn r (getD t k noZone .iommu) ≡ true)
@@ -166,7 +173,9 @@ module _ (lim : Limits) where
           let k : coversGuest a (getD zs i noRegion) ≡ true = ap (coversGuest a) q ∙ parts-cover a r c in
           let z = translates t id side a (low-id lim s t ok id p) p (any-make (coversGuest a) zs noRegion i h k) in
           let (g, (j, l, m), d, f) = translation-is t id side a (translation t id side a .phys .0) (z, refl) in
-          let one : i ≡ j = only-one-covers s t ok (find id t) side a i j (there lim s t ok id p) h l k (ap (coversGuest a) m ∙ parts-cover a g d) in
+          let one : i ≡ j =
+          only-one-covers s t ok (find id t) side a i j (there lim s t ok id p) h l k
+          (ap (coversGuest a) m ∙ parts-cover a g d) in
           let same : g ≡ r = sym m ∙ ap (λ (n : ℕ). getD zs n noRegion) (sym one) ∙ q in
           (z, sym f ∙ ap (λ (y : Region). y .p .0 + (a - y .v .0)) same ∙ e)
 
@@ -192,12 +201,19 @@ module _ (lim : Limits) where
       let pb : physIn b rb ≡ x = sym (comes-out t id side b eb) ∙ hb in
       let ca = covers t id side a ea in
       let cb = covers t id side b eb in
-      let same : ra ≡ rb = overlap-same lim c (config-ok lim s t ok) ra rb (all-at (configured c) zs noRegion all-configured _ (within t id side a ea)) (all-at (configured c) zs noRegion all-configured _ (within t id side b eb)) (overlap-shared _ _ _ _ .1 (x, (lies-in a x ra ca pa, lies-in b x rb cb pb))) in
+      let same : ra ≡ rb =
+      overlap-same lim c (config-ok lim s t ok) ra rb
+      (all-at (configured c) zs noRegion all-configured _ (within t id side a ea))
+      (all-at (configured c) zs noRegion all-configured _ (within t id side b eb))
+      (overlap-shared _ _ _ _ .1 (x, (lies-in a x ra ca pa, lies-in b x rb cb pb))) in
       equal-from a b ra rb ca cb same (pa ∙ sym pb)
     where
       equal-from : (a b : ℕ) (r q : Region) → coversGuest a r ≡ true → coversGuest b q ≡ true → r ≡ q
           → physIn a r ≡ physIn b q → a ≡ b
-      equal-from a b r q ca cb e h = let (la, ua) = covers-parts a r ca in let (lb, ub) = covers-parts b q cb in omega (arith, ap (λ (k : Region). k .v .0) e, ap (λ (k : Region). k .p .0) e)
+      equal-from a b r q ca cb e h =
+          let (la, ua) = covers-parts a r ca in
+          let (lb, ub) = covers-parts b q cb in
+          omega (arith, ap (λ (k : Region). k .v .0) e, ap (λ (k : Region). k .p .0) e)
 
   -- ---- upstream's properties
   isolated : (s : StoredConfig) (t : List Zone) (ok : SoundUnder lim s t) (zid : ℕ) (side : Side) (set : RegionSet)
@@ -207,14 +223,20 @@ module _ (lim : Limits) where
   unfolding xs
   isolated s t ok zid side set v p same (r, m, k) =
       let (i, l, q) = held-at (setAt t (find zid t) side) r (sym (same r) ∙ m) in
-      let e = translates t zid side v (low-id lim s t ok zid p) p (any-make (coversGuest v) (setAt t (find zid t) side) noRegion i l (ap (coversGuest v) (sym q) ∙ k)) in
+      let e =
+      translates t zid side v (low-id lim s t ok zid p) p
+      (any-make (coversGuest v) (setAt t (find zid t) side) noRegion i l (ap (coversGuest v) (sym q) ∙ k)) in
       let (g, mg, cg, pg) = stays-inside t zid side v (translation t zid side v .phys .0) (e, refl) in
       (translation t zid side v .phys .0, (e, refl), (g, same g ∙ in-held g (setAt t (find zid t) side) mg, cg, pg))
 
   pub zone-isolated : ZoneIsolated lim
   unfolding setAt sideOf
-  zone-isolated s t ok zid zone v st k = let (p, g) = state-some zid t zone st in isolated s t ok zid Cpu (zone .cpu-mem-set) v p (λ r. sym (ap (λ (y : GhostZone). y .cpu-mem-set r) g)) k
+  zone-isolated s t ok zid zone v st k =
+      let (p, g) = state-some zid t zone st in
+      isolated s t ok zid Cpu (zone .cpu-mem-set) v p (λ r. sym (ap (λ (y : GhostZone). y .cpu-mem-set r) g)) k
 
   pub iommu-zone-isolated : IommuZoneIsolated lim
   unfolding setAt sideOf
-  iommu-zone-isolated s t ok zid zone v st k = let (p, g) = state-some zid t zone st in isolated s t ok zid Iommu (zone .iommu-mem-set) v p (λ r. sym (ap (λ (y : GhostZone). y .iommu-mem-set r) g)) k
+  iommu-zone-isolated s t ok zid zone v st k =
+      let (p, g) = state-some zid t zone st in
+      isolated s t ok zid Iommu (zone .iommu-mem-set) v p (λ r. sym (ap (λ (y : GhostZone). y .iommu-mem-set r) g)) k

@@ -13,7 +13,8 @@ use Rattle.formats.specs.Formats.{got, bad}
 use Rattle.rules.specs.Addresses.{Shared}
 use Rattle.rules.specs.Applying.{lastEdition, plain, apply, baseOf, answerAlone, Terminal}
 use Rattle.rules.specs.Changes.{setAt}
-use Rattle.rules.specs.Configuration.{gicOf, configOf, check, checkNumber, checkPlace, checkEarlier, Configuration, StoredConfig}
+use Rattle.rules.specs.Configuration.{gicOf, configOf, check, checkNumber, checkPlace, checkEarlier, Configuration}
+use Rattle.rules.specs.Configuration.{StoredConfig}
 use Rattle.rules.specs.Limits.{highestId, pageOf, Limits}
 use Rattle.rules.specs.Plan.{planFormat, requestsOf, Plan}
 use Rattle.rules.specs.Requests.{find, refusal, next, standing, answer}

@@ -8,7 +8,8 @@ use mathlib.Core.Option.{some}
 use mathlib.Core.Path.{_≡_}
 use lib.ListN.{length}
 use Rattle.rules.specs.Changes.{setAt}
-use Rattle.rules.specs.Closure.{contains-region, State, all-regions, gic-region, initialize, stateOf, Transition, GhostZone, Invariants}
+use Rattle.rules.specs.Closure.{contains-region, State, all-regions, gic-region, initialize, stateOf, Transition}
+use Rattle.rules.specs.Closure.{GhostZone, Invariants}
 use Rattle.rules.specs.Configuration.{configOf, Configuration, StoredConfig}
 use Rattle.rules.specs.Limits.{highestId, Limits}
 use Rattle.rules.specs.Regions.{physOverlap}

@@ -8,7 +8,8 @@ use Rattle.rules.specs.Limits.{limits}
 use Rattle.rules.specs.Desk.{deskTerminal}
 use Rattle.rules.specs.Plan.{Asked}
 use Rattle.rules.specs.Story.{with5, adds, removes}
-use Rattle.promises.specs.Editions.{makes, plan, noise, restart, planOf, begin, happens, AllLegal, Event, Planner, World}
+use Rattle.promises.specs.Editions.{makes, plan, noise, restart, planOf, begin, happens, AllLegal, Event, Planner}
+use Rattle.promises.specs.Editions.{World}
 use Rattle.promises.specs.Terminals.{terminal, terminals, planner}
 
 -- plan 1 adds zone 5, plan 2 removes it

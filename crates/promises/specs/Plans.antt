@@ -51,7 +51,10 @@ PlanIsAccepted l =
     (s : Terminal) (b : List ℕ) (p : Plan) → standing l (s .config) (s .table) ≡ 0 → PlanFor l s b p
     → (s .edition ≡ lastEdition → ⊥) → runOf l s p .inner ≡ 0
     → apply l s b
-    ≡ record { outcome = plain 0 (length (requestsOf p)); state = record { config = s .config; table = store l (runOf l s p .table); edition = s .edition + 1 } }
+    ≡ record {
+      outcome = plain 0 (length (requestsOf p));
+      state = record { config = s .config; table = store l (runOf l s p .table); edition = s .edition + 1 };
+    }
 
 -- the marks section alone says which edition a plan is for
 pub record MarksTell (l : Limits) : Type 0 where

@@ -9,7 +9,8 @@ use Rattle.rules.specs.Limits.{highestId, Limits, pageOf}
 use Rattle.rules.specs.Addresses.{Covers}
 use Rattle.rules.specs.Configuration.{gicOf, configOf, check, Configuration, StoredConfig}
 use Rattle.rules.specs.Regions.{wellFormed, inReach, physOverlap, guestOverlap, noRegion}
-use Rattle.rules.specs.Tables.{noZone, noStored, sideOf, regionsOf, sound, checkTable, Zone, StoredSet, StoredZone, StoredTable}
+use Rattle.rules.specs.Tables.{noZone, noStored, sideOf, regionsOf, sound, checkTable, Zone, StoredSet, StoredZone}
+use Rattle.rules.specs.Tables.{StoredTable}
 use Rattle.rules.specs.declared.Checked.the-variants.{Sound}
 use Rattle.rules.specs.declared.Region.{Region}
 use Rattle.rules.specs.declared.Side.{Side}
@@ -107,7 +108,8 @@ InvZoneIds l =
     (s : StoredConfig) (t : List Zone) → SoundUnder l s t → (y z : ℕ) → y < length t → z < length t
     → getD t y noZone .id ≡ getD t z noZone .id → y ≡ z
 
--- inv_zones_wf: every region of either set is well formed and in reach, and no two of one set overlap in guest addresses
+-- inv_zones_wf: every region of either set is well formed and in reach, and no two of one set overlap in guest
+-- addresses
 abbrev pub InvZonesWf : Limits → Type 0
 InvZonesWf l = (s : StoredConfig) (t : List Zone) → SoundUnder l s t → (z : ℕ) (side : Side) → z < length t
     → ((r : Region) → In r (sideOf side (getD t z noZone))

@@ -29,7 +29,8 @@ terminal s = record { config = s .table .config; table = s .table .table; editio
 abbrev pub stateOf : Terminal → State Held
 stateOf t = record { edition = t .edition; table = record { config = t .config; table = t .table } }
 
--- a configuration with a record for each region that there is room for, and a table at which neither 1 nor 2 is answered
+-- a configuration with a record for each region that there is room for, and a table at which neither 1 nor 2 is
+-- answered
 pub record SoundHeld (l : Limits) (h : Held) : Type 0 where
   pub records : length (h .config .records) ≡ l .regions
   pub stands : standing l (h .config) (h .table) ≡ 0
@@ -57,7 +58,11 @@ TerminalsAreLawful l = Sayable l → Lawful (terminals l)
 -- its state at edition k: first the empty table, then what the requests of each plan make of it
 unfoldable pub planned : Limits → StoredConfig → (ℕ → List Asked) → ℕ → Terminal
 planned l c asked zero = record { config = c; table = store l []; edition = 0 }
-planned l c asked (suc k) = record { config = c; table = store l (ranAt l c (planned l c asked k .table) (asked (suc k)) .table); edition = suc k }
+planned l c asked (suc k) = record {
+  config = c;
+  table = store l (ranAt l c (planned l c asked k .table) (asked (suc k)) .table);
+  edition = suc k;
+}
 
 -- plan i is made at edition i - 1
 abbrev pub planFile : Limits → StoredConfig → (ℕ → List Asked) → ℕ → List ℕ

@@ -10,7 +10,8 @@ use lib.Dec.{eqb}
 use Rattle.lists.specs.Rules.{_when_, firstRule}
 use Rattle.lists.proofs.Rules.{Quiet, testOf, silent, quiet-answer}
 use Rattle.lists.proofs.Tests.{both-true, true-both, parts, whole, not-holds}
-use Rattle.rules.specs.Applying.{lastEdition, sameList, sameZone, sameConfig, plain, judgedRules, judged, Terminal, ForBase}
+use Rattle.rules.specs.Applying.{lastEdition, sameList, sameZone, sameConfig, plain, judgedRules, judged}
+use Rattle.rules.specs.Applying.{Terminal, ForBase}
 use Rattle.rules.specs.Configuration.{configOf}
 use Rattle.rules.specs.Plan.{Plan}
 use Rattle.rules.specs.Regions.{regionEq}
@@ -27,7 +28,9 @@ module _ {A : Type 0} (e : A → A → Bool) where
   same-list f [] [] h = refl
   same-list f [] (y ∷ ys) h = absurd (true≢false (sym h))
   same-list f (x ∷ xs) [] h = absurd (true≢false (sym h))
-  same-list f (x ∷ xs) (y ∷ ys) h = let p = both-true (e x y) (sameList e xs ys) h in ap₂ (λ (a : A) (l : List A). a ∷ l) (f x y (p .0)) (same-list f xs ys (p .1))
+  same-list f (x ∷ xs) (y ∷ ys) h =
+      let p = both-true (e x y) (sameList e xs ys) h in
+      ap₂ (λ (a : A) (l : List A). a ∷ l) (f x y (p .0)) (same-list f xs ys (p .1))
 
   pub list-same : ((x : A) → e x x ≡ true) → (xs : List A) → sameList e xs xs ≡ true
   unfolding sameList
@@ -85,7 +88,8 @@ module _ (s : Terminal) (p : Plan) (r : Run) where
   unfolding judgedRules sameConfig testOf
   accepted-for-base e =
       let (q, well) = judged-well e in
-      let none : (n : ℕ) → testOf (λ (o : Outcome). o .number) n (judgedRules s p) ≡ false = silent (λ o. o .number) (judgedRules s p) q in
+      let none : (n : ℕ) → testOf (λ (o : Outcome). o .number) n (judgedRules s p) ≡ false =
+      silent (λ o. o .number) (judgedRules s p) q in
       let c = parts _ (not-false _ (none 23)) in (
         record {
           regions = same-list regionEq equal-same _ _ (c .0);
@@ -101,8 +105,11 @@ module _ (s : Terminal) (p : Plan) (r : Run) where
       → judged s p r ≡ plain 0 (r .place)
   unfolding judged judgedRules sameConfig
   for-base-accepted b last inner =
-      let c : sameList regionEq (configOf (s .config) .regions) (p .regions) ≡ true = ap (λ (l : List Region). sameList regionEq l (p .regions)) (b .regions) ∙ list-same regionEq equal-refl (p .regions) in
-      let z : sameList sameZone (tableOf (s .table)) (p .zones) ≡ true = ap (λ (l : List Zone). sameList sameZone l (p .zones)) (b .zones) ∙ list-same sameZone zone-same (p .zones) in
+      let c : sameList regionEq (configOf (s .config) .regions) (p .regions) ≡ true =
+      ap (λ (l : List Region). sameList regionEq l (p .regions)) (b .regions)
+      ∙ list-same regionEq equal-refl (p .regions) in
+      let z : sameList sameZone (tableOf (s .table)) (p .zones) ≡ true =
+      ap (λ (l : List Zone). sameList sameZone l (p .zones)) (b .zones) ∙ list-same sameZone zone-same (p .zones) in
       sym
       (quiet-answer (judgedRules s p) (ended r) (
         not-holds _ (whole _ (c, (eq-eqb _ _ (b .gic), tt))),

@@ -19,7 +19,8 @@ use Rattle.lists.proofs.Pairs.{pairs-at}
 use Rattle.lists.proofs.Tests.{both-true, both-false, holds-or-fails, false-of, parts}
 use Rattle.rules.specs.Limits.{Limits}
 use Rattle.rules.specs.Changes.{added, dropped}
-use Rattle.rules.specs.Closure.{insert-region, remove-region-exact, map-insert, map-remove, ghostOf, stateOf, GhostZone}
+use Rattle.rules.specs.Closure.{insert-region, remove-region-exact, map-insert, map-remove, ghostOf, stateOf}
+use Rattle.rules.specs.Closure.{GhostZone}
 use Rattle.rules.specs.Configuration.{Configuration}
 use Rattle.rules.specs.Regions.{regionEq, guestOverlap, noRegion}
 use Rattle.rules.specs.Requests.{find, present, heldIn}
@@ -78,7 +79,9 @@ module _ (id x : ℕ) where
       → stateOf (added id t) x ≡ map-insert (stateOf t) id (ghostOf (emptyZone id)) x
   unfolding stateOf added any
   state-added [] e = refl
-  state-added (z ∷ t) e = let h = both-false (eqb (z .id) id) (present id t) e in under (eqb (z .id) x) (eqb id x) _ _ _ _ (not-both (z .id) (h .0)) (state-added t (h .1))
+  state-added (z ∷ t) e =
+      let h = both-false (eqb (z .id) id) (present id t) e in
+      under (eqb (z .id) x) (eqb id x) _ _ _ _ (not-both (z .id) (h .0)) (state-added t (h .1))
 
   -- an id that differs from those of all zones is not there
   fresh : (t : List Zone) (z : Zone) → z .id ≡ x → all (idsDiffer z) t ≡ true → present x t ≡ false
@@ -95,7 +98,9 @@ module _ (id x : ℕ) where
       none-twice : (b : Bool) → _≡_ {A = Option GhostZone} none (cond b none none)
       none-twice true = refl
       none-twice false = refl
-  state-dropped (z ∷ t) e = let h = both-true (all (idsDiffer z) t) (pairwise idsDiffer t) e in by (h .0) (state-dropped t (h .1)) (eqb (z .id) id) refl
+  state-dropped (z ∷ t) e =
+      let h = both-true (all (idsDiffer z) t) (pairwise idsDiffer t) e in
+      by (h .0) (state-dropped t (h .1)) (eqb (z .id) id) refl
     where
       gone : all (idsDiffer z) t ≡ true → (b : Bool) → eqb id x ≡ b → z .id ≡ id
           → stateOf t x ≡ cond b none (cond b (some (ghostOf z)) (stateOf t x))
@@ -168,7 +173,8 @@ module _ (lim : Limits) where
     once : any (regionEq r) (removeAt i xs) ≡ false
     once =
         none-others-make (regionEq r) xs i noRegion
-        (λ j h ne. false-of _ (λ e. let s : getD xs i noRegion ≡ getD xs j noRegion = sym here ∙ equal-same r _ e in elim (decLt i j) [ yes l ↦ apart i j l h s | no l ↦ apart j i (omega arith) inside (sym s) ]))
+        (λ j h ne. false-of _ (λ e. let s : getD xs i noRegion ≡ getD xs j noRegion = sym here ∙ equal-same r _ e in
+        elim (decLt i j) [ yes l ↦ apart i j l h s | no l ↦ apart j i (omega arith) inside (sym s) ]))
 
     pub held-cut : (λ (x : Region). heldIn x (removeAt (firstIndex (regionEq r) xs) xs))
         ≡ remove-region-exact (λ x. heldIn x xs) r

@@ -8,17 +8,22 @@ use Rattle.lists.specs.Places.{places, tab}
 use Rattle.lists.specs.Room.{room, removeAt}
 use Rattle.lists.specs.Rules.{firstRule}
 use Rattle.lists.specs.Tests.{allOf}
-use Rattle.formats.specs.Formats.{when, then, readNumber, readBoth, writeBoth, startAt, readAs, readMany, writeMany, readHeaded, readCount, within, writeHeaded, atEnd, readFile}
+use Rattle.formats.specs.Formats.{when, then, readNumber, readBoth, writeBoth, startAt, readAs, readMany, writeMany}
+use Rattle.formats.specs.Formats.{readHeaded, readCount, within, writeHeaded, atEnd, readFile}
 use Rattle.rules.specs.Addresses.{overlaps}
-use Rattle.rules.specs.Applying.{sameList, sameZone, sameConfig, judgedRules, judged, moved, settled, applyRead, apply}
+use Rattle.rules.specs.Applying.{sameList, sameZone, sameConfig, judgedRules, judged, moved, settled, applyRead}
+use Rattle.rules.specs.Applying.{apply}
 use Rattle.rules.specs.Changes.{setAt, withSide, putSet, added, pushed, cut, dropped}
 use Rattle.rules.specs.Configuration.{gicOf, configOf, positionRules, checkRules, check, isSound}
 use Rattle.rules.specs.Limits.{pageOf}
 use Rattle.rules.specs.Plan.{readPlan, encode}
 use Rattle.rules.specs.Regions.{wellFormed, inReach, regionEq}
-use Rattle.rules.specs.Requests.{holdsAny, onGic, forbidden, addRules, removeZoneRules, regionRules, setRules, insertRules, removeRules, kindRules, noRequest, requestRules, refusal, after, next, answers, standingRules}
+use Rattle.rules.specs.Requests.{holdsAny, onGic, forbidden, addRules, removeZoneRules, regionRules, setRules}
+use Rattle.rules.specs.Requests.{insertRules, removeRules, kindRules, noRequest, requestRules, refusal, after}
+use Rattle.rules.specs.Requests.{next, answers, standingRules}
 use Rattle.rules.specs.Run.{makeKind, makeRequest, runFrom, ended}
-use Rattle.rules.specs.Tables.{sideOf, configured, clash, soundSet, soundZone, zonesApart, sound, setOf, zoneOf, tableOf, restZero, zeroSet, tidyZone, zeroZone, tidy, checkTable}
+use Rattle.rules.specs.Tables.{sideOf, configured, clash, soundSet, soundZone, zonesApart, sound, setOf, zoneOf}
+use Rattle.rules.specs.Tables.{tableOf, restZero, zeroSet, tidyZone, zeroZone, tidy, checkTable}
 use Rattle.rules.specs.Translation.{coversGuest, coveringIn, physIn, translationRules, translatedAs}
 
 -- lists, tests and rules; regions

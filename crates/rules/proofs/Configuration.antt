@@ -15,13 +15,16 @@ use Rattle.lists.specs.Places.{places}
 use Rattle.lists.specs.Rules.{firstRule}
 use Rattle.lists.proofs.Every.{none-at}
 use Rattle.lists.proofs.Room.{length-room, room-read}
-use Rattle.lists.proofs.Rules.{rules, Telling, rules-stop, rules-end, rules-past, Quiet, quiet, testOf, silent, telling-places, quiet-places}
+use Rattle.lists.proofs.Rules.{rules, Telling, rules-stop, rules-end, rules-past, Quiet, quiet, testOf, silent}
+use Rattle.lists.proofs.Rules.{telling-places, quiet-places}
 use Rattle.lists.proofs.Tests.{both-false, not-fails, not-holds}
-use Rattle.rules.specs.Configuration.{configOf, positionRules, checkRules, check, isSound, checkNumber, Configuration, StoredConfig}
+use Rattle.rules.specs.Configuration.{configOf, positionRules, checkRules, check, isSound, checkNumber}
+use Rattle.rules.specs.Configuration.{Configuration, StoredConfig}
 use Rattle.rules.specs.Limits.{Limits}
 use Rattle.rules.specs.Regions.{wellFormed, inReach, physOverlap, noRegion, used}
 use Rattle.rules.specs.declared.Checked.{Checked}
-use Rattle.rules.specs.declared.Checked.the-variants.{Sound, BadCount, BadGic, NotZero, Malformed, OutOfReach, Overlap}
+use Rattle.rules.specs.declared.Checked.the-variants.{Sound, BadCount, BadGic, NotZero, Malformed, OutOfReach}
+use Rattle.rules.specs.declared.Checked.the-variants.{Overlap}
 use Rattle.rules.specs.declared.Region.{Region}
 use Rattle.rules.proofs.Addresses.{overlap-symmetric}
 
@@ -215,7 +218,14 @@ module _ (lim : Limits) where
     passed = record {
       most = (let f : s .count ≤ lim .regions = few-counted in omega (arith, many));
       gic = (let g : s .gic < s .count = leb-false _ _ (no-fault-of 2) in omega (arith, many));
-      formed = λ i h. let l : i < s .count = omega (arith, many) in ap (wellFormed (lim .page)) (held-at i l) ∙ not-false _ (no-fault-at i l 4);
-      near = λ i h. let l : i < s .count = omega (arith, many) in ap (inReach lim) (held-at i l) ∙ not-false _ (no-fault-at i l 5);
-      apart = λ i j h l ne. let a : i < s .count = omega (arith, many) in let b : j < s .count = omega (arith, many) in ap₂ physOverlap (held-at i a) (held-at j b) ∙ clear-both i j a b ne;
+      formed =
+          λ i h. let l : i < s .count = omega (arith, many) in
+          ap (wellFormed (lim .page)) (held-at i l) ∙ not-false _ (no-fault-at i l 4);
+      near =
+          λ i h. let l : i < s .count = omega (arith, many) in
+          ap (inReach lim) (held-at i l) ∙ not-false _ (no-fault-at i l 5);
+      apart =
+          λ i j h l ne. let a : i < s .count = omega (arith, many) in
+          let b : j < s .count = omega (arith, many) in
+          ap₂ physOverlap (held-at i a) (held-at j b) ∙ clear-both i j a b ne;
     }

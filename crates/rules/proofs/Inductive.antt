@@ -8,7 +8,10 @@ use mathlib.Core.Path.{_≡_, refl, sym, ap, subst, _∙_}
 use borrow.Author.Tests.{eqb-true, eqb-false}
 use lib.Dec.{eqb}
 use Rattle.lists.proofs.Tests.{both-true, one-true, or-left, or-right}
-use Rattle.rules.specs.Closure.{RegionSet, empty-set, insert-region, remove-region-exact, not-overlaps-vmem, contains-region, spec-valid, set-wf, wf, State, map-insert, map-remove, all-regions, gic-region, initialize, GhostZone, Invariants, add-zone, remove-zone, cpu-insert-region, cpu-remove-region, iommu-insert-region, iommu-remove-region}
+use Rattle.rules.specs.Closure.{RegionSet, empty-set, insert-region, remove-region-exact, not-overlaps-vmem}
+use Rattle.rules.specs.Closure.{contains-region, spec-valid, set-wf, wf, State, map-insert, map-remove}
+use Rattle.rules.specs.Closure.{all-regions, gic-region, initialize, GhostZone, Invariants, add-zone, remove-zone}
+use Rattle.rules.specs.Closure.{cpu-insert-region, cpu-remove-region, iommu-insert-region, iommu-remove-region}
 use Rattle.rules.specs.Configuration.{Configuration}
 use Rattle.rules.specs.Limits.{Limits}
 use Rattle.rules.specs.Regions.{regionEq, physOverlap, guestOverlap}
@@ -104,7 +107,9 @@ module _ (lim : Limits) where
 
         put-keeps : Invariants lim c (map-insert pre zid new)
         put-keeps = record {
-          inv-zones-wf = λ id zone st. ⊎-elim (λ (p, q). subst (wf lim) q formed) (λ (n, q). ok .inv-zones-wf id zone q) (entry-put pre zid new id zone st);
+          inv-zones-wf =
+              λ id zone st. ⊎-elim (λ (p, q). subst (wf lim) q formed) (λ (n, q). ok .inv-zones-wf id zone q)
+              (entry-put pre zid new id zone st);
           inv-regions-in-all-regions = λ id zone r st h.
               ⊎-elim (λ (p, q). clear r (ap (λ (y : GhostZone). contains-region y r) q ∙ h) .0)
               (λ (n, q). ok .inv-regions-in-all-regions id zone r q h) (entry-put pre zid new id zone st);
@@ -136,7 +141,8 @@ module _ (lim : Limits) where
         held-clear : (r : Region) → contains-region zone r ≡ true → Clear r
         held-clear r h = (
           ok .inv-regions-in-all-regions zid zone r there h,
-          (λ o other x st ne hx n1 n2. ok .inv-cross-zone-non-gic-disjoint zid o zone other r x there st (λ e. ne (sym e)) h hx n1 n2),
+          (λ o other x st ne hx n1 n2. ok .inv-cross-zone-non-gic-disjoint zid o zone other r x there st
+              (λ e. ne (sym e)) h hx n1 n2),
         )
 
         cpu-held : (r : Region) → zone .cpu-mem-set r ≡ true → Clear r
@@ -167,9 +173,13 @@ module _ (lim : Limits) where
       pub remove-zone-inductive : remove-zone zid pre post → Invariants lim c post
       remove-zone-inductive x = reached (map-remove pre zid) (x .update) (record {
         inv-zones-wf = λ id zone st. ok .inv-zones-wf id zone (entry-left pre zid id zone st);
-        inv-regions-in-all-regions = λ id zone r st. ok .inv-regions-in-all-regions id zone r (entry-left pre zid id zone st);
-        inv-cpu-disjoint-from-gic = λ id zone r st. ok .inv-cpu-disjoint-from-gic id zone r (entry-left pre zid id zone st);
-        inv-cross-zone-non-gic-disjoint = λ id1 id2 zone1 zone2 r1 r2 st1 st2. ok .inv-cross-zone-non-gic-disjoint id1 id2 zone1 zone2 r1 r2 (entry-left pre zid id1 zone1 st1) (entry-left pre zid id2 zone2 st2);
+        inv-regions-in-all-regions =
+            λ id zone r st. ok .inv-regions-in-all-regions id zone r (entry-left pre zid id zone st);
+        inv-cpu-disjoint-from-gic =
+            λ id zone r st. ok .inv-cpu-disjoint-from-gic id zone r (entry-left pre zid id zone st);
+        inv-cross-zone-non-gic-disjoint =
+            λ id1 id2 zone1 zone2 r1 r2 st1 st2. ok .inv-cross-zone-non-gic-disjoint id1 id2 zone1 zone2 r1 r2
+            (entry-left pre zid id1 zone1 st1) (entry-left pre zid id2 zone2 st2);
       })
 
       module _ (region : Region) where
@@ -177,21 +187,32 @@ module _ (lim : Limits) where
         cpu-insert-region-inductive x =
             let zone : GhostZone = x .zone in
             let old : wf lim zone = ok .inv-zones-wf zid zone (x .there) in
-            let fresh : Clear region = (x .allowed .0, λ o other r st ne h n1 n2. x .allowed .2 o other r st (⊎-elim inl (λ i. inr (ne, i)) (either other r h))) in
+            let fresh : Clear region = (
+              x .allowed .0,
+              λ o other r st ne h n1 n2. x .allowed .2 o other r st (⊎-elim inl (λ i. inr (ne, i)) (either other r h)),
+            ) in
             reached _ (x .update)
             (put-keeps _ (grown-wf Cpu (zone .cpu-mem-set) region (old .0) (x .valid) (x .apart), old .1)
-            (λ r h. ⊎-elim (cpu-held zone (x .there) r) (λ q. subst Clear (sym q) fresh) (grown (zone .cpu-mem-set) region r h)) (iommu-held zone (x .there))
-            (λ r h. ⊎-elim (held-off zone (x .there) r) (λ q. ap (λ (g : Region). physOverlap g (gic-region c)) q ∙ x .allowed .1) (grown (zone .cpu-mem-set) region r h)))
+            (λ r h. ⊎-elim (cpu-held zone (x .there) r) (λ q. subst Clear (sym q) fresh)
+            (grown (zone .cpu-mem-set) region r h)) (iommu-held zone (x .there))
+            (λ r h. ⊎-elim (held-off zone (x .there) r)
+            (λ q. ap (λ (g : Region). physOverlap g (gic-region c)) q ∙ x .allowed .1)
+            (grown (zone .cpu-mem-set) region r h)))
 
         pub iommu-insert-region-inductive : iommu-insert-region lim c zid region pre post → Invariants lim c post
         iommu-insert-region-inductive x =
             let zone : GhostZone = x .zone in
             let old : wf lim zone = ok .inv-zones-wf zid zone (x .there) in
-            let fresh : Clear region = (x .allowed .0, λ o other r st ne h n1 n2. ⊎-elim (λ e. absurd (n1 e)) (⊎-elim (λ e. absurd (n2 e)) (λ e. e)) (x .allowed .1 o other r st ne (either other r h))) in
+            let fresh : Clear region = (
+              x .allowed .0,
+              λ o other r st ne h n1 n2. ⊎-elim (λ e. absurd (n1 e)) (⊎-elim (λ e. absurd (n2 e)) (λ e. e))
+                  (x .allowed .1 o other r st ne (either other r h)),
+            ) in
             reached _ (x .update)
             (put-keeps _ (old .0, grown-wf Iommu (zone .iommu-mem-set) region (old .1) (x .valid) (x .apart))
             (cpu-held zone (x .there))
-            (λ r h. ⊎-elim (iommu-held zone (x .there) r) (λ q. subst Clear (sym q) fresh) (grown (zone .iommu-mem-set) region r h)) (held-off zone (x .there)))
+            (λ r h. ⊎-elim (iommu-held zone (x .there) r) (λ q. subst Clear (sym q) fresh)
+            (grown (zone .iommu-mem-set) region r h)) (held-off zone (x .there)))
 
         pub cpu-remove-region-inductive : cpu-remove-region zid region pre post → Invariants lim c post
         cpu-remove-region-inductive x =

@@ -13,7 +13,8 @@ use Rattle.lists.specs.Pairs.{pairwise}
 use Rattle.lists.specs.Room.{room, removeAt}
 use Rattle.lists.specs.Rules.{firstRule}
 use Rattle.lists.specs.Runs.{runs}
-use Rattle.lists.proofs.Every.{all-at, all-make, all-one, all-append, all-left, all-right, all-set, all-removed, none-at, none-make, none-others, any-append, none-all, all-from, all-same}
+use Rattle.lists.proofs.Every.{all-at, all-make, all-one, all-append, all-left, all-right, all-set, all-removed}
+use Rattle.lists.proofs.Every.{none-at, none-make, none-others, any-append, none-all, all-from, all-same}
 use Rattle.lists.proofs.First.{any-first}
 use Rattle.lists.proofs.Pairs.{pairs-at, pairs-append, pairs-removed, pairs-set}
 use Rattle.lists.proofs.Room.{length-removed}
@@ -24,8 +25,11 @@ use Rattle.rules.specs.Changes.{setAt, withSide, putSet, added, pushed, 
 use Rattle.rules.specs.Configuration.{gicOf, Configuration}
 use Rattle.rules.specs.Limits.{highestId, Limits, pageOf}
 use Rattle.rules.specs.Regions.{wellFormed, regionEq, physOverlap, guestOverlap, noRegion}
-use Rattle.rules.specs.Requests.{find, present, heldIn, onGic, forbidden, addRules, removeZoneRules, regionRules, setRules, insertRules, removeRules, kindRules, noRequest, requestRules, refusal, after, next}
-use Rattle.rules.specs.Tables.{emptyZone, noZone, sideOf, hasId, regionsOf, configured, guestApart, offGic, clash, soundSet, soundZone, idsDiffer, zonesApart, sound, Zone}
+use Rattle.rules.specs.Requests.{find, present, heldIn, onGic, forbidden, addRules, removeZoneRules, regionRules}
+use Rattle.rules.specs.Requests.{setRules, insertRules, removeRules, kindRules, noRequest, requestRules, refusal}
+use Rattle.rules.specs.Requests.{after, next}
+use Rattle.rules.specs.Tables.{emptyZone, noZone, sideOf, hasId, regionsOf, configured, guestApart, offGic, clash}
+use Rattle.rules.specs.Tables.{soundSet, soundZone, idsDiffer, zonesApart, sound, Zone}
 use Rattle.rules.specs.declared.Kind.{Kind}
 use Rattle.rules.specs.declared.Kind.the-variants.{AddZone, RemoveZone, Insert, Remove, NoRequest}
 use Rattle.rules.specs.declared.Region.{Region}
@@ -91,9 +95,12 @@ unfolding forbidden
 others-clear c k Cpu r t e j h ne =
     let b = both-false _ _ e in
     let z : Zone = getD t j noZone in
-    let in-cpu : any (physOverlap r) (z .cpu) ≡ false = none-at (λ (y : Zone). any (physOverlap r) (y .cpu)) t noZone (b .0) j h in
-    let in-iommu : any (physOverlap r) (z .iommu) ≡ false = none-others (λ (y : Zone). any (physOverlap r) (y .iommu)) t k noZone (b .1) j h ne in
-    let clear : any (physOverlap r) (regionsOf z) ≡ false = any-append (physOverlap r) (z .cpu) (z .iommu) ∙ false-both _ _ in-cpu in-iommu in
+    let in-cpu : any (physOverlap r) (z .cpu) ≡ false =
+    none-at (λ (y : Zone). any (physOverlap r) (y .cpu)) t noZone (b .0) j h in
+    let in-iommu : any (physOverlap r) (z .iommu) ≡ false =
+    none-others (λ (y : Zone). any (physOverlap r) (y .iommu)) t k noZone (b .1) j h ne in
+    let clear : any (physOverlap r) (regionsOf z) ≡ false =
+    any-append (physOverlap r) (z .cpu) (z .iommu) ∙ false-both _ _ in-cpu in-iommu in
     none-make (clash c r) (regionsOf z) noRegion
     (λ i l. clear-clash c r _ (none-at (physOverlap r) (regionsOf z) noRegion clear i l))
 others-clear c k Iommu r t e j h ne = none-others (λ (y : Zone). any (clash c r) (regionsOf y)) t k noZone e j h ne
@@ -113,7 +120,13 @@ module _ (lim : Limits) where
   module _ (c : Configuration) (t : List Zone) where
     pub sound-parts : sound lim c t ≡ true → SoundTable c t
     unfolding sound
-    sound-parts e = let h = parts _ e in record { few = leb-true _ _ (h .0); zones = h .1 .0; ids = h .1 .1 .0; disjoint = h .1 .1 .1 .0 }
+    sound-parts e =
+        let h = parts _ e in record {
+          few = leb-true _ _ (h .0);
+          zones = h .1 .0;
+          ids = h .1 .1 .0;
+          disjoint = h .1 .1 .1 .0;
+        }
 
     pub parts-sound : SoundTable c t → sound lim c t ≡ true
     unfolding sound
@@ -134,7 +147,8 @@ module _ (lim : Limits) where
       let h = parts _ e in
       let few : length xs < lim .inSet = leb-false _ _ room in
       let len : length (xs ++ r ∷ []) ≤ lim .inSet = omega (arith, length-append xs (r ∷ [])) in
-      let apart : all (λ (x : Region). guestApart x r) xs ≡ true = all-same _ _ (λ x. ap not (overlap-symmetric _ _ _ _)) xs ∙ sym (none-all (guestOverlap r) xs) ∙ ap not guest in
+      let apart : all (λ (x : Region). guestApart x r) xs ≡ true =
+      all-same _ _ (λ x. ap not (overlap-symmetric _ _ _ _)) xs ∙ sym (none-all (guestOverlap r) xs) ∙ ap not guest in
       whole _ (
         le-leb _ _ len,
         (
@@ -173,7 +187,11 @@ module _ (lim : Limits) where
             set-pushed c (z .iommu) r (h .1 .1 .0) conf guest room,
             (
               h .1 .1 .1 .0,
-              (all-append (wellFormed (lim .iommuPage)) (z .iommu) (r ∷ []) (h .1 .1 .1 .1 .0) (all-one (wellFormed (lim .iommuPage)) r formed), tt),
+              (
+                all-append (wellFormed (lim .iommuPage)) (z .iommu) (r ∷ []) (h .1 .1 .1 .1 .0)
+                    (all-one (wellFormed (lim .iommuPage)) r formed),
+                tt,
+              ),
             ),
           ),
         ),
@@ -195,8 +213,27 @@ module _ (lim : Limits) where
   zone-cut : (c : Configuration) (s : Side) (z : Zone) (m : ℕ) → m < length (sideOf s z) → soundZone lim c z ≡ true
       → soundZone lim c (withSide s (removeAt m (sideOf s z)) z) ≡ true
   unfolding soundZone withSide sideOf
-  zone-cut c Cpu z m lt e = let h = parts _ e in whole _ (h .0, (set-cut c (z .cpu) m lt (h .1 .0), (h .1 .1 .0, (all-removed (offGic c) (z .cpu) m (h .1 .1 .1 .0), (h .1 .1 .1 .1 .0, tt)))))
-  zone-cut c Iommu z m lt e = let h = parts _ e in whole _ (h .0, (h .1 .0, (set-cut c (z .iommu) m lt (h .1 .1 .0), (h .1 .1 .1 .0, (all-removed (wellFormed (lim .iommuPage)) (z .iommu) m (h .1 .1 .1 .1 .0), tt)))))
+  zone-cut c Cpu z m lt e =
+      let h = parts _ e in
+      whole _ (
+        h .0,
+        (
+          set-cut c (z .cpu) m lt (h .1 .0),
+          (h .1 .1 .0, (all-removed (offGic c) (z .cpu) m (h .1 .1 .1 .0), (h .1 .1 .1 .1 .0, tt))),
+        ),
+      )
+  zone-cut c Iommu z m lt e =
+      let h = parts _ e in
+      whole _ (
+        h .0,
+        (
+          h .1 .0,
+          (
+            set-cut c (z .iommu) m lt (h .1 .1 .0),
+            (h .1 .1 .1 .0, (all-removed (wellFormed (lim .iommuPage)) (z .iommu) m (h .1 .1 .1 .1 .0), tt)),
+          ),
+        ),
+      )
 
   -- ---- another zone in the place of zone k, with its id
   module _ (c : Configuration) (t : List Zone) (k : ℕ) (kin : k < length t) (ok : SoundTable c t) (new : Zone)
@@ -236,12 +273,16 @@ module _ (lim : Limits) where
         let new : Zone = withSide s (sideOf s z ++ r ∷ []) z in
         replace-keeps c t k kin ok new (id-kept s (sideOf s z ++ r ∷ []) z)
         (zone-pushed c s z r here-sound formed conf gic guest room)
-        (λ j h q. all-from (λ (a : Region). not (any (clash c a) (regionsOf z))) (λ (a : Region). not (clash c r a)) (λ (a : Region). not (any (clash c a) (regionsOf new)))
-        (λ a x y. none-all (clash c a) (regionsOf new) ∙ all-pushed (λ (b : Region). not (clash c a b)) s z r (sym (none-all (clash c a) (regionsOf z)) ∙ x) (ap not (clash-symmetric c a r) ∙ y))
+        (λ j h q. all-from (λ (a : Region). not (any (clash c a) (regionsOf z))) (λ (a : Region). not (clash c r a))
+        (λ (a : Region). not (any (clash c a) (regionsOf new)))
+        (λ a x y. none-all (clash c a) (regionsOf new)
+        ∙ all-pushed (λ (b : Region). not (clash c a b)) s z r (sym (none-all (clash c a) (regionsOf z)) ∙ x)
+        (ap not (clash-symmetric c a r) ∙ y))
         (regionsOf (getD t j noZone)) (apart-at j k q kin)
         (sym (none-all (clash c r) (regionsOf (getD t j noZone)))
         ∙ ap not (others-clear c k s r t forb j h (omega arith))))
-        (λ j h q. all-pushed (λ (a : Region). not (any (clash c a) (regionsOf (getD t j noZone)))) s z r (apart-at k j q h) (ap not (others-clear c k s r t forb j h (omega arith))))
+        (λ j h q. all-pushed (λ (a : Region). not (any (clash c a) (regionsOf (getD t j noZone)))) s z r
+        (apart-at k j q h) (ap not (others-clear c k s r t forb j h (omega arith))))
 
     -- an accepted removal
     pub remove-keeps : heldIn r (setAt t k s) ≡ true → SoundTable c (cut k s (firstIndex (regionEq r) (setAt t k s)) t)
@@ -254,8 +295,11 @@ module _ (lim : Limits) where
         replace-keeps c t k kin ok new (id-kept s (removeAt m (sideOf s z)) z) (zone-cut c s z m inside here-sound)
         (λ j h q. let old : Region → Bool = λ a. not (any (clash c a) (regionsOf z)) in
         all-from old old (λ (a : Region). not (any (clash c a) (regionsOf new)))
-        (λ a x y. none-all (clash c a) (regionsOf new) ∙ all-cut (λ (b : Region). not (clash c a b)) s z m (sym (none-all (clash c a) (regionsOf z)) ∙ x)) (regionsOf (getD t j noZone)) (apart-at j k q kin) (apart-at j k q kin))
-        (λ j h q. all-cut (λ (a : Region). not (any (clash c a) (regionsOf (getD t j noZone)))) s z m (apart-at k j q h))
+        (λ a x y. none-all (clash c a) (regionsOf new)
+        ∙ all-cut (λ (b : Region). not (clash c a b)) s z m (sym (none-all (clash c a) (regionsOf z)) ∙ x))
+        (regionsOf (getD t j noZone)) (apart-at j k q kin) (apart-at j k q kin))
+        (λ j h q. all-cut (λ (a : Region). not (any (clash c a) (regionsOf (getD t j noZone)))) s z m
+        (apart-at k j q h))
 
   -- ---- zones come and go
   pub remove-zone-keeps : (c : Configuration) (t : List Zone) (k : ℕ) → k < length t → SoundTable c t
@@ -271,21 +315,22 @@ module _ (lim : Limits) where
   pub add-keeps : (c : Configuration) (t : List Zone) (id : ℕ) → id ≤ highestId → length t < lim .zones
       → present id t ≡ false → SoundTable c t → SoundTable c (added id t)
   unfolding added soundZone soundSet zonesApart all any pairwise
-  add-keeps c t id h room fresh s = let none : leb 0 (lim .inSet) ≡ true = le-leb 0 (lim .inSet) (omega arith) in record {
-    few = omega (arith, length-append t (emptyZone id ∷ []));
-    zones =
-        all-append (soundZone lim c) t (emptyZone id ∷ []) (s .zones)
-        (all-one (soundZone lim c) (emptyZone id)
-        (whole _ (
-          le-leb _ _ h,
-          (whole _ (none, (refl, (refl, tt))), (whole _ (none, (refl, (refl, tt))), (refl, (refl, tt)))),
-        )));
-    ids = pairs-append idsDiffer t (emptyZone id) (s .ids) (sym (none-all (hasId id) t) ∙ ap not fresh);
-    disjoint =
-        pairs-append (zonesApart c) t (emptyZone id) (s .disjoint)
-        (all-make (λ (y : Zone). zonesApart c y (emptyZone id)) t noZone
-        (λ j q. all-make _ (regionsOf (getD t j noZone)) noRegion (λ m w. refl)));
-  }
+  add-keeps c t id h room fresh s =
+      let none : leb 0 (lim .inSet) ≡ true = le-leb 0 (lim .inSet) (omega arith) in record {
+        few = omega (arith, length-append t (emptyZone id ∷ []));
+        zones =
+            all-append (soundZone lim c) t (emptyZone id ∷ []) (s .zones)
+            (all-one (soundZone lim c) (emptyZone id)
+            (whole _ (
+              le-leb _ _ h,
+              (whole _ (none, (refl, (refl, tt))), (whole _ (none, (refl, (refl, tt))), (refl, (refl, tt)))),
+            )));
+        ids = pairs-append idsDiffer t (emptyZone id) (s .ids) (sym (none-all (hasId id) t) ∙ ap not fresh);
+        disjoint =
+            pairs-append (zonesApart c) t (emptyZone id) (s .disjoint)
+            (all-make (λ (y : Zone). zonesApart c y (emptyZone id)) t noZone
+            (λ j q. all-make _ (regionsOf (getD t j noZone)) noRegion (λ m w. refl)));
+      }
 
   accepted-keeps : (c : Configuration) (t : List Zone) (k : Kind) (id : ℕ) → SoundTable c t
       → firstRule (requestRules lim c k id t) 0 ≡ 0 → SoundTable c (after k id t)

@@ -8,10 +8,15 @@ use mathlib.Core.Path.{_≡_, refl}
 use lib.ListN.{length}
 use Rattle.lists.specs.Bytes.{Bytes}
 use Rattle.formats.specs.Formats.{got, bad, both, as-type, many, listed, Format, All, ListFits}
-use Rattle.formats.proofs.Formats.{Told, Lawful, lawful-number, lawful-both, lawful-field, lawful-as, lawful-many, lawful-headed, file-back, file-tight, file-refuses, file-ends}
+use Rattle.formats.proofs.Formats.{Told, Lawful, lawful-number, lawful-both, lawful-field, lawful-as, lawful-many}
+use Rattle.formats.proofs.Formats.{lawful-headed, file-back, file-tight, file-refuses, file-ends}
 use Rattle.formats.proofs.Spelled.{spelled-number, spelled-both, spelled-many, spelled-headed, Spelled}
 use Rattle.rules.specs.Limits.{Limits}
-use Rattle.rules.specs.Plan.{short, long, regionTo, regionFrom, regionNumbers, regionField, askedTo, askedFrom, askedField, marksTo, marksFrom, marksSection, regionsSection, setFormat, zoneTo, zoneFrom, zoneFormat, zonesSection, requestsSection, planTo, planFrom, planFormat, readPlan, encode, Short, Long, RegionFits, AskedFits, MarksFit, SetFits, ZoneFits, PlanFits, Asked, Plan}
+use Rattle.rules.specs.Plan.{short, long, regionTo, regionFrom, regionNumbers, regionField, askedTo, askedFrom}
+use Rattle.rules.specs.Plan.{askedField, marksTo, marksFrom, marksSection, regionsSection, setFormat, zoneTo}
+use Rattle.rules.specs.Plan.{zoneFrom, zoneFormat, zonesSection, requestsSection, planTo, planFrom, planFormat}
+use Rattle.rules.specs.Plan.{readPlan, encode, Short, Long, RegionFits, AskedFits, MarksFit, SetFits, ZoneFits}
+use Rattle.rules.specs.Plan.{PlanFits, Asked, Plan}
 use Rattle.rules.specs.Tables.{Zone}
 use Rattle.rules.specs.declared.Region.{Region}
 
@@ -45,7 +50,8 @@ pub lawful-marks : Lawful marksSection MarksFit
 lawful-marks =
     lawful-headed 4 2 2 (λ c. as-type (both short short) marksTo marksFrom) (λ m. 2)
     (λ c m. Short (m .gic) × Short (m .edition))
-    (λ c. lawful-as (both short short) (λ t. Short (t .0) × Short (t .1)) (lawful-both short short Short Short (lawful-number 4) (lawful-number 4)) marksTo marksFrom (λ m. refl) (λ t. refl))
+    (λ c. lawful-as (both short short) (λ t. Short (t .0) × Short (t .1))
+    (lawful-both short short Short Short (lawful-number 4) (lawful-number 4)) marksTo marksFrom (λ m. refl) (λ t. refl))
     (λ c m a z h. omega arith)
 
 module _ (l : Limits) where

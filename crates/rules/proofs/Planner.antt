@@ -53,16 +53,18 @@ module _ (lim : Limits) (say : Sayable lim) where
     configured-fits r e = let (i, h, q) = configured-at lim c ok r e in reach-fits r (ap (inReach lim) q ∙ ok .near i h)
 
     regions-fit : ListFits 4 1 (lim .regions) RegionFits (c .regions)
-    regions-fit = let m : length (c .regions) ≤ lim .regions = ok .most in let s : lim .regions < 256 ^ 4 = say .regions in record {
-      said = omega arith;
-      least = (let g : c .gic < length (c .regions) = ok .gic in omega arith);
-      most = ok .most;
-      fits = (
-        refl,
-        all-places RegionFits (c .regions) noRegion
-            (λ i h. reach-fits (getD (c .regions) i noRegion) (ok .near i h)),
-      );
-    }
+    regions-fit =
+        let m : length (c .regions) ≤ lim .regions = ok .most in
+        let s : lim .regions < 256 ^ 4 = say .regions in record {
+          said = omega arith;
+          least = (let g : c .gic < length (c .regions) = ok .gic in omega arith);
+          most = ok .most;
+          fits = (
+            refl,
+            all-places RegionFits (c .regions) noRegion
+                (λ i h. reach-fits (getD (c .regions) i noRegion) (ok .near i h)),
+          );
+        }
 
     set-fits : (xs : List Region) → soundSet lim c xs ≡ true → SetFits lim xs
     unfolding soundSet
@@ -70,7 +72,12 @@ module _ (lim : Limits) (say : Sayable lim) where
         let h = parts _ e in
         let m : length xs ≤ lim .inSet = leb-true _ _ (h .0) in
         let s : lim .inSet < 256 ^ 4 = say .inSet in
-        record { said = omega arith; least = omega arith; most = m; fits = (refl, all-passing RegionFits (configured c) configured-fits xs (h .1 .0)) }
+        record {
+          said = omega arith;
+          least = omega arith;
+          most = m;
+          fits = (refl, all-passing RegionFits (configured c) configured-fits xs (h .1 .0));
+        }
 
     zone-fits : (z : Zone) → soundZone lim c z ≡ true → ZoneFits lim z
     unfolding soundZone
@@ -80,7 +87,14 @@ module _ (lim : Limits) (say : Sayable lim) where
         (omega arith, (set-fits (z .cpu) (h .1 .0), set-fits (z .iommu) (h .1 .1 .0)))
 
     zones-fit : (t : List Zone) → SoundTable lim c t → ListFits 4 0 (lim .zones) (ZoneFits lim) t
-    zones-fit t s = let m : length t ≤ lim .zones = s .few in let n : lim .zones < 256 ^ 4 = say .zones in record { said = omega arith; least = omega arith; most = s .few; fits = (refl, all-passing (ZoneFits lim) (soundZone lim c) zone-fits t (s .zones)) }
+    zones-fit t s =
+        let m : length t ≤ lim .zones = s .few in
+        let n : lim .zones < 256 ^ 4 = say .zones in record {
+          said = omega arith;
+          least = omega arith;
+          most = s .few;
+          fits = (refl, all-passing (ZoneFits lim) (soundZone lim c) zone-fits t (s .zones));
+        }
 
   -- ---- the planner's plan
   module _ (s : Terminal) (q : List Asked) (full : length (s .config .records) ≡ lim .regions)
@@ -116,4 +130,11 @@ pub plan-for-base : (s : Terminal) (q : List Asked) → ForBase s (planFor s q)
 plan-for-base s q = record { regions = refl; gic = refl; edition = refl; zones = refl }
 
 pub limits-sayable : Sayable limits
-limits-sayable = record { guestReach = omega arith; physReach = omega arith; regions = omega arith; zones = omega arith; inSet = omega arith; requests = omega arith }
+limits-sayable = record {
+  guestReach = omega arith;
+  physReach = omega arith;
+  regions = omega arith;
+  zones = omega arith;
+  inSet = omega arith;
+  requests = omega arith;
+}

@@ -1,6 +1,7 @@
 -- The examples of requests and of translation, by computation on the definitions.
 use mathlib.Core.Path.{refl}
-use Rattle.rules.specs.RequestExamples.{earned, ModelIsSound, FirstIsAnswered, OverlapsShown, LimitsShown, KindsShown, TranslationShown}
+use Rattle.rules.specs.RequestExamples.{earned, ModelIsSound, FirstIsAnswered, OverlapsShown, LimitsShown}
+use Rattle.rules.specs.RequestExamples.{KindsShown, TranslationShown}
 use Rattle.rules.specs.Translation.{translation}
 use Rattle.rules.proofs.Computing.{tableParts, requestParts, translationParts}
 

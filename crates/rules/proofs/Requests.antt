@@ -1,4 +1,5 @@
--- The numbers of a request: each stands once in its kind's order, and an accepted request is one to which no rule applies.
+-- The numbers of a request: each stands once in its kind's order, and an accepted request is one to which no rule
+-- applies.
 use Prim.Native.Nat.{ℕ, _≤_}
 use native.Mathlib.Omega.{arith}
 use mathlib.Core.Bool.{true, false}
@@ -15,7 +16,8 @@ use Rattle.lists.proofs.Tests.{both-false, false-both, none-above}
 use Rattle.rules.specs.Changes.{setAt}
 use Rattle.rules.specs.Limits.{Limits}
 use Rattle.rules.specs.Configuration.{Configuration}
-use Rattle.rules.specs.Requests.{holdsAny, addRules, removeZoneRules, regionRules, setRules, insertRules, removeRules, kindRules, requestRules}
+use Rattle.rules.specs.Requests.{holdsAny, addRules, removeZoneRules, regionRules, setRules, insertRules}
+use Rattle.rules.specs.Requests.{removeRules, kindRules, requestRules}
 use Rattle.rules.specs.Tables.{Zone}
 use Rattle.rules.specs.declared.Kind.{Kind}
 use Rattle.rules.specs.declared.Kind.the-variants.{AddZone, RemoveZone, Insert, Remove, NoRequest}

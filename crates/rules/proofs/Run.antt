@@ -53,9 +53,15 @@ module _ (l : Limits) (c : Configuration) (d : Request) where
       → runFrom l c k t qs ≡ record { place = k + i; inner = answerTo t qs i; table = runs (next l c) t (take i qs) }
   unfolding runs
   run-stops k t [] i h f ne = absurd (omega arith)
-  run-stops k t (q ∷ qs) zero h f ne = let e : k ≡ k + 0 = omega arith in stops-here k t q qs ne ∙ (λ i. record { place = e i; inner = refusal l c t q; table = t })
+  run-stops k t (q ∷ qs) zero h f ne =
+      let e : k ≡ k + 0 = omega arith in
+      stops-here k t q qs ne ∙ (λ i. record { place = e i; inner = refusal l c t q; table = t })
   run-stops k t (q ∷ qs) (suc i) h f ne =
       let e : suc k + i ≡ k + suc i = omega arith in
       goes-on k t q qs (f 0 (omega arith))
       ∙ run-stops (suc k) (next l c t q) qs i (omega arith) (λ j m. f (suc j) (omega arith)) ne
-      ∙ (λ x. record { place = e x; inner = answerTo (next l c t q) qs i; table = runs (next l c) (next l c t q) (take i qs) })
+      ∙ (λ x. record {
+        place = e x;
+        inner = answerTo (next l c t q) qs i;
+        table = runs (next l c) (next l c t q) (take i qs);
+      })

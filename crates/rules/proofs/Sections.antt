@@ -9,7 +9,9 @@ use Rattle.formats.proofs.Formats.{both-got, as-got, file-got, listed-got}
 use Rattle.rules.specs.Applying.{baseOf}
 use Rattle.rules.specs.Configuration.{configOf}
 use Rattle.rules.specs.Limits.{Limits}
-use Rattle.rules.specs.Plan.{short, regionField, setFormat, zoneTo, zoneFrom, zoneFormat, planTo, planFrom, marksSection, regionsSection, zonesSection, requestsSection, planFormat, readPlan, Plan}
+use Rattle.rules.specs.Plan.{short, regionField, setFormat, zoneTo, zoneFrom, zoneFormat, planTo, planFrom}
+use Rattle.rules.specs.Plan.{marksSection, regionsSection, zonesSection, requestsSection, planFormat, readPlan}
+use Rattle.rules.specs.Plan.{Plan}
 use Rattle.rules.specs.Tables.{tableOf, Zone}
 use Rattle.rules.specs.declared.Region.{Region}
 use Rattle.rules.proofs.Stored.{config-back, zones-back, SetsFew}
@@ -40,11 +42,25 @@ module _ (l : Limits) where
     unfolding readPlan
     sections =
         let f0 = file-got (planFormat l) b p t e in
-        let f1 = as-got (both marksSection (both (regionsSection l) (both (zonesSection l) (requestsSection l)))) planTo planFrom (λ x. refl) b p [] f0 in
-        let (v1, em, f2) = both-got marksSection (both (regionsSection l) (both (zonesSection l) (requestsSection l))) b (p .marks) (p .regions, (p .zones, p .asked)) [] f1 in
-        let (v2, er, f3) = both-got (regionsSection l) (both (zonesSection l) (requestsSection l)) v1 (p .regions) (p .zones, p .asked) [] f2 in
+        let f1 =
+        as-got (both marksSection (both (regionsSection l) (both (zonesSection l) (requestsSection l)))) planTo planFrom
+        (λ x. refl) b p [] f0 in
+        let (v1, em, f2) =
+        both-got marksSection (both (regionsSection l) (both (zonesSection l) (requestsSection l))) b (p .marks)
+        (p .regions, (p .zones, p .asked)) [] f1 in
+        let (v2, er, f3) =
+        both-got (regionsSection l) (both (zonesSection l) (requestsSection l)) v1 (p .regions)
+        (p .zones, p .asked) [] f2 in
         let (v3, ez, eq) = both-got (zonesSection l) (requestsSection l) v2 (p .zones) (p .asked) [] f3 in
-        record { afterMarks = v1; afterRegions = v2; afterZones = v3; marks = em; regions = er; zones = ez; requests = eq }
+        record {
+          afterMarks = v1;
+          afterRegions = v2;
+          afterZones = v3;
+          marks = em;
+          regions = er;
+          zones = ez;
+          requests = eq;
+        }
 
     -- ---- counts within limits
     pub few-regions : length (p .regions) ≤ l .regions

@@ -9,11 +9,17 @@ use Rattle.lists.specs.Bytes.{Bytes}
 use Rattle.formats.specs.Formats.{got, bad, both, as-type, listed, Format, ListFits}
 use Rattle.formats.specs.Sizes.{total}
 use Rattle.formats.proofs.Most.{most-number, most-both, most-field, most-as, most-headed, most-listed, file-past, Most}
-use Rattle.formats.proofs.Sizes.{sized-number, sized-both, sized-headed, sized-listed, total-same, total-most, total-replicate, all-replicate, Sized}
+use Rattle.formats.proofs.Sizes.{sized-number, sized-both, sized-headed, sized-listed, total-same, total-most}
+use Rattle.formats.proofs.Sizes.{total-replicate, all-replicate, Sized}
 use Rattle.rules.specs.Limits.{Limits, Sayable}
-use Rattle.rules.specs.Plan.{short, long, regionTo, regionFrom, regionNumbers, regionField, askedTo, askedFrom, askedField, marksTo, marksFrom, marksSection, regionsSection, setFormat, zoneTo, zoneFrom, zoneFormat, zonesSection, requestsSection, planTo, planFrom, planFormat, readPlan, encode, RegionFits, AskedFits, ZoneFits, PlanFits, Asked, Plan}
+use Rattle.rules.specs.Plan.{short, long, regionTo, regionFrom, regionNumbers, regionField, askedTo, askedFrom}
+use Rattle.rules.specs.Plan.{askedField, marksTo, marksFrom, marksSection, regionsSection, setFormat, zoneTo}
+use Rattle.rules.specs.Plan.{zoneFrom, zoneFormat, zonesSection, requestsSection, planTo, planFrom, planFormat}
+use Rattle.rules.specs.Plan.{readPlan, encode, RegionFits, AskedFits, ZoneFits, PlanFits, Asked, Plan}
 use Rattle.rules.specs.Regions.{noRegion}
-use Rattle.rules.specs.Sizes.{shortSize, longSize, regionSize, askedSize, marksSize, regionsSize, requestsSize, setsSize, zoneSize, planSize, longestSize, leastSize, SizesShown, zoneWith, noAsked, planWith}
+use Rattle.rules.specs.Sizes.{shortSize, longSize, regionSize, askedSize, marksSize, regionsSize, requestsSize}
+use Rattle.rules.specs.Sizes.{setsSize, zoneSize, planSize, longestSize, leastSize, SizesShown, zoneWith, noAsked}
+use Rattle.rules.specs.Sizes.{planWith}
 use Rattle.rules.specs.Tables.{Zone}
 use Rattle.rules.specs.declared.Region.{Region}
 use Rattle.rules.proofs.Plan.{no-slack}
@@ -110,13 +116,20 @@ pub counts-length : (l : Limits) (r z c i q : ℕ)
     ≡ marksSize + (regionsSize r + ((shortSize + z * setsSize c i) + requestsSize q))
 unfolding planSize
 counts-length l r z c i q =
-    let zone : zoneSize (zoneWith c i) ≡ setsSize c i = omega (arith, length-replicate c noRegion, length-replicate i noRegion) in
-    let zones : total zoneSize (replicate z (zoneWith c i)) ≡ z * setsSize c i = total-replicate zoneSize z (zoneWith c i) ∙ ap (λ (k : ℕ). z * k) zone in
+    let zone : zoneSize (zoneWith c i) ≡ setsSize c i =
+    omega (arith, length-replicate c noRegion, length-replicate i noRegion) in
+    let zones : total zoneSize (replicate z (zoneWith c i)) ≡ z * setsSize c i =
+    total-replicate zoneSize z (zoneWith c i) ∙ ap (λ (k : ℕ). z * k) zone in
     omega (arith, encoded-length l (planWith r z c i q), zones, length-replicate r noRegion, length-replicate q noAsked)
 
 module _ {A : Type 0} (P : A → Type 0) (x : A) (h : P x) where
   full-list : (lo hi n : ℕ) → lo ≤ n → n ≤ hi → n < 256 ^ 4 → ListFits 4 lo hi P (replicate n x)
-  full-list lo hi n a z s = record { said = omega (arith, length-replicate n x); least = omega (arith, length-replicate n x); most = omega (arith, length-replicate n x); fits = (refl, all-replicate P n x h) }
+  full-list lo hi n a z s = record {
+    said = omega (arith, length-replicate n x);
+    least = omega (arith, length-replicate n x);
+    most = omega (arith, length-replicate n x);
+    fits = (refl, all-replicate P n x h);
+  }
 
 zero-region : RegionFits noRegion
 zero-region = (omega arith, (omega arith, omega arith))
@@ -129,7 +142,8 @@ module _ (l : Limits) (say : Sayable l) (r z c i q : ℕ) where
       let sz : l .zones < 256 ^ 4 = say .zones in
       let ss : l .inSet < 256 ^ 4 = say .inSet in
       let sq : l .requests < 256 ^ 4 = say .requests in
-      let set : (n : ℕ) → n ≤ l .inSet → ListFits 4 0 (l .inSet) RegionFits (replicate n noRegion) = λ n m. full-list RegionFits noRegion zero-region 0 (l .inSet) n (omega arith) m (omega arith) in (
+      let set : (n : ℕ) → n ≤ l .inSet → ListFits 4 0 (l .inSet) RegionFits (replicate n noRegion) =
+      λ n m. full-list RegionFits noRegion zero-region 0 (l .inSet) n (omega arith) m (omega arith) in (
         record { said = omega arith; least = omega arith; most = omega arith; fits = (omega arith, omega arith) },
         (
           full-list RegionFits noRegion zero-region 1 (l .regions) r one mr (omega arith),

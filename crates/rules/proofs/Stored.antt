@@ -7,7 +7,8 @@ use mathlib.Core.List.{List, [], _∷_, _++_, map}
 use mathlib.Core.Path.{_≡_, refl, sym, ap, ap₂, _∙_}
 use borrow.Author.Tests.{leb-true, not-false}
 use lib.Dec.{eqb}
-use lib.ListN.{length, getD, take, drop, replicate, length-map, length-take, length-drop, take-append-drop, List·getD-map}
+use lib.ListN.{length, getD, take, drop, replicate, length-map, length-take, length-drop, take-append-drop}
+use lib.ListN.{List·getD-map}
 use Rattle.lists.specs.First.{any, all}
 use Rattle.lists.specs.Room.{room}
 use Rattle.lists.specs.Tests.{allOf}
@@ -23,7 +24,9 @@ use Rattle.rules.specs.Limits.{Limits}
 use Rattle.rules.specs.Regions.{regionEq, noRegion, used}
 use Rattle.rules.specs.Requests.{refusal, next, standingRules, standing}
 use Rattle.rules.specs.Run.{runFrom}
-use Rattle.rules.specs.Tables.{noZone, noStored, unusedSet, unusedZone, setOf, zoneOf, tableOf, restZero, zeroSet, tidyZone, zeroZone, tidy, soundSet, soundZone, sound, checkTable, Zone, StoredZone, StoredTable}
+use Rattle.rules.specs.Tables.{noZone, noStored, unusedSet, unusedZone, setOf, zoneOf, tableOf, restZero, zeroSet}
+use Rattle.rules.specs.Tables.{tidyZone, zeroZone, tidy, soundSet, soundZone, sound, checkTable, Zone, StoredZone}
+use Rattle.rules.specs.Tables.{StoredTable}
 use Rattle.rules.specs.declared.Checked.the-variants.{Sound}
 use Rattle.rules.specs.declared.Region.{Region}
 use Rattle.rules.specs.declared.Request.{Request}
@@ -70,7 +73,9 @@ all-alike : {A : Type 0} (p : A → Bool) (z : A) → ((x : A) → p x ≡ true 
     → xs ≡ replicate (length xs) z
 unfolding all
 all-alike p z f [] e = refl
-all-alike {A} p z f (x ∷ xs) e = let h = both-true (p x) (all p xs) e in ap₂ (λ (y : A) (l : List A). y ∷ l) (f x (h .0)) (all-alike p z f xs (h .1))
+all-alike {A} p z f (x ∷ xs) e =
+    let h = both-true (p x) (all p xs) e in
+    ap₂ (λ (y : A) (l : List A). y ∷ l) (f x (h .0)) (all-alike p z f xs (h .1))
 
 unused-zeros : (k n : ℕ) (xs : List Region) → length xs ≡ n → any used (drop k xs) ≡ false
     → drop k xs ≡ replicate (n - k) noRegion
@@ -133,11 +138,15 @@ module _ (lim : Limits) where
 
   zone-tidy : (c : Configuration) (z : Zone) → soundZone lim c z ≡ true → tidyZone (storeZone lim z) ≡ true
   unfolding tidyZone soundZone
-  zone-tidy c z e = let h = parts _ e in whole _ (set-tidy c (z .cpu) (h .1 .0), (set-tidy c (z .iommu) (h .1 .1 .0), tt))
+  zone-tidy c z e =
+      let h = parts _ e in
+      whole _ (set-tidy c (z .cpu) (h .1 .0), (set-tidy c (z .iommu) (h .1 .1 .0), tt))
 
   unused-zero : zeroZone (unusedZone lim) ≡ true
   unfolding zeroZone zeroSet
-  unused-zero = let e : zeroSet (unusedSet lim) ≡ true = whole _ (refl, (ap not (none-used (lim .inSet)), tt)) in whole _ (refl, (e, (e, tt)))
+  unused-zero =
+      let e : zeroSet (unusedSet lim) ≡ true = whole _ (refl, (ap not (none-used (lim .inSet)), tt)) in
+      whole _ (refl, (e, (e, tt)))
 
   -- ---- the table
   module _ (c : Configuration) (t : List Zone) (ok : SoundTable lim c t) where
@@ -178,13 +187,17 @@ module _ (lim : Limits) where
       → s ≡ storeConfig lim (configOf s)
   unfolding configOf
   config-stored s len e =
-      let n : length (room (s .count) noRegion (s .records)) ≡ s .count = length-room (s .count) noRegion (s .records) in
-      let r : room (lim .regions) noRegion (room (s .count) noRegion (s .records)) ≡ s .records = refilled (lim .regions) (s .count) noRegion (s .records) len (few-counted lim s len e) (unused-zeros (s .count) (lim .regions) (s .records) len (rest-unused lim s len e)) in
+      let n : length (room (s .count) noRegion (s .records)) ≡ s .count =
+      length-room (s .count) noRegion (s .records) in
+      let r : room (lim .regions) noRegion (room (s .count) noRegion (s .records)) ≡ s .records =
+      refilled (lim .regions) (s .count) noRegion (s .records) len (few-counted lim s len e)
+      (unused-zeros (s .count) (lim .regions) (s .records) len (rest-unused lim s len e)) in
       (λ i. record { count = sym n i; gic = s .gic; records = sym r i })
 
   pub config-back : (c : Configuration) → length (c .regions) ≤ lim .regions → configOf (storeConfig lim c) ≡ c
   unfolding configOf
-  config-back c h = (λ i. record { regions = read-back (lim .regions) noRegion noRegion (c .regions) h i; gic = c .gic })
+  config-back c h =
+      (λ i. record { regions = read-back (lim .regions) noRegion noRegion (c .regions) h i; gic = c .gic })
 
   -- ---- standing: neither 1 nor 2
   module _ (c : StoredConfig) (t : StoredTable) where
@@ -201,7 +214,8 @@ module _ (lim : Limits) where
   unfolding standingRules checkTable
   stored-stands c t e ok =
       let s : isSound (check lim c) ≡ true = ap isSound e ∙ sound-is in
-      let back : sound lim (configOf c) (tableOf (store lim t)) ≡ true = ap (sound lim (configOf c)) (table-back (configOf c) t ok) ∙ parts-sound lim (configOf c) t ok in
+      let back : sound lim (configOf c) (tableOf (store lim t)) ≡ true =
+      ap (sound lim (configOf c)) (table-back (configOf c) t ok) ∙ parts-sound lim (configOf c) t ok in
       sym (quiet-answer (standingRules lim c (store lim t)) 0
       (not-holds _ s, (not-holds _ (whole _ (s, (store-tidy (configOf c) t ok, (back, tt)))), tt)))
 

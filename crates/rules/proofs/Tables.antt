@@ -24,7 +24,9 @@ module _ (lim : Limits) where
     pub configured-at : (r : Region) → configured c r ≡ true
         → (i : ℕ) × (i < length (c .regions)) × (r ≡ getD (c .regions) i noRegion)
     unfolding configured
-    configured-at r e = let (i, h, q) = any-at (regionEq r) (c .regions) noRegion e in (i, h, equal-same r (getD (c .regions) i noRegion) q)
+    configured-at r e =
+        let (i, h, q) = any-at (regionEq r) (c .regions) noRegion e in
+        (i, h, equal-same r (getD (c .regions) i noRegion) q)
 
     position-configured : (i : ℕ) → i < length (c .regions) → configured c (getD (c .regions) i noRegion) ≡ true
     unfolding configured
@@ -35,10 +37,14 @@ module _ (lim : Limits) where
     -- it is not empty, so it overlaps itself, in either kind of address
     not-empty : (r : Region) → configured c r ≡ true → 0 < r .size
     unfolding wellFormed
-    not-empty r e = let (i, h, q) = configured-at r e in ltb-true _ _ (parts _ (ap (wellFormed (lim .page)) q ∙ ok .formed i h) .0)
+    not-empty r e =
+        let (i, h, q) = configured-at r e in
+        ltb-true _ _ (parts _ (ap (wellFormed (lim .page)) q ∙ ok .formed i h) .0)
 
     self-overlap : (a : ℕ) (r : Region) → configured c r ≡ true → overlaps a (r .size) a (r .size) ≡ true
-    self-overlap a r e = let s : 0 < r .size = not-empty r e in overlap-shared a (r .size) a (r .size) .1 (a, ((omega arith, omega arith), (omega arith, omega arith)))
+    self-overlap a r e =
+        let s : 0 < r .size = not-empty r e in
+        overlap-shared a (r .size) a (r .size) .1 (a, ((omega arith, omega arith), (omega arith, omega arith)))
 
     pub overlaps-itself : (r : Region) → configured c r ≡ true → physOverlap r r ≡ true
     overlaps-itself r e = self-overlap (r .p .0) r e

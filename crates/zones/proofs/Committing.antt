@@ -25,7 +25,8 @@ module _ (w : List ℕ) (ch : Change) where
     unfolding Allowed
     drop-there z e = rw e at a
 
-    push-both : (z : ℕ) (s : Side) (r : Region) → ch ≡ Push z s r → (z < length (zonesIn w)) × (length (setAt (zonesIn w) z s) < mostInSet)
+    push-both : (z : ℕ) (s : Side) (r : Region) → ch ≡ Push z s r
+        → (z < length (zonesIn w)) × (length (setAt (zonesIn w) z s) < mostInSet)
     unfolding Allowed
     push-both z s r e = rw e at a
 
@@ -35,7 +36,8 @@ module _ (w : List ℕ) (ch : Change) where
     pub push-room : (z : ℕ) (s : Side) (r : Region) → ch ≡ Push z s r → length (setIn w z s) < mostInSet
     push-room z s r e = rw (set-in w z s (push-there z s r e)) at (push-both z s r e .1)
 
-    cut-both : (z : ℕ) (s : Side) (i : ℕ) → ch ≡ Cut z s i → (z < length (zonesIn w)) × (i < length (setAt (zonesIn w) z s))
+    cut-both : (z : ℕ) (s : Side) (i : ℕ) → ch ≡ Cut z s i
+        → (z < length (zonesIn w)) × (i < length (setAt (zonesIn w) z s))
     unfolding Allowed
     cut-both z s i e = rw e at a
 
@@ -58,10 +60,12 @@ module _ (w : List ℕ) (ch : Change) where
     unfolding changed
     drop-done z e h = rw e h
 
-    pub push-done : (z : ℕ) (s : Side) (r : Region) → ch ≡ Push z s r → u ≡ wordsOf (pushed z s r (zonesIn w)) → u ≡ wordsOf (changed ch (zonesIn w))
+    pub push-done : (z : ℕ) (s : Side) (r : Region) → ch ≡ Push z s r → u ≡ wordsOf (pushed z s r (zonesIn w))
+        → u ≡ wordsOf (changed ch (zonesIn w))
     unfolding changed
     push-done z s r e h = rw e h
 
-    pub cut-done : (z : ℕ) (s : Side) (i : ℕ) → ch ≡ Cut z s i → u ≡ wordsOf (cut z s i (zonesIn w)) → u ≡ wordsOf (changed ch (zonesIn w))
+    pub cut-done : (z : ℕ) (s : Side) (i : ℕ) → ch ≡ Cut z s i → u ≡ wordsOf (cut z s i (zonesIn w))
+        → u ≡ wordsOf (changed ch (zonesIn w))
     unfolding changed
     cut-done z s i e h = rw e h

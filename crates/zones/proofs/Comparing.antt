@@ -23,15 +23,19 @@ pub not-as-many : (a b : List ℕ) → (length a ≡ length b → ⊥) → false
 not-as-many a b ne = sym (false-of (sameList eqb a b) (λ e. ne (ap length (same-words a b e))))
 
 -- those from k on give the answer for all
-module _ (a b : List ℕ) (k : ℕ) (r : Bool) (inv : sameList eqb (drop k a) (drop k b) ≡ r) (l : length a ≡ length b) where
+module _ (a b : List ℕ) (k : ℕ) (r : Bool) (inv : sameList eqb (drop k a) (drop k b) ≡ r)
+    (l : length a ≡ length b) where
   turn : k < length a → (eqb (getD a k 0) (getD b k 0) && sameList eqb (drop (k + 1) a) (drop (k + 1) b)) ≡ r
   unfolding sameList
   turn h =
       let e : suc k ≡ k + 1 = omega arith in
-      sym (ap₂ (λ (x y : List ℕ). sameList eqb x y) (drop-cons a k 0 h ∙ ap (λ (j : ℕ). getD a k 0 ∷ drop j a) e) (drop-cons b k 0 (omega arith) ∙ ap (λ (j : ℕ). getD b k 0 ∷ drop j b) e)) ∙ inv
+      sym (ap₂ (λ (x y : List ℕ). sameList eqb x y) (drop-cons a k 0 h ∙ ap (λ (j : ℕ). getD a k 0 ∷ drop j a) e)
+      (drop-cons b k 0 (omega arith) ∙ ap (λ (j : ℕ). getD b k 0 ∷ drop j b) e))
+      ∙ inv
 
   pub words-differ : k < length a → (getD a k 0 ≡ getD b k 0 → ⊥) → false ≡ r
-  words-differ h ne = sym (ap (λ (t : Bool). t && sameList eqb (drop (k + 1) a) (drop (k + 1) b)) (ne-eqb _ _ ne)) ∙ turn h
+  words-differ h ne =
+      sym (ap (λ (t : Bool). t && sameList eqb (drop (k + 1) a) (drop (k + 1) b)) (ne-eqb _ _ ne)) ∙ turn h
 
   pub words-agree : k < length a → getD a k 0 ≡ getD b k 0 → sameList eqb (drop (k + 1) a) (drop (k + 1) b) ≡ r
   words-agree h e = sym (ap (λ (t : Bool). t && sameList eqb (drop (k + 1) a) (drop (k + 1) b)) (eq-eqb _ _ e)) ∙ turn h

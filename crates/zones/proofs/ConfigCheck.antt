@@ -30,11 +30,15 @@ use Rattle.zones.proofs.Blocks.{free-zero}
 module _ (w : List ℕ) (b n k : ℕ) (p : Region → Bool) (found : k ≡ firstIndex p (recordsAt w b n)) where
   pub some-record : k < n → any p (recordsAt w b n) ≡ true
   unfolding recordsAt
-  some-record h = any-first p (recordsAt w b n) ∙ lt-ltb (firstIndex p (recordsAt w b n)) (length (recordsAt w b n)) (omega (arith, length-tab n (recordAt w b)))
+  some-record h =
+      any-first p (recordsAt w b n)
+      ∙ lt-ltb (firstIndex p (recordsAt w b n)) (length (recordsAt w b n)) (omega (arith, length-tab n (recordAt w b)))
 
   pub no-record : n ≤ k → any p (recordsAt w b n) ≡ false
   unfolding recordsAt
-  no-record h = any-first p (recordsAt w b n) ∙ le-ltb (firstIndex p (recordsAt w b n)) (length (recordsAt w b n)) (omega (arith, length-tab n (recordAt w b)))
+  no-record h =
+      any-first p (recordsAt w b n)
+      ∙ le-ltb (firstIndex p (recordsAt w b n)) (length (recordsAt w b n)) (omega (arith, length-tab n (recordAt w b)))
 
 -- ---- whether some record past the count is used, by whether the words of those records are zero
 module _ (w : List ℕ) (n : ℕ) (t : Bool) (h : n ≤ mostRegions) (e : t ≡ zeros w (configRecords + n * regionWords) (configWords - (configRecords + n * regionWords))) where
@@ -52,12 +56,16 @@ module _ (w : List ℕ) (n : ℕ) (t : Bool) (h : n ≤ mostRegions) (e : t ≡ 
 
 -- ---- the rules at a position, where r is the record that was read there
 pub rules-at : (w : List ℕ) (i : ℕ) (r : Region) (f : Checked) → r ≡ recordAt w configRecords i → i < mostRegions
-    → f ≡ firstRule (Malformed i when not (wellFormed (limits .page) r) ∷ OutOfReach i when not (inReach limits r) ∷ Overlap i (firstIndex (physOverlap r) (recordsAt w configRecords i)) when any (physOverlap r) (recordsAt w configRecords i) ∷ []) Sound
+    → f ≡ firstRule (Malformed i when not (wellFormed (limits .page) r) ∷ OutOfReach i when not (inReach limits r)
+    ∷ Overlap i (firstIndex (physOverlap r) (recordsAt w configRecords i)) when any (physOverlap r)
+    (recordsAt w configRecords i) ∷ []) Sound
     → f ≡ firstRule (positionRules limits (allRecords w) i) Sound
 unfolding positionRules recordsAt
 rules-at w i r f er h e =
-    let here : getD (allRecords w) i noRegion ≡ r = getD-tab mostRegions (recordAt w configRecords) i noRegion h ∙ sym er in
-    let earlier : take i (allRecords w) ≡ recordsAt w configRecords i = take-tab mostRegions i (recordAt w configRecords) (omega arith) in
+    let here : getD (allRecords w) i noRegion ≡ r =
+    getD-tab mostRegions (recordAt w configRecords) i noRegion h ∙ sym er in
+    let earlier : take i (allRecords w) ≡ recordsAt w configRecords i =
+    take-tab mostRegions i (recordAt w configRecords) (omega arith) in
     rw (here, earlier) e
 
 -- ---- what a `let .. else` tells of a verdict, by its tag
@@ -71,7 +79,9 @@ is-sound (OutOfReach i) t = absurd (eqb-false 5 0 refl t)
 is-sound (Overlap i k) t = absurd (eqb-false 6 0 refl t)
 
 pub is-fault : (v : Checked) → OneOf (1 ∷ 2 ∷ 3 ∷ 4 ∷ 5 ∷ 6 ∷ []) (tagOf the-type v) → v ≡ Sound → ⊥
-is-fault v t e = miss (1 ∷ 2 ∷ 3 ∷ 4 ∷ 5 ∷ 6 ∷ []) 0 tt (subst (λ (u : Checked). OneOf (1 ∷ 2 ∷ 3 ∷ 4 ∷ 5 ∷ 6 ∷ []) (tagOf the-type u)) e t)
+is-fault v t e =
+    miss (1 ∷ 2 ∷ 3 ∷ 4 ∷ 5 ∷ 6 ∷ []) 0 tt (subst
+    (λ (u : Checked). OneOf (1 ∷ 2 ∷ 3 ∷ 4 ∷ 5 ∷ 6 ∷ []) (tagOf the-type u)) e t)
 
 pub not-zero-at : (k m : ℕ) → k ≡ m → NotZero k ≡ NotZero m
 not-zero-at k m e = ap NotZero e

@@ -44,7 +44,11 @@ module _ (w : List ℕ) (ok : ConfigPassed w) where
   gic-same = refl
 
   pub gic-is : (getD w configGic 0 ≡ configIn w .gic) × (getD w configGic 0 < mostRegions)
-  gic-is = (gic-same, (let g : configIn w .gic < length (configIn w .regions) = config-sound .gic in omega (arith, gic-same, count-long, few)))
+  gic-is = (
+    gic-same,
+    (let g : configIn w .gic < length (configIn w .regions) = config-sound .gic in
+        omega (arith, gic-same, count-long, few)),
+  )
 
   -- its regions are its first records
   pub regions-in : configIn w .regions ≡ recordsAt w configRecords (length (configIn w .regions))
@@ -52,20 +56,29 @@ module _ (w : List ℕ) (ok : ConfigPassed w) where
   regions-in =
       let n : ℕ = getD w configCount 0 in
       let f : n ≤ mostRegions = few in
-      room-take n noRegion (allRecords w) (omega (arith, recs-long)) ∙ take-tab mostRegions n (recordAt w configRecords) f ∙ ap (λ (m : ℕ). tab m (recordAt w configRecords)) (sym count-long)
+      room-take n noRegion (allRecords w) (omega (arith, recs-long))
+      ∙ take-tab mostRegions n (recordAt w configRecords) f
+      ∙ ap (λ (m : ℕ). tab m (recordAt w configRecords)) (sym count-long)
 
   pub position-in : (i : ℕ) → i < length (configIn w .regions) → i < mostRegions
   position-in i h = let m : length (configIn w .regions) ≤ mostRegions = config-sound .most in omega arith
 
-  pub region-is : (i : ℕ) (r : Region) → i < length (configIn w .regions) → r ≡ recordAt w configRecords i → r ≡ getD (configIn w .regions) i noRegion
+  pub region-is : (i : ℕ) (r : Region) → i < length (configIn w .regions) → r ≡ recordAt w configRecords i
+      → r ≡ getD (configIn w .regions) i noRegion
   unfolding recordsAt
-  region-is i r h e = e ∙ sym (ap (λ (rs : List Region). getD rs i noRegion) regions-in ∙ getD-tab (length (configIn w .regions)) (recordAt w configRecords) i noRegion h)
+  region-is i r h e =
+      e ∙ sym (ap (λ (rs : List Region). getD rs i noRegion) regions-in
+      ∙ getD-tab (length (configIn w .regions)) (recordAt w configRecords) i noRegion h)
 
-  pub gic-region-is : (i : ℕ) (r : Region) → i ≡ configIn w .gic → r ≡ recordAt w configRecords i → r ≡ gicOf (configIn w)
+  pub gic-region-is : (i : ℕ) (r : Region) → i ≡ configIn w .gic → r ≡ recordAt w configRecords i
+      → r ≡ gicOf (configIn w)
   unfolding gicOf
-  gic-region-is i r e f = let g : configIn w .gic < length (configIn w .regions) = config-sound .gic in region-is i r (omega arith) f ∙ ap (λ (j : ℕ). getD (configIn w .regions) j noRegion) e
+  gic-region-is i r e f =
+      let g : configIn w .gic < length (configIn w .regions) = config-sound .gic in
+      region-is i r (omega arith) f ∙ ap (λ (j : ℕ). getD (configIn w .regions) j noRegion) e
 
-  pub configured-is : (r : Region) (n k : ℕ) → n ≡ length (configIn w .regions) → k ≡ firstIndex (regionEq r) (recordsAt w configRecords n) → ltb k n ≡ configured (configIn w) r
+  pub configured-is : (r : Region) (n k : ℕ) → n ≡ length (configIn w .regions)
+      → k ≡ firstIndex (regionEq r) (recordsAt w configRecords n) → ltb k n ≡ configured (configIn w) r
   unfolding configured
   configured-is r n k en ek =
       let rs : List Region = configIn w .regions in

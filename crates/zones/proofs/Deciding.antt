@@ -25,7 +25,8 @@ use Rattle.rules.specs.declared.Region.{Region}
 use Rattle.rules.specs.declared.Request.{Request}
 use Rattle.rules.specs.declared.Side.{Side}
 use Rattle.rules.specs.declared.Side.the-variants.{Cpu, Iommu}
-use Rattle.zones.specs.Decide.{refusing, decidedAdd, decidedDrop, decidedInsert, decidedCut, decidedKind, decided, sharedElsewhere, Ready}
+use Rattle.zones.specs.Decide.{refusing, decidedAdd, decidedDrop, decidedInsert, decidedCut, decidedKind, decided}
+use Rattle.zones.specs.Decide.{sharedElsewhere, Ready}
 use Rattle.zones.specs.Holding.{holds}
 use Rattle.zones.specs.View.{configIn, setIn, zonesIn}
 use Rattle.zones.specs.Words.{Within}
@@ -46,7 +47,8 @@ module _ (us vs : List (Rule ℕ)) (ch : Change) (n : ℕ) (said : n ≡ firstRu
       first ((k, true) ∷ ws) e = ap Refuse e
       first ((k, false) ∷ ws) e = first ws e
 
-  pub stage-passes : (d : Change) → aboveZero us ≡ true → n ≡ 0 → d ≡ firstRule (refusing vs) ch → d ≡ firstRule (refusing (us ++ vs)) ch
+  pub stage-passes : (d : Change) → aboveZero us ≡ true → n ≡ 0 → d ≡ firstRule (refusing vs) ch
+      → d ≡ firstRule (refusing (us ++ vs)) ch
   unfolding firstRule aboveZero all
   stage-passes d z f g = first us z said
     where
@@ -68,7 +70,8 @@ pub region-above : (c : Configuration) (s : Side) (r : Region) → aboveZero (re
 unfolding regionRules aboveZero all
 region-above c s r = refl
 
-pub set-above : (c : Configuration) (k : ℕ) (s : Side) (r : Region) (t : List Zone) → aboveZero (setRules limits c k s r t) ≡ true
+pub set-above : (c : Configuration) (k : ℕ) (s : Side) (r : Region) (t : List Zone)
+    → aboveZero (setRules limits c k s r t) ≡ true
 unfolding setRules aboveZero all
 set-above c k s r t = refl
 
@@ -93,7 +96,8 @@ module _ (t : List Zone) (n : ℕ) (en : n ≡ length t) where
   pub table-not-full : n < mostZones → leb mostZones (length t) ≡ false
   table-not-full h = lt-leb mostZones (length t) (omega arith)
 
-pub found-at : (w : List ℕ) (id z n : ℕ) → z ≡ firstIndex (hasId id) (zonesIn w) → n ≡ length (zonesIn w) → z < n → z < length (zonesIn w)
+pub found-at : (w : List ℕ) (id z n : ℕ) → z ≡ firstIndex (hasId id) (zonesIn w) → n ≡ length (zonesIn w) → z < n
+    → z < length (zonesIn w)
 found-at w id z n ez en h = omega arith
 
 -- ---- the set of a zone that is there
@@ -128,10 +132,12 @@ module _ (w : List ℕ) (z : ℕ) (h : z < length (zonesIn w)) (n : ℕ) (en : n
   unfolding holdsAny
   iommu-holds m q em =
       ap (ltb 0) (long w z Iommu h m em)
-      ∙ sym (ap (λ (b : Bool). b || ltb 0 (length (setAt (zonesIn w) z Iommu))) (le-ltb 0 (length (setAt (zonesIn w) z Cpu)) (omega (arith, long w z Cpu h n en))))
+      ∙ sym (ap (λ (b : Bool). b || ltb 0 (length (setAt (zonesIn w) z Iommu)))
+      (le-ltb 0 (length (setAt (zonesIn w) z Cpu)) (omega (arith, long w z Cpu h n en))))
 
 -- the same where the zone was looked for by its id
-module _ (w : List ℕ) (id z n : ℕ) (ez : z ≡ firstIndex (hasId id) (zonesIn w)) (en : n ≡ length (zonesIn w)) (h : z < n) where
+module _ (w : List ℕ) (id z n : ℕ) (ez : z ≡ firstIndex (hasId id) (zonesIn w)) (en : n ≡ length (zonesIn w))
+    (h : z < n) where
   here : z < length (zonesIn w)
   here = omega arith
 
@@ -141,23 +147,34 @@ module _ (w : List ℕ) (id z n : ℕ) (ez : z ≡ firstIndex (hasId id) (zonesI
   pub dropped-there : Drop z ≡ Drop (find id (zonesIn w))
   dropped-there = ap Drop ez
 
-  module _ (s : Side) (m i : ℕ) (r : Region) (em : m ≡ length (setIn w z s)) (ei : i ≡ firstIndex (regionEq r) (setIn w z s)) where
+  module _ (s : Side) (m i : ℕ) (r : Region) (em : m ≡ length (setIn w z s))
+      (ei : i ≡ firstIndex (regionEq r) (setIn w z s)) where
     pub region-held : i < m → not (heldIn r (setAt (zonesIn w) (find id (zonesIn w)) s)) ≡ false
-    region-held q = ap not (ap (λ (k : ℕ). heldIn r (setAt (zonesIn w) k s)) (sym ez) ∙ in-set w z s here m em (regionEq r) i ei q)
+    region-held q =
+        ap not (ap (λ (k : ℕ). heldIn r (setAt (zonesIn w) k s)) (sym ez) ∙ in-set w z s here m em (regionEq r) i ei q)
 
     pub region-not-held : m ≤ i → not (heldIn r (setAt (zonesIn w) (find id (zonesIn w)) s)) ≡ true
-    region-not-held q = ap not (ap (λ (k : ℕ). heldIn r (setAt (zonesIn w) k s)) (sym ez) ∙ not-in-set w z s here m em (regionEq r) i ei q)
+    region-not-held q =
+        ap not (ap (λ (k : ℕ). heldIn r (setAt (zonesIn w) k s)) (sym ez)
+        ∙ not-in-set w z s here m em (regionEq r) i ei q)
 
-    pub cut-there : Cut z s i ≡ Cut (find id (zonesIn w)) s (firstIndex (regionEq r) (setAt (zonesIn w) (find id (zonesIn w)) s))
+    pub cut-there : Cut z s i ≡ Cut (find id (zonesIn w)) s
+        (firstIndex (regionEq r) (setAt (zonesIn w) (find id (zonesIn w)) s))
     cut-there =
-        ap₂ (λ (k j : ℕ). Cut k s j) ez (ei ∙ ap (firstIndex (regionEq r)) (sym (set-in w z s here)) ∙ ap (λ (k : ℕ). firstIndex (regionEq r) (setAt (zonesIn w) k s)) ez)
+        ap₂ (λ (k j : ℕ). Cut k s j) ez (ei
+        ∙ ap (firstIndex (regionEq r)) (sym (set-in w z s here))
+        ∙ ap (λ (k : ℕ). firstIndex (regionEq r) (setAt (zonesIn w) k s)) ez)
 
   -- the last stage of an insert looks at the position
-  pub last-at : (c : Configuration) (s : Side) (r : Region) (d : Change) → d ≡ firstRule (refusing (setRules limits c z s r (zonesIn w))) (Push z s r) → d ≡ firstRule (refusing (setRules limits c (find id (zonesIn w)) s r (zonesIn w))) (Push (find id (zonesIn w)) s r)
+  pub last-at : (c : Configuration) (s : Side) (r : Region) (d : Change)
+      → d ≡ firstRule (refusing (setRules limits c z s r (zonesIn w))) (Push z s r)
+      → d ≡ firstRule (refusing (setRules limits c (find id (zonesIn w)) s r (zonesIn w)))
+      (Push (find id (zonesIn w)) s r)
   last-at c s r d e = e ∙ ap (λ (k : ℕ). firstRule (refusing (setRules limits c k s r (zonesIn w))) (Push k s r)) ez
 
 -- ---- what 9 to 12 leave
-module _ (c : Configuration) (s : Side) (r : Region) (n : ℕ) (said : n ≡ firstRule (regionRules limits c s r) 0) (none : n ≡ 0) where
+module _ (c : Configuration) (s : Side) (r : Region) (n : ℕ) (said : n ≡ firstRule (regionRules limits c s r) 0)
+    (none : n ≡ 0) where
   clear : (m : ℕ) → testOf (λ k. k) m (regionRules limits c s r) ≡ false
   clear = silent-number (regionRules limits c s r) (region-above c s r) (sym said ∙ none)
 
@@ -170,7 +187,8 @@ module _ (c : Configuration) (s : Side) (r : Region) (n : ℕ) (said : n ≡ fir
   region-off-gic = clear 12
 
 -- 12
-pub gic-cpu : (c : Configuration) (s : Side) (r g : Region) (t : Bool) → s ≡ Cpu → g ≡ gicOf c → t ≡ physOverlap r g → t ≡ onGic c s r
+pub gic-cpu : (c : Configuration) (s : Side) (r g : Region) (t : Bool) → s ≡ Cpu → g ≡ gicOf c → t ≡ physOverlap r g
+    → t ≡ onGic c s r
 unfolding onGic
 gic-cpu c s r g t e q h = rw e (h ∙ ap (physOverlap r) q)
 
@@ -179,27 +197,38 @@ unfolding onGic
 gic-iommu c s r e = rw e
 
 -- ---- 14
-module _ (c t : List ℕ) (ok : Ready c t) (z : ℕ) (s : Side) (r : Region) (h : z < length (zonesIn t)) (there : configured (configIn c) r ≡ true) (off : onGic (configIn c) s r ≡ false)
-    (n i : ℕ) (en : n ≡ length (setIn t z s)) (ei : i ≡ firstIndex (regionEq r) (setIn t z s)) (q : n ≤ i) (b v : Bool) where
-  pub forbidden-told : b ≡ sharedElsewhere (configIn c) z r (zonesIn t) → b ≡ v → forbidden (configIn c) z s r (zonesIn t) ≡ v
-  forbidden-told e f = forbidden-shared (configIn c) (zonesIn t) z s r (config-sound c (ok .config)) (ok .table) h there off (not-in-set t z s h n en (regionEq r) i ei q) ∙ sym e ∙ f
+module _ (c t : List ℕ) (ok : Ready c t) (z : ℕ) (s : Side) (r : Region) (h : z < length (zonesIn t))
+    (there : configured (configIn c) r ≡ true) (off : onGic (configIn c) s r ≡ false)
+    (n i : ℕ) (en : n ≡ length (setIn t z s)) (ei : i ≡ firstIndex (regionEq r) (setIn t z s)) (q : n ≤ i)
+    (b v : Bool) where
+  pub forbidden-told : b ≡ sharedElsewhere (configIn c) z r (zonesIn t) → b ≡ v
+      → forbidden (configIn c) z s r (zonesIn t) ≡ v
+  forbidden-told e f =
+      forbidden-shared (configIn c) (zonesIn t) z s r (config-sound c (ok .config)) (ok .table) h there off
+      (not-in-set t z s h n en (regionEq r) i ei q)
+      ∙ sym e
+      ∙ f
 
-module _ (c : Configuration) (k : ℕ) (r g : Region) (t : List Zone) (b : Bool) (eg : g ≡ gicOf c) (eb : b ≡ regionEq r g) where
+module _ (c : Configuration) (k : ℕ) (r g : Region) (t : List Zone) (b : Bool) (eg : g ≡ gicOf c)
+    (eb : b ≡ regionEq r g) where
   pub gic-shared : b ≡ true → false ≡ sharedElsewhere c k r t
   unfolding sharedElsewhere
   gic-shared f = sym (ap (λ (x : Bool). not x && any (holds r) (others k t)) (ap (regionEq r) (sym eg) ∙ sym eb ∙ f))
 
   pub private-shared : b ≡ false → (x : Bool) → x ≡ any (holds r) (others k t) → x ≡ sharedElsewhere c k r t
   unfolding sharedElsewhere
-  private-shared f x e = e ∙ sym (ap (λ (y : Bool). not y && any (holds r) (others k t)) (ap (regionEq r) (sym eg) ∙ sym eb ∙ f))
+  private-shared f x e =
+      e ∙ sym (ap (λ (y : Bool). not y && any (holds r) (others k t)) (ap (regionEq r) (sym eg) ∙ sym eb ∙ f))
 
-module _ (w : List ℕ) (r : Region) (z n k : ℕ) (h : z < length (zonesIn w)) (en : n ≡ length (zonesIn w)) (ek : k ≡ firstFrom (holds r) (zonesIn w) 0) where
+module _ (w : List ℕ) (r : Region) (z n k : ℕ) (h : z < length (zonesIn w)) (en : n ≡ length (zonesIn w))
+    (ek : k ≡ firstFrom (holds r) (zonesIn w) 0) where
   pub elsewhere-first : (k ≡ z → ⊥) → ltb k n ≡ any (holds r) (others z (zonesIn w))
   elsewhere-first ne =
       let f : k ≡ firstIndex (holds r) (zonesIn w) = ek ∙ from-zero (holds r) (zonesIn w) in
       ap₂ ltb f en ∙ sym (others-first (holds r) (zonesIn w) noZone z h (λ q. ne (f ∙ q)))
 
-  pub elsewhere-later : k ≡ z → (j : ℕ) → j ≡ firstFrom (holds r) (zonesIn w) (z + 1) → ltb j n ≡ any (holds r) (others z (zonesIn w))
+  pub elsewhere-later : k ≡ z → (j : ℕ) → j ≡ firstFrom (holds r) (zonesIn w) (z + 1)
+      → ltb j n ≡ any (holds r) (others z (zonesIn w))
   elsewhere-later e j ej =
       let f : k ≡ firstIndex (holds r) (zonesIn w) = ek ∙ from-zero (holds r) (zonesIn w) in
       ap₂ ltb ej en ∙ sym (others-later (holds r) (zonesIn w) noZone z h (sym f ∙ e))
@@ -214,7 +243,8 @@ module _ (c : Configuration) (t : List Zone) (q : Request) (d : Change) where
   unfolding decided decidedKind
   kind-drop e h = rw e h
 
-  pub kind-insert : (s : Side) (r : Region) → q .kind ≡ Insert s r → d ≡ decidedInsert c (q .zone) s r t → d ≡ decided c t q
+  pub kind-insert : (s : Side) (r : Region) → q .kind ≡ Insert s r → d ≡ decidedInsert c (q .zone) s r t
+      → d ≡ decided c t q
   unfolding decided decidedKind
   kind-insert s r e h = rw e h
 

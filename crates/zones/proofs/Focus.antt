@@ -10,7 +10,8 @@ use Rattle.lists.specs.Room.{room}
 use Rattle.lists.specs.Words.{counted}
 use Rattle.lists.proofs.Places.{tab-list}
 use Rattle.lists.proofs.Room.{length-room, room-set}
-use Rattle.lists.proofs.Words.{flat-set, length-flat, length-counted, front, rear, length-front-of, count-at, element-at}
+use Rattle.lists.proofs.Words.{flat-set, length-flat, length-counted, front, rear, length-front-of, count-at}
+use Rattle.lists.proofs.Words.{element-at}
 use Rattle.rules.specs.Changes.{setAt, withSide, putSet}
 use Rattle.rules.specs.Limits.{mostZones, mostInSet}
 use Rattle.rules.specs.Regions.{noRegion}
@@ -18,7 +19,8 @@ use Rattle.rules.specs.Tables.{noZone, sideOf, Zone}
 use Rattle.rules.specs.declared.Region.{Region}
 use Rattle.rules.specs.declared.Side.{Side}
 use Rattle.rules.specs.declared.Side.the-variants.{Cpu, Iommu}
-use Rattle.zones.specs.Layout.{regionWords, setWords, zoneWords, tableWords, zoneBase, sideWords, setBase, recordBase}
+use Rattle.zones.specs.Layout.{regionWords, setWords, zoneWords, tableWords, zoneBase, sideWords, setBase}
+use Rattle.zones.specs.Layout.{recordBase}
 use Rattle.zones.specs.Records.{regionAt, wordsOfRegion, recordAt, recordsAt}
 use Rattle.zones.specs.View.{recordIn, setIn, zoneIn, zonesIn}
 use Rattle.zones.specs.Words.{wordsOfSet, wordsOfZone, wordsOf, Within, Packed}
@@ -31,7 +33,8 @@ set-wide xs = length-counted wordsOfRegion regionWords region-wide mostInSet noR
 
 pub zone-wide : (z : Zone) → length (wordsOfZone z) ≡ zoneWords
 unfolding wordsOfZone
-zone-wide z = omega (arith, length-append (wordsOfSet (z .cpu)) (wordsOfSet (z .iommu)), set-wide (z .cpu), set-wide (z .iommu))
+zone-wide z =
+    omega (arith, length-append (wordsOfSet (z .cpu)) (wordsOfSet (z .iommu)), set-wide (z .cpu), set-wide (z .iommu))
 
 pub table-wide : (m : List Zone) → length (wordsOf m) ≡ tableWords
 unfolding wordsOf
@@ -51,7 +54,8 @@ unfoldable pub zonePost : Side → Zone → List ℕ
 zonePost Cpu z = wordsOfSet (z .iommu)
 zonePost Iommu z = []
 
-zone-set : (s : Side) (xs : List Region) (z : Zone) → wordsOfZone (withSide s xs z) ≡ zonePre s z ++ (wordsOfSet xs ++ zonePost s z)
+zone-set : (s : Side) (xs : List Region) (z : Zone)
+    → wordsOfZone (withSide s xs z) ≡ zonePre s z ++ (wordsOfSet xs ++ zonePost s z)
 unfolding wordsOfZone withSide zonePre zonePost
 zone-set Cpu xs z = refl
 zone-set Iommu xs z = ap (λ (l : List ℕ). z .id ∷ (wordsOfSet (z .cpu) ++ l)) (sym (append-nil (wordsOfSet xs)))
@@ -77,19 +81,28 @@ module _ (m : List Zone) (z : ℕ) (s : Side) where
   module _ (h : z < length m) (k : length m ≤ mostZones) where
     zones-long : length (length m ∷ flatMap wordsOfZone (take z (room mostZones noZone m))) ≡ zoneBase z
     zones-long =
-        omega (arith, length-flat wordsOfZone zoneWords zone-wide (take z (room mostZones noZone m)), length-take z (room mostZones noZone m), length-room mostZones noZone m)
+        omega (
+          arith,
+          length-flat wordsOfZone zoneWords zone-wide (take z (room mostZones noZone m)),
+          length-take z (room mostZones noZone m),
+          length-room mostZones noZone m,
+        )
 
     pub pre-long : length pre ≡ setBase z s
     unfolding pre setBase
-    pre-long = length-append (length m ∷ flatMap wordsOfZone (take z (room mostZones noZone m))) (zonePre s (getD m z noZone)) ∙ ap₂ (λ (a b : ℕ). a + b) zones-long (zonePre-long s (getD m z noZone))
+    pre-long =
+        length-append (length m ∷ flatMap wordsOfZone (take z (room mostZones noZone m))) (zonePre s (getD m z noZone))
+        ∙ ap₂ (λ (a b : ℕ). a + b) zones-long (zonePre-long s (getD m z noZone))
 
     pub focus : (xs : List Region) → wordsOf (putSet z s xs m) ≡ pre ++ (wordsOfSet xs ++ post)
     unfolding wordsOf putSet pre post counted
     focus xs =
         let y : Zone = getD m z noZone in
         let p : List Zone = room mostZones noZone m in
-        let e : flatMap wordsOfZone (room mostZones noZone (set m z (withSide s xs y))) ≡ flatMap wordsOfZone (take z p) ++ (wordsOfZone (withSide s xs y) ++ flatMap wordsOfZone (drop (suc z) p)) =
-        ap (flatMap wordsOfZone) (room-set mostZones noZone m z (withSide s xs y) h k) ∙ flat-set wordsOfZone p z (withSide s xs y) (omega (arith, length-room mostZones noZone m)) in
+        let e : flatMap wordsOfZone (room mostZones noZone (set m z (withSide s xs y)))
+        ≡ flatMap wordsOfZone (take z p) ++ (wordsOfZone (withSide s xs y) ++ flatMap wordsOfZone (drop (suc z) p)) =
+        ap (flatMap wordsOfZone) (room-set mostZones noZone m z (withSide s xs y) h k)
+        ∙ flat-set wordsOfZone p z (withSide s xs y) (omega (arith, length-room mostZones noZone m)) in
         rw (length-set m z (withSide s xs y), e, zone-set s xs y) (simp append-assoc)
 
     pub put-same : putSet z s (setAt m z s) m ≡ m
@@ -113,12 +126,23 @@ module _ (m : List Zone) (in-limits : Within m) (z : ℕ) (h : z < length m) whe
       let k : length m ≤ mostZones = in-limits .zones in
       let q : length xs ≤ mostInSet = in-limits .sets z s h in
       let f : w ≡ pre m z s ++ (wordsOfSet xs ++ post m z s) = focus-same m z s h k in
-      let count : getD w b 0 ≡ length xs = ap (λ (l : List ℕ). getD l b 0) f ∙ count-at mostInSet noRegion wordsOfRegion regionWords region-wide (pre m z s) (post m z s) b (pre-long m z s h k) xs 0 in
-      let a : ℕ → List ℕ = front mostInSet noRegion wordsOfRegion regionWords region-wide (pre m z s) (post m z s) b (pre-long m z s h k) xs in
-      let c : ℕ → List ℕ = rear mostInSet noRegion wordsOfRegion regionWords region-wide (pre m z s) (post m z s) b (pre-long m z s h k) xs in
+      let count : getD w b 0 ≡ length xs =
+      ap (λ (l : List ℕ). getD l b 0) f
+      ∙ count-at mostInSet noRegion wordsOfRegion regionWords region-wide (pre m z s) (post m z s) b
+      (pre-long m z s h k) xs 0 in
+      let a : ℕ → List ℕ =
+      front mostInSet noRegion wordsOfRegion regionWords region-wide (pre m z s) (post m z s) b
+      (pre-long m z s h k) xs in
+      let c : ℕ → List ℕ =
+      rear mostInSet noRegion wordsOfRegion regionWords region-wide (pre m z s) (post m z s) b
+      (pre-long m z s h k) xs in
       let each : (i : ℕ) → i < length xs → recordIn w z s i ≡ getD xs i noRegion = λ i t.
-      ap (λ (l : List ℕ). regionAt l (recordBase b i)) (f ∙ element-at mostInSet noRegion wordsOfRegion regionWords region-wide (pre m z s) (post m z s) b (pre-long m z s h k) xs i noRegion t q)
-      ∙ region-read (a i) (c i) (getD xs i noRegion) (recordBase b i) (length-front-of mostInSet noRegion wordsOfRegion regionWords region-wide (pre m z s) (post m z s) b (pre-long m z s h k) xs i (omega arith)) in
+      ap (λ (l : List ℕ). regionAt l (recordBase b i))
+      (f ∙ element-at mostInSet noRegion wordsOfRegion regionWords region-wide (pre m z s) (post m z s) b
+      (pre-long m z s h k) xs i noRegion t q)
+      ∙ region-read (a i) (c i) (getD xs i noRegion) (recordBase b i)
+      (length-front-of mostInSet noRegion wordsOfRegion regionWords region-wide (pre m z s) (post m z s) b
+      (pre-long m z s h k) xs i (omega arith)) in
       ap (λ (n : ℕ). tab n (recordIn w z s)) count ∙ tab-list (recordIn w z s) xs noRegion each
 
   id-read : getD (wordsOf m) (zoneBase z) 0 ≡ getD m z noZone .id
@@ -127,7 +151,8 @@ module _ (m : List Zone) (in-limits : Within m) (z : ℕ) (h : z < length m) whe
       let k : length m ≤ mostZones = in-limits .zones in
       let a : List ℕ = length m ∷ flatMap wordsOfZone (take z (room mostZones noZone m)) in
       let rest : List ℕ = wordsOfSet (setAt m z Cpu) ++ post m z Cpu in
-      ap (λ (l : List ℕ). getD l (zoneBase z) 0) (focus-same m z Cpu h k ∙ append-assoc a (getD m z noZone .id ∷ []) rest)
+      ap (λ (l : List ℕ). getD l (zoneBase z) 0)
+      (focus-same m z Cpu h k ∙ append-assoc a (getD m z noZone .id ∷ []) rest)
       ∙ getD-at a (getD m z noZone .id) rest 0 (zoneBase z) (zones-long m z Cpu h k)
 
   pub zone-read : zoneIn (wordsOf m) z ≡ getD m z noZone

@@ -19,11 +19,13 @@ use Rattle.zones.specs.Layout.{setWords, tableWords, zoneBase, zoneStart
 use Rattle.zones.specs.Records.{regionAt, recordAt, recordsAt}
 use Rattle.zones.specs.View.{recordIn, setIn, zoneIn, zonesIn}
 
-pub base-cpu : (z b : ℕ) (s : Side) → b ≡ zoneBase z → z < mostZones → s ≡ Cpu → (b + 1 ≡ setBase z s) × (b + 1 + setWords ≤ tableWords)
+pub base-cpu : (z b : ℕ) (s : Side) → b ≡ zoneBase z → z < mostZones → s ≡ Cpu
+    → (b + 1 ≡ setBase z s) × (b + 1 + setWords ≤ tableWords)
 unfolding setBase
 base-cpu z b s q h e = rw e (omega arith, omega arith)
 
-pub base-iommu : (z b : ℕ) (s : Side) → b ≡ zoneBase z → z < mostZones → s ≡ Iommu → (b + 1 + setWords ≡ setBase z s) × (b + 1 + setWords + setWords ≤ tableWords)
+pub base-iommu : (z b : ℕ) (s : Side) → b ≡ zoneBase z → z < mostZones → s ≡ Iommu
+    → (b + 1 + setWords ≡ setBase z s) × (b + 1 + setWords + setWords ≤ tableWords)
 unfolding setBase
 base-iommu z b s q h e = rw e (omega arith, omega arith)
 
@@ -63,28 +65,39 @@ module _ (w : List ℕ) where
 
   pub len-word : (z : ℕ) (s : Side) (b : ℕ) → b ≡ setBase z s → getD w b 0 ≡ length (setIn w z s)
   unfolding setIn recordsAt
-  len-word z s b e = ap (λ (k : ℕ). getD w k 0) e ∙ sym (length-tab (getD w (setBase z s) 0) (recordAt w (setBase z s + 1)))
+  len-word z s b e =
+      ap (λ (k : ℕ). getD w k 0) e ∙ sym (length-tab (getD w (setBase z s) 0) (recordAt w (setBase z s + 1)))
 
-  pub record-word : (z : ℕ) (s : Side) (i b k : ℕ) (r : Region) → b ≡ setBase z s → k ≡ recordBase b i → r ≡ regionAt w k → r ≡ recordIn w z s i
+  pub record-word : (z : ℕ) (s : Side) (i b k : ℕ) (r : Region) → b ≡ setBase z s → k ≡ recordBase b i
+      → r ≡ regionAt w k → r ≡ recordIn w z s i
   unfolding recordIn recordAt
   record-word z s i b k r e g h = h ∙ ap (regionAt w) (g ∙ ap (λ (c : ℕ). recordBase c i) e)
 
 -- ---- what is found among the records of a set is found in the set
-pub set-records : (w : List ℕ) (z : ℕ) (s : Side) (p : Region → Bool) (b n k : ℕ) → b ≡ setBase z s → n ≡ length (setIn w z s) → k ≡ firstIndex p (recordsAt w (b + 1) n) → k ≡ firstIndex p (setIn w z s)
+pub set-records : (w : List ℕ) (z : ℕ) (s : Side) (p : Region → Bool) (b n k : ℕ) → b ≡ setBase z s
+    → n ≡ length (setIn w z s) → k ≡ firstIndex p (recordsAt w (b + 1) n) → k ≡ firstIndex p (setIn w z s)
 unfolding setIn recordsAt
 set-records w z s p b n k e g h =
-    h ∙ ap₂ (λ (x y : ℕ). firstIndex p (recordsAt w (x + 1) y)) e (g ∙ length-tab (getD w (setBase z s) 0) (recordAt w (setBase z s + 1)))
+    h ∙ ap₂ (λ (x y : ℕ). firstIndex p (recordsAt w (x + 1) y)) e
+    (g ∙ length-tab (getD w (setBase z s) 0) (recordAt w (setBase z s + 1)))
 
 -- ---- a loop over the zones: e is the id that was read, r the whole answer
 module _ (w : List ℕ) (id n i r : ℕ) where
-  pub zone-hit : (e : ℕ) → firstFrom (hasId id) (zonesIn w) i ≡ r → i < n → n ≡ length (zonesIn w) → e ≡ zoneIn w i .id → e ≡ id → i ≡ r
+  pub zone-hit : (e : ℕ) → firstFrom (hasId id) (zonesIn w) i ≡ r → i < n → n ≡ length (zonesIn w) → e ≡ zoneIn w i .id
+      → e ≡ id → i ≡ r
   unfolding zonesIn
-  zone-hit e inv h k g a = first-hit (hasId id) (zoneIn w) (getD w 0 0) i r true inv (omega (arith, k ∙ length-tab (getD w 0 0) (zoneIn w))) (sym (eq-eqb (zoneIn w i .id) id (sym g ∙ a))) refl
+  zone-hit e inv h k g a =
+      first-hit (hasId id) (zoneIn w) (getD w 0 0) i r true inv (omega (arith, k ∙ length-tab (getD w 0 0) (zoneIn w)))
+      (sym (eq-eqb (zoneIn w i .id) id (sym g ∙ a))) refl
 
-  pub zone-on : (e : ℕ) → firstFrom (hasId id) (zonesIn w) i ≡ r → i < n → n ≡ length (zonesIn w) → e ≡ zoneIn w i .id → (e ≡ id → ⊥) → firstFrom (hasId id) (zonesIn w) (i + 1) ≡ r
+  pub zone-on : (e : ℕ) → firstFrom (hasId id) (zonesIn w) i ≡ r → i < n → n ≡ length (zonesIn w) → e ≡ zoneIn w i .id
+      → (e ≡ id → ⊥) → firstFrom (hasId id) (zonesIn w) (i + 1) ≡ r
   unfolding zonesIn
-  zone-on e inv h k g a = first-on (hasId id) (zoneIn w) (getD w 0 0) i r false inv (omega (arith, k ∙ length-tab (getD w 0 0) (zoneIn w))) (sym (ne-eqb (zoneIn w i .id) id (λ q. a (g ∙ q)))) refl
+  zone-on e inv h k g a =
+      first-on (hasId id) (zoneIn w) (getD w 0 0) i r false inv (omega (arith, k ∙ length-tab (getD w 0 0) (zoneIn w)))
+      (sym (ne-eqb (zoneIn w i .id) id (λ q. a (g ∙ q)))) refl
 
   pub zone-end : firstFrom (hasId id) (zonesIn w) i ≡ r → n ≡ length (zonesIn w) → n ≤ i → i ≡ r
   unfolding zonesIn
-  zone-end inv k h = first-end (hasId id) (zoneIn w) (getD w 0 0) i r inv (omega (arith, k ∙ length-tab (getD w 0 0) (zoneIn w)))
+  zone-end inv k h =
+      first-end (hasId id) (zoneIn w) (getD w 0 0) i r inv (omega (arith, k ∙ length-tab (getD w 0 0) (zoneIn w)))

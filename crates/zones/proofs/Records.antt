@@ -1,4 +1,5 @@
--- Records among words, and the loops that look through them: e is the record that was read, t what the test said of it, r the whole answer.
+-- Records among words, and the loops that look through them: e is the record that was read, t what the test said of it,
+-- r the whole answer.
 use Prim.Native.Nat.{ℕ, suc, _+_, _*_, _≤_, _<_}
 use native.Mathlib.Omega.{arith}
 use mathlib.Core.Bool.{Bool, true, false}
@@ -18,7 +19,12 @@ use Rattle.zones.specs.Layout.{regionWords}
 use Rattle.zones.specs.Records.{regionAt, wordsOfRegion, recordAt, recordsAt, placed}
 use Rattle.zones.specs.declared.words.By.{By}
 
-pub read-record : (w : List ℕ) (k : ℕ) → _≡_ {A = Region} (record { v = record { 0 = getD w k 0 }; p = record { 0 = getD w (k + 1) 0 }; size = getD w (k + 2) 0 }) (regionAt w k)
+pub read-record : (w : List ℕ) (k : ℕ)
+    → _≡_ {A = Region} (record {
+      v = record { 0 = getD w k 0 };
+      p = record { 0 = getD w (k + 1) 0 };
+      size = getD w (k + 2) 0;
+    }) (regionAt w k)
 unfolding regionAt
 read-record w k = refl
 
@@ -31,7 +37,8 @@ module _ (w : List ℕ) (b n i r : ℕ) (p : Region → Bool) (e : Region) (t : 
   unfolding recordsAt
   record-hit inv h g a f = first-hit p (recordAt w b) n i r t inv h (a ∙ ap p g) f
 
-  pub record-on : firstFrom p (recordsAt w b n) i ≡ r → i < n → e ≡ recordAt w b i → t ≡ p e → t ≡ false → firstFrom p (recordsAt w b n) (i + 1) ≡ r
+  pub record-on : firstFrom p (recordsAt w b n) i ≡ r → i < n → e ≡ recordAt w b i → t ≡ p e → t ≡ false
+      → firstFrom p (recordsAt w b n) (i + 1) ≡ r
   unfolding recordsAt
   record-on inv h g a f = first-on p (recordAt w b) n i r t inv h (a ∙ ap p g) f
 
@@ -47,7 +54,8 @@ alike-told by how r e t q h = h ∙ ap (λ (b : By). alikeBy b r e) (sym q)
 region-path : {a b : Region} → a .v .0 ≡ b .v .0 → a .p .0 ≡ b .p .0 → a .size ≡ b .size → a ≡ b
 region-path p q r = λ i. record { v = record { 0 = p i }; p = record { 0 = q i }; size = r i }
 
-pub region-stored : (w : List ℕ) (k : ℕ) (r : Region) → set (set (set w k (r .v .0)) (k + 1) (r .p .0)) (k + 2) (r .size) ≡ sets w k (wordsOfRegion r)
+pub region-stored : (w : List ℕ) (k : ℕ) (r : Region)
+    → set (set (set w k (r .v .0)) (k + 1) (r .p .0)) (k + 2) (r .size) ≡ sets w k (wordsOfRegion r)
 unfolding wordsOfRegion
 region-stored w k r =
     let e : k + 1 ≡ suc k = omega arith in
@@ -67,14 +75,20 @@ pub region-read : (a c : List ℕ) (r : Region) (k : ℕ) → length a ≡ k →
 unfolding regionAt wordsOfRegion
 region-read a c r k e =
     let l : List ℕ = r .v .0 ∷ (r .p .0 ∷ (r .size ∷ c)) in
-    let f : (j x : ℕ) → getD l j 0 ≡ x → getD (a ++ l) (k + j) 0 ≡ x = λ j x q. ap (λ (n : ℕ). getD (a ++ l) (n + j) 0) (sym e) ∙ getD-append-add a l j 0 ∙ q in
+    let f : (j x : ℕ) → getD l j 0 ≡ x → getD (a ++ l) (k + j) 0 ≡ x =
+    λ j x q. ap (λ (n : ℕ). getD (a ++ l) (n + j) 0) (sym e) ∙ getD-append-add a l j 0 ∙ q in
     region-path (getD-at a (r .v .0) (r .p .0 ∷ (r .size ∷ c)) 0 k e) (f 1 (r .p .0) refl) (f 2 (r .size) refl)
 
-pub region-part : (w : List ℕ) (k : ℕ) → k + regionWords ≤ length w → part k regionWords w ≡ wordsOfRegion (regionAt w k)
+pub region-part : (w : List ℕ) (k : ℕ) → k + regionWords ≤ length w
+    → part k regionWords w ≡ wordsOfRegion (regionAt w k)
 unfolding wordsOfRegion regionAt
 region-part w k h =
     let f : k + 1 + 1 ≡ k + 2 = omega arith in
-    part-cons k 2 w 0 (omega arith) ∙ ap (λ (l : List ℕ). getD w k 0 ∷ l) (part-cons (k + 1) 1 w 0 (omega arith) ∙ ap (λ (l : List ℕ). getD w (k + 1) 0 ∷ l) (part-cons (k + 1 + 1) 0 w 0 (omega arith) ∙ ap₂ (λ (x : ℕ) (l : List ℕ). x ∷ l) (ap (λ (j : ℕ). getD w j 0) f) (part-none (k + 1 + 1 + 1) w)))
+    part-cons k 2 w 0 (omega arith)
+    ∙ ap (λ (l : List ℕ). getD w k 0 ∷ l) (part-cons (k + 1) 1 w 0 (omega arith)
+    ∙ ap (λ (l : List ℕ). getD w (k + 1) 0 ∷ l)
+    (part-cons (k + 1 + 1) 0 w 0 (omega arith)
+    ∙ ap₂ (λ (x : ℕ) (l : List ℕ). x ∷ l) (ap (λ (j : ℕ). getD w j 0) f) (part-none (k + 1 + 1 + 1) w)))
 
 -- a record is placed exactly where it has room
 module _ (w : List ℕ) (k : ℕ) (r : Region) where

@@ -13,7 +13,8 @@ use Rattle.lists.proofs.Places.{places-step, places-end}
 use Rattle.rules.specs.Limits.{limits}
 use Rattle.rules.specs.Regions.{used}
 use Rattle.rules.specs.Requests.{refusal, after, next, standing}
-use Rattle.rules.specs.Run.{bare, makeKind, makeRequest, requestBytes, numberAt, requestFrom, requestsIn, runFrom, run, ended, runAnswer, Run}
+use Rattle.rules.specs.Run.{bare, makeKind, makeRequest, requestBytes, numberAt, requestFrom, requestsIn, runFrom, run}
+use Rattle.rules.specs.Run.{ended, runAnswer, Run}
 use Rattle.rules.specs.Tables.{tableOf, sound, Zone}
 use Rattle.rules.specs.declared.Kind.{Kind}
 use Rattle.rules.specs.declared.Kind.the-variants.{NoRequest}
@@ -36,19 +37,26 @@ module _ (k : Kind) (r : Region) (b : Bool) (e : b ≡ used r) where
   pub bare-zero : b ≡ false → k ≡ bare k r
   bare-zero h = sym (ap (λ (x : Bool). cond x NoRequest k) (sym e ∙ h))
 
-pub made : (kind zone : ℕ) (r : Region) (k : Kind) → k ≡ makeKind kind r → record { zone = zone; kind = k } ≡ makeRequest kind zone r
+pub made : (kind zone : ℕ) (r : Region) (k : Kind) → k ≡ makeKind kind r
+    → record { zone = zone; kind = k } ≡ makeRequest kind zone r
 unfolding makeRequest
 made kind zone r k e = λ i. record { zone = zone; kind = e i }
 
-pub request-read : (b : List ℕ) (at kind zone v p size : ℕ) (q : Request) → kind ≡ numberAt 4 b at → zone ≡ numberAt 4 b (at + 4) → v ≡ numberAt 8 b (at + 8) → p ≡ numberAt 8 b (at + 16) → size ≡ numberAt 8 b (at + 24)
-    → q ≡ makeRequest kind zone (record { v = record { 0 = v }; p = record { 0 = p }; size = size }) → q ≡ requestFrom b at
+pub request-read : (b : List ℕ) (at kind zone v p size : ℕ) (q : Request) → kind ≡ numberAt 4 b at
+    → zone ≡ numberAt 4 b (at + 4) → v ≡ numberAt 8 b (at + 8) → p ≡ numberAt 8 b (at + 16)
+    → size ≡ numberAt 8 b (at + 24)
+    → q ≡ makeRequest kind zone (record { v = record { 0 = v }; p = record { 0 = p }; size = size })
+    → q ≡ requestFrom b at
 unfolding requestFrom
-request-read b at kind zone v p size q ek ez ev ep es e = e ∙ (λ i. makeRequest (ek i) (ez i) (record { v = record { 0 = ev i }; p = record { 0 = ep i }; size = es i }))
+request-read b at kind zone v p size q ek ez ev ep es e =
+    e ∙ (λ i. makeRequest (ek i) (ez i) (record { v = record { 0 = ev i }; p = record { 0 = ep i }; size = es i }))
 
 -- ---- a step leaves a table that is ready for the next
 module _ (c w u : List ℕ) (q : Request) (r : Ready c w) (e : u ≡ wordsOf (next limits (configIn c) (zonesIn w) q)) where
   after-sound : sound limits (configIn c) (next limits (configIn c) (zonesIn w) q) ≡ true
-  after-sound = parts-sound limits (configIn c) (next limits (configIn c) (zonesIn w) q) (next-keeps limits (configIn c) (zonesIn w) q (sound-parts limits (configIn c) (zonesIn w) (r .table)))
+  after-sound =
+      parts-sound limits (configIn c) (next limits (configIn c) (zonesIn w) q)
+      (next-keeps limits (configIn c) (zonesIn w) q (sound-parts limits (configIn c) (zonesIn w) (r .table)))
 
   after-within : Within (next limits (configIn c) (zonesIn w) q)
   after-within = sound-within (configIn c) (next limits (configIn c) (zonesIn w) q) after-sound
@@ -68,15 +76,24 @@ module _ (c : List ℕ) (f : ℕ → Request) (n : ℕ) (R : Run) where
   abbrev pub Left : List ℕ → ℕ → Type 0
   Left w i = runFrom limits (configIn c) i (zonesIn w) (map f (places i (n - i))) ≡ R
 
-  module _ (w u : List ℕ) (i m : ℕ) (q : Request) (left : Left w i) (h : i < n) (g : q ≡ f i) (e : m ≡ refusal limits (configIn c) (zonesIn w) q) (k : u ≡ wordsOf (next limits (configIn c) (zonesIn w) q)) where
+  module _ (w u : List ℕ) (i m : ℕ) (q : Request) (left : Left w i) (h : i < n) (g : q ≡ f i)
+      (e : m ≡ refusal limits (configIn c) (zonesIn w) q)
+      (k : u ≡ wordsOf (next limits (configIn c) (zonesIn w) q)) where
     turn : runFrom limits (configIn c) i (zonesIn w) (q ∷ map f (places (i + 1) (n - (i + 1)))) ≡ R
-    turn = rw g (ap (λ (l : List ℕ). runFrom limits (configIn c) i (zonesIn w) (map f l)) (sym (places-step i n h)) ∙ left)
+    turn =
+        rw g (ap (λ (l : List ℕ). runFrom limits (configIn c) i (zonesIn w) (map f l)) (sym (places-step i n h)) ∙ left)
 
     pub run-on : Ready c w → m ≡ 0 → Left u (i + 1)
     unfolding runFrom
     run-on r z =
         let s : i + 1 ≡ suc i = omega arith in
-        ap₂ (λ (j : ℕ) (x : List Zone). runFrom limits (configIn c) j x (map f (places (i + 1) (n - (i + 1))))) s (after-view c w u q r k) ∙ sym (ap (λ (b : Bool). cond b (runFrom limits (configIn c) (suc i) (next limits (configIn c) (zonesIn w) q) (map f (places (i + 1) (n - (i + 1))))) (record { place = i; inner = refusal limits (configIn c) (zonesIn w) q; table = zonesIn w })) (eq-eqb _ 0 (sym e ∙ z))) ∙ turn
+        ap₂ (λ (j : ℕ) (x : List Zone). runFrom limits (configIn c) j x (map f (places (i + 1) (n - (i + 1))))) s
+        (after-view c w u q r k)
+        ∙ sym (ap (λ (b : Bool). cond b (runFrom limits (configIn c) (suc i) (next limits (configIn c) (zonesIn w) q)
+        (map f (places (i + 1) (n - (i + 1))))) (record
+        { place = i; inner = refusal limits (configIn c) (zonesIn w) q; table = zonesIn w })) (eq-eqb _ 0 (sym e
+        ∙ z)))
+        ∙ turn
 
     module _ (ne : m ≡ 0 → ⊥) where
       refused : eqb (refusal limits (configIn c) (zonesIn w) q) 0 ≡ false
@@ -85,21 +102,32 @@ module _ (c : List ℕ) (f : ℕ → Request) (n : ℕ) (R : Run) where
       stopped : R ≡ record { place = i; inner = m; table = zonesIn w }
       unfolding runFrom
       stopped =
-          sym turn ∙ ap (λ (b : Bool). cond b (runFrom limits (configIn c) (suc i) (next limits (configIn c) (zonesIn w) q) (map f (places (i + 1) (n - (i + 1))))) (record { place = i; inner = refusal limits (configIn c) (zonesIn w) q; table = zonesIn w })) refused
+          sym turn
+          ∙ ap (λ (b : Bool). cond b (runFrom limits (configIn c) (suc i) (next limits (configIn c) (zonesIn w) q)
+          (map f (places (i + 1) (n - (i + 1))))) (record
+          { place = i; inner = refusal limits (configIn c) (zonesIn w) q; table = zonesIn w })) refused
           ∙ (λ j. record { place = i; inner = sym e j; table = zonesIn w })
 
       pub run-stops : record { number = 27; place = i; inner = m } ≡ ended R
       unfolding ended
-      run-stops = ap (λ (b : Bool). record { number = cond b 0 27; place = i; inner = m }) (sym (ne-eqb m 0 ne)) ∙ ap ended (sym stopped)
+      run-stops =
+          ap (λ (b : Bool). record { number = cond b 0 27; place = i; inner = m }) (sym (ne-eqb m 0 ne))
+          ∙ ap ended (sym stopped)
 
       pub run-stays : u ≡ wordsOf (R .table)
       unfolding next
-      run-stays = k ∙ ap (λ (b : Bool). wordsOf (cond b (after (q .kind) (q .zone) (zonesIn w)) (zonesIn w))) refused ∙ ap (λ (x : Run). wordsOf (x .table)) (sym stopped)
+      run-stays =
+          k ∙ ap (λ (b : Bool). wordsOf (cond b (after (q .kind) (q .zone) (zonesIn w)) (zonesIn w))) refused
+          ∙ ap (λ (x : Run). wordsOf (x .table)) (sym stopped)
 
   module _ (w : List ℕ) (i : ℕ) (left : Left w i) (h : n ≤ i) (l : i ≤ n) where
     done : R ≡ record { place = n; inner = 0; table = zonesIn w }
     unfolding runFrom
-    done = let s : i ≡ n = omega arith in sym left ∙ ap (λ (p : List ℕ). runFrom limits (configIn c) i (zonesIn w) (map f p)) (places-end i n h) ∙ (λ j. record { place = s j; inner = 0; table = zonesIn w })
+    done =
+        let s : i ≡ n = omega arith in
+        sym left
+        ∙ ap (λ (p : List ℕ). runFrom limits (configIn c) i (zonesIn w) (map f p)) (places-end i n h)
+        ∙ (λ j. record { place = s j; inner = 0; table = zonesIn w })
 
     pub run-ends : record { number = 0; place = n; inner = 0 } ≡ ended R
     unfolding ended
@@ -109,9 +137,13 @@ module _ (c : List ℕ) (f : ℕ → Request) (n : ℕ) (R : Run) where
     run-leaves r = r .words .words ∙ ap (λ (x : Run). wordsOf (x .table)) (sym done)
 
 -- the requests of the bytes, none of them done
-pub run-starts : (c t b : List ℕ) (n : ℕ) → n ≡ length b / requestBytes → Left c (λ j. requestFrom b (j * requestBytes)) n (run limits (configIn c) (zonesIn t) (requestsIn b)) t 0
+pub run-starts : (c t b : List ℕ) (n : ℕ) → n ≡ length b / requestBytes
+    → Left c (λ j. requestFrom b (j * requestBytes)) n (run limits (configIn c) (zonesIn t) (requestsIn b)) t 0
 unfolding requestsIn tab
-run-starts c t b n e = let z : n - 0 ≡ length b / requestBytes = omega arith in ap (λ (m : ℕ). runFrom limits (configIn c) 0 (zonesIn t) (map (λ j. requestFrom b (j * requestBytes)) (places 0 m))) z
+run-starts c t b n e =
+    let z : n - 0 ≡ length b / requestBytes = omega arith in
+    ap (λ (m : ℕ). runFrom limits (configIn c) 0 (zonesIn t) (map (λ j. requestFrom b (j * requestBytes)) (places 0 m)))
+    z
 
 -- ---- a run from outside
 module _ (c t b : List ℕ) (n : ℕ) (e : n ≡ standing limits (storedConfig c) (storedTable t)) where
@@ -120,16 +152,36 @@ module _ (c t b : List ℕ) (n : ℕ) (e : n ≡ standing limits (storedConfig c
   none-run ne =
       let z : eqb (standing limits (storedConfig c) (storedTable t)) 0 ≡ false = ne-eqb _ 0 (λ y. ne (e ∙ y)) in
       record {
-        answer = (λ i. record { number = e i; place = 0; inner = 0 }) ∙ sym (ap (λ (x : Bool). cond x (ended (run limits (configIn c) (tableOf (storedTable t)) (requestsIn b))) (record { number = standing limits (storedConfig c) (storedTable t); place = 0; inner = 0 })) z);
-        table = sym (ap (λ (x : Bool). cond x (wordsOf (run limits (configIn c) (tableOf (storedTable t)) (requestsIn b) .table)) t) z);
+        answer =
+            (λ i. record { number = e i; place = 0; inner = 0 })
+            ∙ sym (ap (λ (x : Bool). cond x (ended (run limits (configIn c) (tableOf (storedTable t))
+            (requestsIn b))) (record {
+              number = standing limits (storedConfig c) (storedTable t);
+              place = 0;
+              inner = 0;
+            })) z);
+        table =
+            sym (ap (λ (x : Bool). cond x (wordsOf (run limits (configIn c) (tableOf (storedTable t))
+            (requestsIn b) .table)) t) z);
       }
 
-  pub all-run : n ≡ 0 → (r : Outcome) (u : List ℕ) → r ≡ ended (run limits (configIn c) (zonesIn t) (requestsIn b)) → u ≡ wordsOf (run limits (configIn c) (zonesIn t) (requestsIn b) .table) → RanIn c t b r u
+  pub all-run : n ≡ 0 → (r : Outcome) (u : List ℕ) → r ≡ ended (run limits (configIn c) (zonesIn t) (requestsIn b))
+      → u ≡ wordsOf (run limits (configIn c) (zonesIn t) (requestsIn b) .table) → RanIn c t b r u
   unfolding runAnswer runWords
   all-run y r u k l =
       let z : eqb (standing limits (storedConfig c) (storedTable t)) 0 ≡ true = eq-eqb _ 0 (sym e ∙ y) in
       let s : zonesIn t ≡ tableOf (storedTable t) = stands-same c t n e y in
       record {
-        answer = k ∙ ap (λ (x : List Zone). ended (run limits (configIn c) x (requestsIn b))) s ∙ sym (ap (λ (x : Bool). cond x (ended (run limits (configIn c) (tableOf (storedTable t)) (requestsIn b))) (record { number = standing limits (storedConfig c) (storedTable t); place = 0; inner = 0 })) z);
-        table = l ∙ ap (λ (x : List Zone). wordsOf (run limits (configIn c) x (requestsIn b) .table)) s ∙ sym (ap (λ (x : Bool). cond x (wordsOf (run limits (configIn c) (tableOf (storedTable t)) (requestsIn b) .table)) t) z);
+        answer =
+            k ∙ ap (λ (x : List Zone). ended (run limits (configIn c) x (requestsIn b))) s
+            ∙ sym (ap (λ (x : Bool). cond x (ended (run limits (configIn c) (tableOf (storedTable t))
+            (requestsIn b))) (record {
+              number = standing limits (storedConfig c) (storedTable t);
+              place = 0;
+              inner = 0;
+            })) z);
+        table =
+            l ∙ ap (λ (x : List Zone). wordsOf (run limits (configIn c) x (requestsIn b) .table)) s
+            ∙ sym (ap (λ (x : Bool). cond x (wordsOf
+            (run limits (configIn c) (tableOf (storedTable t)) (requestsIn b) .table)) t) z);
       }

@@ -18,7 +18,9 @@ use Rattle.rules.specs.Changes.{setAt}
 use Rattle.rules.specs.Configuration.{check, Configuration}
 use Rattle.rules.specs.Limits.{highestId, limits}
 use Rattle.rules.specs.Regions.{regionEq}
-use Rattle.rules.specs.Requests.{find, present, addRules, removeZoneRules, regionRules, setRules, insertRules, removeRules, kindRules, noRequest, requestRules, refusal, after, next, standingRules, standing, answer}
+use Rattle.rules.specs.Requests.{find, present, addRules, removeZoneRules, regionRules, setRules, insertRules}
+use Rattle.rules.specs.Requests.{removeRules, kindRules, noRequest, requestRules, refusal, after, next, standingRules}
+use Rattle.rules.specs.Requests.{standing, answer}
 use Rattle.rules.specs.Tables.{hasId, tableOf, soundSet, sound, checkTable, Zone}
 use Rattle.rules.specs.declared.Checked.the-variants.{Sound}
 use Rattle.rules.specs.declared.Kind.{Kind}
@@ -27,7 +29,8 @@ use Rattle.rules.specs.declared.Request.{Request}
 use Rattle.rules.proofs.Configuration.{sound-answer}
 use Rattle.rules.proofs.Keeps.{sound-parts, set-sound}
 use Rattle.rules.proofs.Requests.{none-applies}
-use Rattle.zones.specs.Decide.{refusing, decidedAdd, decidedDrop, decidedInsert, decidedCut, decidedKind, decided, changed, changeNumber, Allowed, Ready}
+use Rattle.zones.specs.Decide.{refusing, decidedAdd, decidedDrop, decidedInsert, decidedCut, decidedKind, decided}
+use Rattle.zones.specs.Decide.{changed, changeNumber, Allowed, Ready}
 use Rattle.zones.specs.Layout.{tableWords}
 use Rattle.zones.specs.Step.{afterwards, Stepped}
 use Rattle.zones.specs.View.{storedConfig, configIn, storedTable, zonesIn}
@@ -39,10 +42,12 @@ use Rattle.zones.proofs.Stored.{passed-packed, passed-same, passed-soun
 
 -- ---- decided by the rules: refused with the first number that applies, or the change is made
 refused-or-made : (rs : List (Rule ℕ)) (ch : Change) → aboveZero rs ≡ true
-    → ((firstRule rs 0 ≡ 0 → ⊥) × (firstRule (refusing rs) ch ≡ Refuse (firstRule rs 0))) ⊎ ((firstRule rs 0 ≡ 0) × (firstRule (refusing rs) ch ≡ ch))
+    → ((firstRule rs 0 ≡ 0 → ⊥) × (firstRule (refusing rs) ch ≡ Refuse (firstRule rs 0)))
+    ⊎ ((firstRule rs 0 ≡ 0) × (firstRule (refusing rs) ch ≡ ch))
 unfolding firstRule aboveZero all
 refused-or-made [] ch z = inr (refl, refl)
-refused-or-made ((n, true) ∷ rs) ch z = inl ((λ e. let h : 0 < n = ltb-true _ _ (both-true (ltb 0 n) _ z .0) in omega arith), refl)
+refused-or-made ((n, true) ∷ rs) ch z =
+    inl ((λ e. let h : 0 < n = ltb-true _ _ (both-true (ltb 0 n) _ z .0) in omega arith), refl)
 refused-or-made ((n, false) ∷ rs) ch z = refused-or-made rs ch (both-true (ltb 0 n) _ z .1)
 
 -- what is to be shown of an outcome: its number, the table that it leaves, and that it can be done
@@ -59,15 +64,21 @@ module _ (c : Configuration) (t : List Zone) (k : Kind) (id : ℕ) where
   unfolding n changed Allowed
   refused d ne e = record {
     number = ap changeNumber e;
-    leaves = ap (λ (x : Change). changed x t) e ∙ sym (ap (λ (b : Bool). cond b (after k id t) t) (ne-eqb (firstRule (requestRules limits c k id t) 0) 0 ne));
+    leaves =
+        ap (λ (x : Change). changed x t) e
+        ∙ sym (ap (λ (b : Bool). cond b (after k id t) t) (ne-eqb (firstRule (requestRules limits c k id t) 0) 0 ne));
     can = subst (λ (x : Change). Allowed x t) (sym e) tt;
   }
 
-  made : (d ch : Change) → n ≡ 0 → d ≡ ch → changeNumber ch ≡ 0 → changed ch t ≡ after k id t → Allowed ch t → Comes c t k id d
+  made : (d ch : Change) → n ≡ 0 → d ≡ ch → changeNumber ch ≡ 0 → changed ch t ≡ after k id t → Allowed ch t
+      → Comes c t k id d
   unfolding n
   made d ch z e m a l = record {
     number = ap changeNumber e ∙ m ∙ sym z;
-    leaves = ap (λ (x : Change). changed x t) e ∙ a ∙ sym (ap (λ (b : Bool). cond b (after k id t) t) (eq-eqb (firstRule (requestRules limits c k id t) 0) 0 z));
+    leaves =
+        ap (λ (x : Change). changed x t) e
+        ∙ a
+        ∙ sym (ap (λ (b : Bool). cond b (after k id t) t) (eq-eqb (firstRule (requestRules limits c k id t) 0) 0 z));
     can = subst (λ (x : Change). Allowed x t) (sym e) l;
   }
 
@@ -75,23 +86,33 @@ found : (id : ℕ) (t : List Zone) → present id t ≡ true → find id t < len
 found id t e = ltb-true _ _ (sym (any-first (hasId id) t) ∙ e)
 
 kind-comes : (c : Configuration) (t : List Zone) (k : Kind) (id : ℕ) → Comes c t k id (decidedKind c k id t)
-unfolding n decidedKind decidedAdd decidedDrop decidedInsert decidedCut requestRules kindRules addRules removeZoneRules insertRules regionRules setRules removeRules noRequest after changed Allowed aboveZero all firstRule testOf
+unfolding n decidedKind decidedAdd decidedDrop decidedInsert decidedCut requestRules kindRules addRules removeZoneRules
+    insertRules regionRules setRules removeRules noRequest after changed Allowed aboveZero all firstRule testOf
 kind-comes c t AddZone id =
-    ⊎-elim (λ (ne, e). refused c t AddZone id _ ne e) (λ (z, e). made c t AddZone id _ (Add id) z e refl refl (leb-false _ _ (none-applies limits c AddZone id t z 7)))
+    ⊎-elim (λ (ne, e). refused c t AddZone id _ ne e)
+    (λ (z, e). made c t AddZone id _ (Add id) z e refl refl (leb-false _ _ (none-applies limits c AddZone id t z 7)))
     (refused-or-made (4 when ltb highestId id ∷ addRules limits id t) (Add id) refl)
 kind-comes c t RemoveZone id =
-    ⊎-elim (λ (ne, e). refused c t RemoveZone id _ ne e) (λ (z, e). made c t RemoveZone id _ (Drop (find id t)) z e refl refl (found id t (not-false _ (none-applies limits c RemoveZone id t z 6))))
+    ⊎-elim (λ (ne, e). refused c t RemoveZone id _ ne e)
+    (λ (z, e). made c t RemoveZone id _ (Drop (find id t)) z e refl refl
+    (found id t (not-false _ (none-applies limits c RemoveZone id t z 6))))
     (refused-or-made (4 when ltb highestId id ∷ removeZoneRules id t) (Drop (find id t)) refl)
 kind-comes c t (Insert s r) id =
     ⊎-elim (λ (ne, e). refused c t (Insert s r) id _ ne e)
-    (λ (z, e). let q = none-applies limits c (Insert s r) id t z in made c t (Insert s r) id _ (Push (find id t) s r) z e refl refl (found id t (not-false _ (q 6)), leb-false _ _ (q 16)))
+    (λ (z, e). let q = none-applies limits c (Insert s r) id t z in
+    made c t (Insert s r) id _ (Push (find id t) s r) z e refl refl
+    (found id t (not-false _ (q 6)), leb-false _ _ (q 16)))
     (refused-or-made (4 when ltb highestId id ∷ insertRules limits c id s r t) (Push (find id t) s r) refl)
 kind-comes c t (Remove s r) id =
     ⊎-elim (λ (ne, e). refused c t (Remove s r) id _ ne e)
     (λ (z, e).
     let q = none-applies limits c (Remove s r) id t z in
-    made c t (Remove s r) id _ (Cut (find id t) s (firstIndex (regionEq r) (setAt t (find id t) s))) z e refl refl (found id t (not-false _ (q 6)), ltb-true _ _ (sym (any-first (regionEq r) (setAt t (find id t) s)) ∙ not-false _ (q 17))))
-    (refused-or-made (4 when ltb highestId id ∷ removeRules id s r t) (Cut (find id t) s (firstIndex (regionEq r) (setAt t (find id t) s))) refl)
+    made c t (Remove s r) id _ (Cut (find id t) s (firstIndex (regionEq r) (setAt t (find id t) s))) z e refl refl (
+      found id t (not-false _ (q 6)),
+      ltb-true _ _ (sym (any-first (regionEq r) (setAt t (find id t) s)) ∙ not-false _ (q 17)),
+    ))
+    (refused-or-made (4 when ltb highestId id ∷ removeRules id s r t)
+    (Cut (find id t) s (firstIndex (regionEq r) (setAt t (find id t) s))) refl)
 kind-comes c t NoRequest id = record { number = refl; leaves = refl; can = tt }
 
 -- ---- a step at a sound table
@@ -114,22 +135,36 @@ module _ (c : Configuration) (t : List Zone) (q : Request) (d : Change) (e : d �
 -- ---- a sound table is within limits
 pub sound-within : (c : Configuration) (t : List Zone) → sound limits c t ≡ true → Within t
 unfolding soundSet
-sound-within c t e = let ok = sound-parts limits c t e in record { zones = ok .few; sets = λ z s h. leb-true _ _ (parts _ (set-sound limits c t ok z s h) .0) }
+sound-within c t e =
+    let ok = sound-parts limits c t e in record {
+      zones = ok .few;
+      sets = λ z s h. leb-true _ _ (parts _ (set-sound limits c t ok z s h) .0);
+    }
 
 -- ---- one request from outside
 module _ (c t : List ℕ) where
   -- a number before any request: the words stay
-  pub before-any : (q : Request) (n : ℕ) → n ≡ standing limits (storedConfig c) (storedTable t) → (n ≡ 0 → ⊥) → Stepped c t q n t
+  pub before-any : (q : Request) (n : ℕ) → n ≡ standing limits (storedConfig c) (storedTable t) → (n ≡ 0 → ⊥)
+      → Stepped c t q n t
   unfolding answer afterwards
   before-any q n e ne =
-      let k : n ≡ answer limits (storedConfig c) (storedTable t) q = hit-whatever (standingRules limits (storedConfig c) (storedTable t)) n 0 (refusal limits (configIn c) (tableOf (storedTable t)) q) e ne in
-      record { number = k; table = sym (ap (λ (b : Bool). cond b (wordsOf (after (q .kind) (q .zone) (tableOf (storedTable t)))) t) (ne-eqb _ 0 (λ z. ne (k ∙ z)))) }
+      let k : n ≡ answer limits (storedConfig c) (storedTable t) q =
+      hit-whatever (standingRules limits (storedConfig c) (storedTable t)) n 0
+      (refusal limits (configIn c) (tableOf (storedTable t)) q) e ne in
+      record {
+        number = k;
+        table =
+            sym (ap (λ (b : Bool). cond b (wordsOf (after (q .kind) (q .zone) (tableOf (storedTable t)))) t)
+            (ne-eqb _ 0 (λ z. ne (k ∙ z))));
+      }
 
   module _ (n : ℕ) (e : n ≡ standing limits (storedConfig c) (storedTable t)) (z : n ≡ 0) where
     -- neither 1 nor 2 applies
     pub neither : Quiet (standingRules limits (storedConfig c) (storedTable t))
     unfolding standingRules aboveZero all
-    neither = quiet (standingRules limits (storedConfig c) (storedTable t)) 0 (numbers-tell (standingRules limits (storedConfig c) (storedTable t)) refl) (sym e ∙ z)
+    neither =
+        quiet (standingRules limits (storedConfig c) (storedTable t)) 0
+        (numbers-tell (standingRules limits (storedConfig c) (storedTable t)) refl) (sym e ∙ z)
 
     both : (check limits (storedConfig c) ≡ Sound) × (checkTable limits (storedConfig c) (storedTable t) ≡ true)
     unfolding standingRules testOf
@@ -142,19 +177,30 @@ module _ (c t : List ℕ) where
 
     module _ (l : length t ≡ tableWords) where
       pub stands-ready : Ready c t
-      stands-ready = record { config = both .0; words = packed-words t l (passed-packed (storedConfig c) t (both .1)); table = passed-sound (storedConfig c) t (both .1) }
+      stands-ready = record {
+        config = both .0;
+        words = packed-words t l (passed-packed (storedConfig c) t (both .1));
+        table = passed-sound (storedConfig c) t (both .1);
+      }
 
-      number-same : (q : Request) → refusal limits (configIn c) (zonesIn t) q ≡ answer limits (storedConfig c) (storedTable t) q
+      number-same : (q : Request)
+          → refusal limits (configIn c) (zonesIn t) q ≡ answer limits (storedConfig c) (storedTable t) q
       unfolding answer
-      number-same q = ap (λ (x : List Zone). refusal limits (configIn c) x q) stands-same ∙ quiet-answer (standingRules limits (storedConfig c) (storedTable t)) (refusal limits (configIn c) (tableOf (storedTable t)) q) neither
+      number-same q =
+          ap (λ (x : List Zone). refusal limits (configIn c) x q) stands-same
+          ∙ quiet-answer (standingRules limits (storedConfig c) (storedTable t))
+          (refusal limits (configIn c) (tableOf (storedTable t)) q) neither
 
-      pub request-done : (q : Request) (m : ℕ) (u : List ℕ) → m ≡ refusal limits (configIn c) (zonesIn t) q → u ≡ wordsOf (next limits (configIn c) (zonesIn t) q) → Stepped c t q m u
+      pub request-done : (q : Request) (m : ℕ) (u : List ℕ) → m ≡ refusal limits (configIn c) (zonesIn t) q
+          → u ≡ wordsOf (next limits (configIn c) (zonesIn t) q) → Stepped c t q m u
       unfolding afterwards next
       request-done q m u k y = record {
         number = k ∙ number-same q;
         table =
-            y ∙ by (eqb (refusal limits (configIn c) (zonesIn t) q) 0) (after (q .kind) (q .zone) (zonesIn t)) (zonesIn t)
-            ∙ (λ i. cond (eqb (number-same q i) 0) (wordsOf (after (q .kind) (q .zone) (stands-same i))) (sym (stands-ready .words .words) i));
+            y ∙ by (eqb (refusal limits (configIn c) (zonesIn t) q) 0) (after (q .kind) (q .zone) (zonesIn t))
+            (zonesIn t)
+            ∙ (λ i. cond (eqb (number-same q i) 0) (wordsOf (after (q .kind) (q .zone) (stands-same i)))
+            (sym (stands-ready .words .words) i));
       }
         where
           by : (x : Bool) (a d : List Zone) → wordsOf (cond x a d) ≡ cond x (wordsOf a) (wordsOf d)

@@ -35,10 +35,13 @@ unfoldable pub decidedDrop : ℕ → List Zone → Change
 decidedDrop id t = firstRule (refusing (4 when ltb highestId id ∷ removeZoneRules id t)) (Drop (find id t))
 
 unfoldable pub decidedInsert : Configuration → ℕ → Side → Region → List Zone → Change
-decidedInsert c id s r t = firstRule (refusing (4 when ltb highestId id ∷ insertRules limits c id s r t)) (Push (find id t) s r)
+decidedInsert c id s r t =
+    firstRule (refusing (4 when ltb highestId id ∷ insertRules limits c id s r t)) (Push (find id t) s r)
 
 unfoldable pub decidedCut : ℕ → Side → Region → List Zone → Change
-decidedCut id s r t = firstRule (refusing (4 when ltb highestId id ∷ removeRules id s r t)) (Cut (find id t) s (firstIndex (regionEq r) (setAt t (find id t) s)))
+decidedCut id s r t =
+    firstRule (refusing (4 when ltb highestId id ∷ removeRules id s r t))
+    (Cut (find id t) s (firstIndex (regionEq r) (setAt t (find id t) s)))
 
 unfoldable pub decidedKind : Configuration → Kind → ℕ → List Zone → Change
 decidedKind c AddZone id t = decidedAdd id t

@@ -23,7 +23,8 @@ configRecords = 2
 abbrev pub configWords : ℕ
 configWords = configRecords + mostRegions * regionWords
 
--- a set is its count, then its records; a zone is its id, then its CPU and its IOMMU set; a table is its count, then its zones
+-- a set is its count, then its records; a zone is its id, then its CPU and its IOMMU set; a table is its count, then
+-- its zones
 abbrev pub setWords : ℕ
 setWords = 1 + mostInSet * regionWords
 

@@ -18,10 +18,14 @@ zeros w k n = all (isZeroAt w) (places k n)
 
 -- the set whose count stands at word b
 unfoldable pub setPacked : List ℕ → ℕ → Bool
-setPacked w b = allOf (leb (getD w b 0) mostInSet ∷ zeros w (recordBase b (getD w b 0)) ((mostInSet - getD w b 0) * regionWords) ∷ [])
+setPacked w b =
+    allOf (leb (getD w b 0) mostInSet ∷ zeros w (recordBase b (getD w b 0)) ((mostInSet - getD w b 0) * regionWords)
+    ∷ [])
 
 unfoldable pub zonePacked : List ℕ → ℕ → Bool
 zonePacked w z = allOf (setPacked w (setBase z Cpu) ∷ setPacked w (setBase z Iommu) ∷ [])
 
 unfoldable pub packed : List ℕ → Bool
-packed w = allOf (leb (getD w 0 0) mostZones ∷ all (zonePacked w) (places 0 (getD w 0 0)) ∷ zeros w (zoneBase (getD w 0 0)) ((mostZones - getD w 0 0) * zoneWords) ∷ [])
+packed w =
+    allOf (leb (getD w 0 0) mostZones ∷ all (zonePacked w) (places 0 (getD w 0 0))
+    ∷ zeros w (zoneBase (getD w 0 0)) ((mostZones - getD w 0 0) * zoneWords) ∷ [])

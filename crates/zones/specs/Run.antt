@@ -14,7 +14,9 @@ use Rattle.zones.specs.Words.{wordsOf}
 
 -- the words of the table that the accepted requests leave, or those that were given
 unfoldable pub runWords : List ℕ → List ℕ → List ℕ → List ℕ
-runWords c t b = cond (eqb (standing limits (storedConfig c) (storedTable t)) 0) (wordsOf (run limits (configIn c) (tableOf (storedTable t)) (requestsIn b) .table)) t
+runWords c t b =
+    cond (eqb (standing limits (storedConfig c) (storedTable t)) 0)
+    (wordsOf (run limits (configIn c) (tableOf (storedTable t)) (requestsIn b) .table)) t
 
 pub record RanIn (c t b : List ℕ) (r : Outcome) (u : List ℕ) : Type 0 where
   pub answer : r ≡ runAnswer limits (storedConfig c) (storedTable t) (requestsIn b)

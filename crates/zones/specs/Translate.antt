@@ -14,4 +14,5 @@ use Rattle.zones.specs.Words.{Within}
 -- counts within limits, and every region in reach
 pub record Near (t : List Zone) : Type 0 where
   pub within : Within t
-  pub reach : (z : ℕ) (s : Side) (i : ℕ) → z < length t → i < length (setAt t z s) → inReach limits (getD (setAt t z s) i noRegion) ≡ true
+  pub reach : (z : ℕ) (s : Side) (i : ℕ) → z < length t → i < length (setAt t z s)
+      → inReach limits (getD (setAt t z s) i noRegion) ≡ true

@@ -36,7 +36,11 @@ unfoldable pub storedSet : List ℕ → ℕ → StoredSet
 storedSet w b = record { count = getD w b 0; records = recordsAt w (b + 1) mostInSet }
 
 unfoldable pub storedZone : List ℕ → ℕ → StoredZone
-storedZone w z = record { id = getD w (zoneBase z) 0; cpu = storedSet w (setBase z Cpu); iommu = storedSet w (setBase z Iommu) }
+storedZone w z = record {
+  id = getD w (zoneBase z) 0;
+  cpu = storedSet w (setBase z Cpu);
+  iommu = storedSet w (setBase z Iommu);
+}
 
 unfoldable pub storedTable : List ℕ → StoredTable
 storedTable w = record { count = getD w 0 0; zones = tab mostZones (storedZone w) }

@@ -1,9 +1,16 @@
 -- The zone shown is below the most that a table can hold, so it lies within the table.
-use Prim.Native.Nat.{_-_, _≤_}
+use Prim.Native.Nat.{ℕ, _+_, _-_, _≤_, _<_}
+use native.Mathlib.Omega.{arith}
+use mathlib.Core.Path.{_≡_}
 use borrow.Author.Needs.{needs}
 use Rattle.rules.specs.Limits.{mostZones}
+use Rattle.zones.specs.Layout.{zoneWords, tableWords, zoneBase, zoneStart}
+use Rattle.zones.proofs.Readers.{start-is}
 use Rattle.desk.proofs.report.show_table.Statement.{statement}
 use Rattle.desk.proofs.report.show_table.Tie as tie
+
+zone-within : (z b : ℕ) → b ≡ zoneStart z → z < mostZones → b + zoneWords ≤ tableWords
+zone-within z b e h = let q : b ≡ zoneBase z = start-is z b e h in omega arith
 
 abbrev Inv-loop : tie.InvT-loop
 Inv-loop t z₀ z = z ≤ mostZones
@@ -17,14 +24,11 @@ loop-holds c = search needs
 element-copy-out-if1 : tie.Need-element-copy-out-if1 Inv-loop μ-loop
 element-copy-out-if1 c = search needs
 
-mul-show-zone : tie.Need-mul-show-zone Inv-loop μ-loop
-mul-show-zone c = search needs
-
-add-show-zone : tie.Need-add-show-zone Inv-loop μ-loop
-add-show-zone c = search needs
+zone-start-requires : tie.Need-zone-start-requires Inv-loop μ-loop
+zone-start-requires c κs = search needs
 
 show-zone-requires : tie.Need-show-zone-requires Inv-loop μ-loop
-show-zone-requires c κs = search needs
+show-zone-requires c κs = search (zone-within, needs)
 
 add-z : tie.Need-add-z Inv-loop μ-loop
 add-z c = search needs
@@ -46,8 +50,7 @@ show-table-spec =
     μ-loop
     loop-holds
     element-copy-out-if1
-    mul-show-zone
-    add-show-zone
+    zone-start-requires
     show-zone-requires
     add-z
     loop-less

@@ -1,5 +1,6 @@
 -- Each return is one case of the section: a count or a mark that is cut, a count that is not 2, or both marks.
-use Rattle.plan.proofs.Answers.{first-there, second-there, marks-none, marks-out, marks-no-gic, marks-no-edition, marks-are}
+use Rattle.plan.proofs.Answers.{first-there, second-there, marks-none, marks-out, marks-no-gic, marks-no-edition}
+use Rattle.plan.proofs.Answers.{marks-are}
 use borrow.Author.Needs.{needs}
 use Rattle.plan.proofs.sections.read_marks.Statement.{statement}
 use Rattle.plan.proofs.sections.read_marks.Tie as tie

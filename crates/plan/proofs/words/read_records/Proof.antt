@@ -9,7 +9,9 @@ use Rattle.plan.proofs.words.read_records.Statement.{statement}
 use Rattle.plan.proofs.words.read_records.Tie as tie
 
 abbrev Inv-loop : tie.InvT-loop
-Inv-loop s start n w₀ a at₀ i₀ w at i = (((i ≤ n) × (at ≤ length s)) × (length w ≡ length w₀)) × (times (recordInto a) (n - i) i w (drop at s) ≡ times (recordInto a) n 0 w₀ (drop start s))
+Inv-loop s start n w₀ a at₀ i₀ w at i =
+    (((i ≤ n) × (at ≤ length s)) × (length w ≡ length w₀))
+    × (times (recordInto a) (n - i) i w (drop at s) ≡ times (recordInto a) n 0 w₀ (drop start s))
 
 abbrev μ-loop : tie.MeasureT-loop
 μ-loop s start n w₀ a at₀ i₀ w at i = n - i

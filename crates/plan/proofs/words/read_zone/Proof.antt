@@ -38,7 +38,10 @@ add-read-sets-2 : tie.Need-add-read-sets-2
 add-read-sets-2 c = omega (arith, start-is _ _ (c .before .zone-start .ensures) (omega arith))
 
 read-sets-requires : tie.Need-read-sets-requires
-read-sets-requires c κs = (search (number-within, needs), simp length-set (omega (arith, start-is _ _ (c .before .zone-start .ensures) (omega arith))))
+read-sets-requires c κs = (
+  search (number-within, needs),
+  simp length-set (omega (arith, start-is _ _ (c .before .zone-start .ensures) (omega arith))),
+)
 
 same-length : tie.Need-same-length
 same-length c = search (kept-after, needs)

@@ -9,7 +9,9 @@ use Rattle.plan.proofs.words.read_zone_list.Statement.{statement}
 use Rattle.plan.proofs.words.read_zone_list.Tie as tie
 
 abbrev Inv-loop : tie.InvT-loop
-Inv-loop s start n w₀ at₀ i₀ w at i = (((i ≤ n) × (at ≤ length s)) × (length w ≡ length w₀)) × (times zoneInto (n - i) i w (drop at s) ≡ times zoneInto n 0 w₀ (drop start s))
+Inv-loop s start n w₀ at₀ i₀ w at i =
+    (((i ≤ n) × (at ≤ length s)) × (length w ≡ length w₀))
+    × (times zoneInto (n - i) i w (drop at s) ≡ times zoneInto n 0 w₀ (drop start s))
 
 abbrev μ-loop : tie.MeasureT-loop
 μ-loop s start n w₀ at₀ i₀ w at i = n - i

@@ -1,6 +1,7 @@
 -- Each kind of change is one writer, whose needs are what `Allowed` says of the change.
 use borrow.Author.Needs.{needs}
-use Rattle.zones.proofs.Committing.{add-room, drop-there, push-there, push-room, cut-place, cut-within, refuse-done, add-done, drop-done, push-done, cut-done}
+use Rattle.zones.proofs.Committing.{add-room, drop-there, push-there, push-room, cut-place, cut-within}
+use Rattle.zones.proofs.Committing.{refuse-done, add-done, drop-done, push-done, cut-done}
 use Rattle.zones.proofs.commit.commit.Statement.{statement}
 use Rattle.zones.proofs.commit.commit.Tie as tie
 

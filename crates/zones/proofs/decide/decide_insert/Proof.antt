@@ -4,7 +4,9 @@ use borrow.Author.Tests.{lt-ltb, le-ltb}
 use Rattle.lists.proofs.Rules.{rule-skip, rules}
 use Rattle.rules.specs.Requests.{insertRules}
 use Rattle.zones.specs.Decide.{decidedInsert}
-use Rattle.zones.proofs.Deciding.{stage-refuses, stage-passes, last-refuses, last-passes, region-above, set-above, zone-missing, zone-not-missing, found-at, last-at, region-configured, region-off-gic}
+use Rattle.zones.proofs.Deciding.{stage-refuses, stage-passes, last-refuses, last-passes, region-above}
+use Rattle.zones.proofs.Deciding.{set-above, zone-missing, zone-not-missing, found-at, last-at}
+use Rattle.zones.proofs.Deciding.{region-configured, region-off-gic}
 use Rattle.zones.proofs.decide.decide_insert.Statement.{statement}
 use Rattle.zones.proofs.decide.decide_insert.Tie as tie
 
@@ -38,7 +40,8 @@ returns-4 c = search (rule-skip, le-ltb, zone-not-missing, stage-passes, region-
 
 returns-5 : tie.Need-returns-5
 unfolding decidedInsert insertRules
-returns-5 c = search (rule-skip, le-ltb, zone-not-missing, stage-passes, region-above, last-at, last-passes, set-above) depth 12
+returns-5 c =
+    search (rule-skip, le-ltb, zone-not-missing, stage-passes, region-above, last-at, last-passes, set-above) depth 12
 
 pub decide-insert-spec : {M : Type 1} → statement M
 decide-insert-spec =

@@ -12,7 +12,8 @@ use Rattle.zones.proofs.sound.apart_later.Statement.{statement}
 use Rattle.zones.proofs.sound.apart_later.Tie as tie
 
 abbrev Inv-loop : tie.InvT-loop
-Inv-loop t z side i r n j₀ j = (j ≤ n) × ((r ≡ recordIn t z side i) × (all (apartFrom t z side i) (places j (n - j)) ≡ apartAfter t z side i))
+Inv-loop t z side i r n j₀ j =
+    (j ≤ n) × ((r ≡ recordIn t z side i) × (all (apartFrom t z side i) (places j (n - j)) ≡ apartAfter t z side i))
 
 abbrev μ-loop : tie.MeasureT-loop
 μ-loop t z side i r n j₀ j = n - j

@@ -11,7 +11,9 @@ use Rattle.zones.proofs.sound.first_holder.Statement.{statement}
 use Rattle.zones.proofs.sound.first_holder.Tie as tie
 
 abbrev Inv-loop : tie.InvT-loop
-Inv-loop t r z n i₀ i = ((z ≤ i) × (i ≤ max z n)) × ((n ≡ length (zonesIn t)) × (firstFrom (holds r) (zonesIn t) i ≡ firstFrom (holds r) (zonesIn t) z))
+Inv-loop t r z n i₀ i =
+    ((z ≤ i) × (i ≤ max z n))
+    × ((n ≡ length (zonesIn t)) × (firstFrom (holds r) (zonesIn t) i ≡ firstFrom (holds r) (zonesIn t) z))
 
 abbrev μ-loop : tie.MeasureT-loop
 μ-loop t r z n i₀ i = n - i

@@ -15,7 +15,8 @@ use Rattle.zones.proofs.sound.guest_apart.Statement.{statement}
 use Rattle.zones.proofs.sound.guest_apart.Tie as tie
 
 abbrev Inv-loop : tie.InvT-loop
-Inv-loop t z side n i₀ i = (i ≤ n) × (all (apartAfter t z side) (places i (n - i)) ≡ pairwise guestApart (setIn t z side))
+Inv-loop t z side n i₀ i =
+    (i ≤ n) × (all (apartAfter t z side) (places i (n - i)) ≡ pairwise guestApart (setIn t z side))
 
 abbrev μ-loop : tie.MeasureT-loop
 μ-loop t z side n i₀ i = n - i

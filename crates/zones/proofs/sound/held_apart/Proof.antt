@@ -13,7 +13,8 @@ use Rattle.zones.proofs.sound.held_apart.Statement.{statement}
 use Rattle.zones.proofs.sound.held_apart.Tie as tie
 
 abbrev Inv-loop : tie.InvT-loop
-Inv-loop c t n k₀ k = (k ≤ n) × (all (heldAt (configIn c) (zonesIn t)) (places k (n - k)) ≡ heldApart (configIn c) (zonesIn t))
+Inv-loop c t n k₀ k =
+    (k ≤ n) × (all (heldAt (configIn c) (zonesIn t)) (places k (n - k)) ≡ heldApart (configIn c) (zonesIn t))
 
 abbrev μ-loop : tie.MeasureT-loop
 μ-loop c t n k₀ k = n - k

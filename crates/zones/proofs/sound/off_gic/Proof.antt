@@ -14,7 +14,9 @@ use Rattle.zones.proofs.sound.off_gic.Statement.{statement}
 use Rattle.zones.proofs.sound.off_gic.Tie as tie
 
 abbrev Inv-loop : tie.InvT-loop
-Inv-loop c t z gic n i₀ i = (i ≤ n) × (all (atRecord (offGic (configIn c)) t z Cpu) (places i (n - i)) ≡ all (offGic (configIn c)) (setIn t z Cpu))
+Inv-loop c t z gic n i₀ i =
+    (i ≤ n)
+    × (all (atRecord (offGic (configIn c)) t z Cpu) (places i (n - i)) ≡ all (offGic (configIn c)) (setIn t z Cpu))
 
 abbrev μ-loop : tie.MeasureT-loop
 μ-loop c t z gic n i₀ i = n - i

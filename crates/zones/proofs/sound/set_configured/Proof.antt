@@ -14,7 +14,10 @@ use Rattle.zones.proofs.sound.set_configured.Statement.{statement}
 use Rattle.zones.proofs.sound.set_configured.Tie as tie
 
 abbrev Inv-loop : tie.InvT-loop
-Inv-loop c t z side n i₀ i = (i ≤ n) × (all (atRecord (configured (configIn c)) t z side) (places i (n - i)) ≡ all (configured (configIn c)) (setIn t z side))
+Inv-loop c t z side n i₀ i =
+    (i ≤ n)
+    × (all (atRecord (configured (configIn c)) t z side) (places i (n - i))
+    ≡ all (configured (configIn c)) (setIn t z side))
 
 abbrev μ-loop : tie.MeasureT-loop
 μ-loop c t z side n i₀ i = n - i

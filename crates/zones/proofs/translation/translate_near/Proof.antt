@@ -2,7 +2,8 @@
 use borrow.Author.Needs.{needs}
 use Rattle.zones.proofs.Checking.{zone-within, side-within}
 use Rattle.zones.proofs.Deciding.{found-at}
-use Rattle.zones.proofs.Translating.{high-id, no-zone, record-within, none-covers, from-start, no-wrap, one-covers}
+use Rattle.zones.proofs.Translating.{high-id, no-zone, record-within, none-covers, from-start, no-wrap}
+use Rattle.zones.proofs.Translating.{one-covers}
 use Rattle.zones.proofs.translation.translate_near.Statement.{statement}
 use Rattle.zones.proofs.translation.translate_near.Tie as tie
 

@@ -35,10 +35,12 @@ use Rattle.plan.proofs.Outcomes.{value-refused, edition-room, value-accepted}
 use Rattle.walker.specs.Edition.{editionOf}
 use Rattle.walker.specs.declared.Edition.{Edition}
 use Rattle.walker.specs.declared.Edition.the-variants.{Is, Bad as BadEdition}
-use Rattle.agent.specs.Agent.{layout, placesOf, yesOrNo, sideAsked, sectionNumber, readingNumber, readingPlace, editionNumber, editionValue, AppliesWords, PartsAreAState}
+use Rattle.agent.specs.Agent.{layout, placesOf, yesOrNo, sideAsked, sectionNumber, readingNumber, readingPlace}
+use Rattle.agent.specs.Agent.{editionNumber, editionValue, AppliesWords, PartsAreAState}
 
 -- what stands past the last number of the layout
-pub past-layout : (n : ℕ) → (n ≡ 0 → ⊥) → (n ≡ 1 → ⊥) → (n ≡ 2 → ⊥) → (n ≡ 3 → ⊥) → (n ≡ 4 → ⊥) → (n ≡ 5 → ⊥) → 0 ≡ getD layout n 0
+pub past-layout : (n : ℕ) → (n ≡ 0 → ⊥) → (n ≡ 1 → ⊥) → (n ≡ 2 → ⊥) → (n ≡ 3 → ⊥) → (n ≡ 4 → ⊥) → (n ≡ 5 → ⊥)
+    → 0 ≡ getD layout n 0
 past-layout zero a b c d e f = absurd (a refl)
 past-layout (suc zero) a b c d e f = absurd (b refl)
 past-layout (suc (suc zero)) a b c d e f = absurd (c refl)
@@ -59,7 +61,8 @@ two-words (a ∷ []) x y e = absurd (omega arith)
 two-words (a ∷ (b ∷ [])) x y e = refl
 two-words (a ∷ (b ∷ (c ∷ w))) x y e = absurd (omega arith)
 
-pub places-told : (u : List ℕ) (x y : ℕ) (f g : Checked) → u ≡ x ∷ y ∷ [] → f ≡ g → x ≡ checkPlace f → y ≡ checkEarlier f → u ≡ placesOf g
+pub places-told : (u : List ℕ) (x y : ℕ) (f g : Checked) → u ≡ x ∷ y ∷ [] → f ≡ g → x ≡ checkPlace f
+    → y ≡ checkEarlier f → u ≡ placesOf g
 unfolding placesOf
 places-told u x y f g h e p q = h ∙ (λ i. (p ∙ ap checkPlace e) i ∷ (q ∙ ap checkEarlier e) i ∷ [])
 
@@ -87,14 +90,16 @@ pub request-told : (c t u : List ℕ) (q r : Request) (n : ℕ) → q ≡ r → 
 request-told c t u q r n e h = subst (λ (x : Request). Stepped c t x n u) e h
 
 -- a translation on a side by its number
-module _ (c : StoredConfig) (t : StoredTable) (zone : ℕ) (s : Side) (n : ℕ) (a : Guest) (r : Translated) (e : s ≡ sideAsked n) (h : r ≡ translated limits c t zone s a) where
+module _ (c : StoredConfig) (t : StoredTable) (zone : ℕ) (s : Side) (n : ℕ) (a : Guest) (r : Translated)
+    (e : s ≡ sideAsked n) (h : r ≡ translated limits c t zone s a) where
   same : r ≡ translated limits c t zone (sideAsked n) a
   same = h ∙ ap (λ (x : Side). translated limits c t zone x a) e
 
   pub translation-number : r .number ≡ translated limits c t zone (sideAsked n) a .number
   translation-number = ap (λ (x : Translated). x .number) same
 
-  pub translation-address : (u : List ℕ) → u ≡ r .phys .0 ∷ [] → u ≡ translated limits c t zone (sideAsked n) a .phys .0 ∷ []
+  pub translation-address : (u : List ℕ) → u ≡ r .phys .0 ∷ []
+      → u ≡ translated limits c t zone (sideAsked n) a .phys .0 ∷ []
   translation-address u k = k ∙ ap (λ (x : Translated). x .phys .0 ∷ []) same
 
 -- a plan that was read: r is what was found of it
@@ -129,27 +134,46 @@ module _ (b : List ℕ) (r : Found) (er : r ≡ foundIn (length b) (readPlan lim
     read-end-place u l = l ∙ ap (λ (x : Section). sectionPlace x ∷ []) (sym (ap sectionOf f) ∙ told)
 
 -- a plan applied where the words lie: o was answered, u are the table's words then, and a are its two places
-module _ (c t : List ℕ) (e : ℕ) (b : List ℕ) (o : Outcome) (u : List ℕ) (done : AppliedIn c t e b o u) (a : List ℕ) (ea : a ≡ o .place ∷ o .inner ∷ []) where
+module _ (c t : List ℕ) (e : ℕ) (b : List ℕ) (o : Outcome) (u : List ℕ) (done : AppliedIn c t e b o u) (a : List ℕ)
+    (ea : a ≡ o .place ∷ o .inner ∷ []) where
   places : a ≡ applied (stateIn c t e) b .outcome .place ∷ applied (stateIn c t e) b .outcome .inner ∷ []
   places = ea ∙ ap (λ (x : Outcome). x .place ∷ x .inner ∷ []) (done .answer)
 
   pub applies-refused : (o .number ≡ 0 → ⊥) → AppliesWords c t e b (o .number) u e a
-  applies-refused ne = record { number = ap (λ (x : Outcome). x .number) (done .answer); table = done .table; edition = ap (λ (x : Applied). x .state .edition) (value-refused (stateIn c t e) b o u done ne); places = places }
+  applies-refused ne = record {
+    number = ap (λ (x : Outcome). x .number) (done .answer);
+    table = done .table;
+    edition = ap (λ (x : Applied). x .state .edition) (value-refused (stateIn c t e) b o u done ne);
+    places = places;
+  }
 
   pub applies-accepted : o .number ≡ 0 → AppliesWords c t e b (o .number) u (e + 1) a
-  applies-accepted z = record { number = ap (λ (x : Outcome). x .number) (done .answer); table = done .table; edition = ap (λ (x : Applied). x .state .edition) (value-accepted (stateIn c t e) b o u done z); places = places }
+  applies-accepted z = record {
+    number = ap (λ (x : Outcome). x .number) (done .answer);
+    table = done .table;
+    edition = ap (λ (x : Applied). x .state .edition) (value-accepted (stateIn c t e) b o u done z);
+    places = places;
+  }
 
-pub next-room : (c t : List ℕ) (e : ℕ) (b : List ℕ) (o : Outcome) (u : List ℕ) → AppliedIn c t e b o u → o .number ≡ 0 → e < 2 ^ 32 → e + 1 < 2 ^ 32
+pub next-room : (c t : List ℕ) (e : ℕ) (b : List ℕ) (o : Outcome) (u : List ℕ) → AppliedIn c t e b o u → o .number ≡ 0
+    → e < 2 ^ 32 → e + 1 < 2 ^ 32
 next-room c t e b o u done z = edition-room (stateIn c t e) b o u done z
 
 pub parts-are-a-state : PartsAreAState
 unfolding applied inWords
 parts-are-a-state c t e b n u d a h = record {
   answer = (λ i. record { number = h .number i; place = getD (h .places i) 0 0; inner = getD (h .places i) 1 0 });
-  next = (λ i. record { config = sym (by (eqb (apply limits (terminalIn (stateIn c t e)) b .outcome .number) 0)) i; table = record { words = h .table i }; edition = h .edition i });
+  next =
+      (λ i. record {
+        config = sym (by (eqb (apply limits (terminalIn (stateIn c t e)) b .outcome .number) 0)) i;
+        table = record { words = h .table i };
+        edition = h .edition i;
+      });
 }
   where
-    by : (x : Bool) → cond x (stateFor (stateIn c t e) (apply limits (terminalIn (stateIn c t e)) b .state)) (stateIn c t e) .config ≡ record { words = c }
+    by : (x : Bool)
+        → cond x (stateFor (stateIn c t e) (apply limits (terminalIn (stateIn c t e)) b .state)) (stateIn c t e) .config
+        ≡ record { words = c }
     by true = refl
     by false = refl
 

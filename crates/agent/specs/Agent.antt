@@ -58,14 +58,16 @@ unfoldable pub editionValue : Edition → ℕ
 editionValue (Is e) = e
 editionValue (BadEdition k at) = at
 
--- a plan at a state that is lent in three parts: the number, what then lies at the table and at the edition, and the place and inner number
+-- a plan at a state that is lent in three parts: the number, what then lies at the table and at the edition, and the
+-- place and inner number
 pub record AppliesWords (c t : List ℕ) (e : ℕ) (b : List ℕ) (n : ℕ) (u : List ℕ) (d : ℕ) (a : List ℕ) : Type 0 where
   pub number : n ≡ applied (stateIn c t e) b .outcome .number
   pub table : u ≡ applied (stateIn c t e) b .state .table .words
   pub edition : d ≡ applied (stateIn c t e) b .state .edition
   pub places : a ≡ applied (stateIn c t e) b .outcome .place ∷ applied (stateIn c t e) b .outcome .inner ∷ []
 
--- so the three parts are a state to which the plan is applied: what is proved of any code that meets `Applies` is true of such calls
+-- so the three parts are a state to which the plan is applied: what is proved of any code that meets `Applies` is true
+-- of such calls
 abbrev pub PartsAreAState : Type 0
 PartsAreAState =
     (c t : List ℕ) (e : ℕ) (b : List ℕ) (n : ℕ) (u : List ℕ) (d : ℕ) (a : List ℕ) → AppliesWords c t e b n u d a

@@ -177,12 +177,7 @@ pub extern "C" fn peatmitten_read(plan: &[u8], place: &mut [u64; 1]) -> u32
             put_one(place, at as u64);
             number
         }
-        Found::At {
-            gic,
-            edition,
-            zones,
-            requests,
-        } => {
+        Found::At { requests, .. } => {
             put_one(place, requests as u64);
             0
         }

@@ -38,15 +38,24 @@ module _ (b : List ℕ) (k : ℕ) where
         ap (λ (i : ℕ). little (part i n b)) e4,
       )
 
-  pub four-bytes : (r : ℕ) → r ≡ getD b k 0 + 256 * (getD b (k + 1) 0 + 256 * (getD b (k + 2) 0 + 256 * getD b (k + 3) 0))
+  pub four-bytes : (r : ℕ)
+      → r ≡ getD b k 0 + 256 * (getD b (k + 1) 0 + 256 * (getD b (k + 2) 0 + 256 * getD b (k + 3) 0))
       → r ≡ little (part k 4 b)
-  four-bytes r h = let e : little (part k 4 b) ≡ getD b k 0 + 256 * (getD b (k + 1) 0 + 256 * (getD b (k + 2) 0 + 256 * (getD b (k + 3) 0 + 256 * little (part (k + 4) 0 b)))) = four-first 0 in omega (arith, little-none (k + 4) b)
+  four-bytes r h =
+      let e : little (part k 4 b) ≡ getD b k 0 + 256 * (getD b
+      (k + 1) 0 + 256 * (getD b (k + 2) 0 + 256 * (getD b (k + 3) 0 + 256 * little (part (k + 4) 0 b)))) =
+      four-first 0 in
+      omega (arith, little-none (k + 4) b)
 
   pub eight-bytes : (x y : ℕ) → x ≡ little (part k 4 b) → y ≡ little (part (k + 4) 4 b)
       → x + 4294967296 * y ≡ little (part k 8 b)
   eight-bytes x y d e =
-      let f : little (part k 8 b) ≡ getD b k 0 + 256 * (getD b (k + 1) 0 + 256 * (getD b (k + 2) 0 + 256 * (getD b (k + 3) 0 + 256 * little (part (k + 4) 4 b)))) = four-first 4 in
-      let g : getD b k 0 + 256 * (getD b (k + 1) 0 + 256 * (getD b (k + 2) 0 + 256 * getD b (k + 3) 0)) ≡ little (part k 4 b) = four-bytes (getD b k 0 + 256 * (getD b (k + 1) 0 + 256 * (getD b (k + 2) 0 + 256 * getD b (k + 3) 0))) refl in
+      let f : little (part k 8 b) ≡ getD b k 0 + 256 * (getD b
+      (k + 1) 0 + 256 * (getD b (k + 2) 0 + 256 * (getD b (k + 3) 0 + 256 * little (part (k + 4) 4 b)))) =
+      four-first 4 in
+      let g : getD b k 0 + 256 * (getD b (k + 1) 0 + 256 * (getD b (k + 2) 0 + 256 * getD b (k + 3) 0))
+      ≡ little (part k 4 b) =
+      four-bytes (getD b k 0 + 256 * (getD b (k + 1) 0 + 256 * (getD b (k + 2) 0 + 256 * getD b (k + 3) 0))) refl in
       omega arith
 
 -- ---- whether n bytes are there
@@ -69,11 +78,13 @@ module _ (b : List ℕ) (at n : ℕ) where
   spelled-past h = (sym (ap little (part-past at n b h)), one-le-pow n 256 (omega arith))
 
   -- x is the first byte, and r the number of the others
-  pub spelled-on : (x r : ℕ) → (n ≡ 0 → ⊥) → x ≡ getD b at 0 → x < 256 → r ≡ little (part (at + 1) (n - 1) b) → r < 256 ^ (n - 1)
+  pub spelled-on : (x r : ℕ) → (n ≡ 0 → ⊥) → x ≡ getD b at 0 → x < 256 → r ≡ little (part (at + 1) (n - 1) b)
+      → r < 256 ^ (n - 1)
       → (x + 256 * r ≡ little (part at n b)) × (x + 256 * r < 256 ^ n)
   spelled-on x r some ex lx er lr =
       let f : suc (n - 1) ≡ n = omega arith in
-      let g : little (part at n b) ≡ getD b at 0 + 256 * little (part (at + 1) (n - 1) b) = ap (λ (i : ℕ). little (part at i b)) (sym f) ∙ little-part at (n - 1) b in
+      let g : little (part at n b) ≡ getD b at 0 + 256 * little (part (at + 1) (n - 1) b) =
+      ap (λ (i : ℕ). little (part at i b)) (sym f) ∙ little-part at (n - 1) b in
       let k : 256 ^ n ≡ 256 * 256 ^ (n - 1) = ap (λ (i : ℕ). 256 ^ i) (sym f) ∙ one-more (n - 1) in
       (omega arith, omega arith)
     where
@@ -83,7 +94,9 @@ module _ (b : List ℕ) (at n : ℕ) where
 -- the numbers on the way fit a word
 module _ (n r : ℕ) (most : n ≤ 8) (some : n ≡ 0 → ⊥) (low : r < 256 ^ (n - 1)) where
   room-left : 256 * r + 256 ≤ 256 ^ 8
-  room-left = let l : 256 ^ (n - 1) ≤ 256 ^ 7 = pow-le-pow-right {n = 256} (omega arith) {i = n - 1} {j = 7} (omega arith) in omega arith
+  room-left =
+      let l : 256 ^ (n - 1) ≤ 256 ^ 7 = pow-le-pow-right {n = 256} (omega arith) {i = n - 1} {j = 7} (omega arith) in
+      omega arith
 
   pub mul-fits : Fits w64 (256 * r)
   mul-fits = record { fits = omega (arith, room-left) }

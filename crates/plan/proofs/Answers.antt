@@ -22,7 +22,8 @@ use Rattle.zones.specs.Words.{wordsOfConfig}
 use Rattle.zones.proofs.Records.{zero-region}
 use Rattle.plan.specs.Fields.{numberOut, NumberRead}
 use Rattle.plan.specs.Into.{Step, on, stop, setInto, zonesInto, stepOf, sectionPlace, Reads}
-use Rattle.plan.specs.Sections.{noConfig, noTable, marksAnswer, sectionAnswer, configAnswer, tableAnswer, regionsAnswer, zonesAnswer}
+use Rattle.plan.specs.Sections.{noConfig, noTable, marksAnswer, sectionAnswer, configAnswer, tableAnswer}
+use Rattle.plan.specs.Sections.{regionsAnswer, zonesAnswer}
 use Rattle.plan.specs.declared.field.Number.{Number}
 use Rattle.plan.specs.declared.field.Number.the-variants.{Is, Missing}
 use Rattle.plan.specs.declared.sections.Marks.the-variants.{Are, Bad as BadMarks}
@@ -38,28 +39,45 @@ use Rattle.plan.proofs.Passing.{list-none, list-out, list-cut, list-end
 use Rattle.plan.proofs.Storing.{SetsFit, records-stored, zones-stored}
 
 -- ---- what a reader into words says of the format: o is what the format reads
-module _ {A : Type 0} (p : A → List ℕ) (o : Out A) (s v : List ℕ) (r : Section) (S : Step) (agrees : Agrees p o S) (read : Reads s v r S) where
+module _ {A : Type 0} (p : A → List ℕ) (o : Out A) (s v : List ℕ) (r : Section) (S : Step) (agrees : Agrees p o S)
+    (read : Reads s v r S) where
   pub reads-end : (e : ℕ) → r ≡ End e → (x : A) × (o ≡ got x (drop e s)) × (v ≡ p x) × (e ≤ length s)
   unfolding Agrees stepOf sectionPlace
   reads-end e f = by o agrees
     where
       by : (o : Out A) → Agrees p o S → (x : A) × (o ≡ got x (drop e s)) × (v ≡ p x) × (e ≤ length s)
-      by (got x t) a = let q : on (p x) t ≡ on v (drop e s) = sym a ∙ read .step ∙ ap (stepOf s v) f in let m : t ≡ drop e s = cc in let n : v ≡ p x = cc in (x, ap (got x) m, n, rw f at (read .within))
-      by (bad k t) a = absurd (let q : stop (a .0) k t ≡ on v (drop e s) = sym (a .1) ∙ read .step ∙ ap (stepOf s v) f in let z : _≡_ {A = ℕ} 0 1 = cc in omega arith)
+      by (got x t) a =
+          let q : on (p x) t ≡ on v (drop e s) = sym a ∙ read .step ∙ ap (stepOf s v) f in
+          let m : t ≡ drop e s = cc in
+          let n : v ≡ p x = cc in
+          (x, ap (got x) m, n, rw f at (read .within))
+      by (bad k t) a =
+          absurd (let q : stop (a .0) k t ≡ on v (drop e s) = sym (a .1) ∙ read .step ∙ ap (stepOf s v) f in
+          let z : _≡_ {A = ℕ} 0 1 = cc in
+          omega arith)
 
   pub reads-bad : (k at : ℕ) → r ≡ Bad k at → (o ≡ bad k (drop at s)) × (at ≤ length s)
   unfolding Agrees stepOf sectionPlace
   reads-bad k at f = by o agrees
     where
       by : (o : Out A) → Agrees p o S → (o ≡ bad k (drop at s)) × (at ≤ length s)
-      by (got x t) a = absurd (let q : on (p x) t ≡ stop v k (drop at s) = sym a ∙ read .step ∙ ap (stepOf s v) f in let z : _≡_ {A = ℕ} 0 1 = cc in omega arith)
-      by (bad j t) a = let q : stop (a .0) j t ≡ stop v k (drop at s) = sym (a .1) ∙ read .step ∙ ap (stepOf s v) f in let m : j ≡ k = cc in let n : t ≡ drop at s = cc in (ap₂ (λ (x : ℕ) (y : List ℕ). bad x y) m n, rw f at (read .within))
+      by (got x t) a =
+          absurd (let q : on (p x) t ≡ stop v k (drop at s) = sym a ∙ read .step ∙ ap (stepOf s v) f in
+          let z : _≡_ {A = ℕ} 0 1 = cc in
+          omega arith)
+      by (bad j t) a =
+          let q : stop (a .0) j t ≡ stop v k (drop at s) = sym (a .1) ∙ read .step ∙ ap (stepOf s v) f in
+          let m : j ≡ k = cc in
+          let n : t ≡ drop at s = cc in
+          (ap₂ (λ (x : ℕ) (y : List ℕ). bad x y) m n, rw f at (read .within))
 
 -- a number that is there, at the first two places of a section
-pub first-there : (s : List ℕ) (n : ℕ) (c : Number) → NumberRead s 0 (readNumber 4 (drop 0 s)) c → c ≡ Is n → 4 ≤ length s
+pub first-there : (s : List ℕ) (n : ℕ) (c : Number) → NumberRead s 0 (readNumber 4 (drop 0 s)) c → c ≡ Is n
+    → 4 ≤ length s
 first-there s n c read e = number-within s 0 c read n e
 
-pub second-there : (s : List ℕ) (n : ℕ) (c : Number) → NumberRead s 4 (readNumber 4 (drop 4 s)) c → c ≡ Is n → 8 ≤ length s
+pub second-there : (s : List ℕ) (n : ℕ) (c : Number) → NumberRead s 4 (readNumber 4 (drop 4 s)) c → c ≡ Is n
+    → 8 ≤ length s
 second-there s n c read e = number-within s 4 c read n e
 
 -- ---- the marks: c, g and e are what their fields' readers answered
@@ -79,59 +97,85 @@ module _ (s : List ℕ) (c : Number) (read : NumberRead s 0 (readNumber 4 (drop 
 
       pub marks-no-gic : g ≡ Missing → BadMarks 20 4 ≡ marksAnswer (length s) (marksSection .read s)
       unfolding marksAnswer readHeaded readAs readBoth then numberOut
-      marks-no-gic e = rw (counted-in, second .read ∙ ap (numberOut s 4) e) (ap (BadMarks 20) (place s 4 (number-within s 0 c read n f)))
+      marks-no-gic e =
+          rw (counted-in, second .read ∙ ap (numberOut s 4) e)
+          (ap (BadMarks 20) (place s 4 (number-within s 0 c read n f)))
 
       module _ (gic : ℕ) (e : g ≡ Is gic) (d : Number) (third : NumberRead s 8 (readNumber 4 (drop 8 s)) d) where
         pub marks-no-edition : d ≡ Missing → BadMarks 20 8 ≡ marksAnswer (length s) (marksSection .read s)
         unfolding marksAnswer readHeaded readAs readBoth then numberOut
-        marks-no-edition j = rw (counted-in, second .read ∙ ap (numberOut s 4) e, third .read ∙ ap (numberOut s 8) j) (ap (BadMarks 20) (place s 8 (number-within s 4 g second gic e)))
+        marks-no-edition j =
+            rw (counted-in, second .read ∙ ap (numberOut s 4) e, third .read ∙ ap (numberOut s 8) j)
+            (ap (BadMarks 20) (place s 8 (number-within s 4 g second gic e)))
 
         pub marks-are : (edition : ℕ) → d ≡ Is edition → Are gic edition ≡ marksAnswer (length s) (marksSection .read s)
         unfolding marksAnswer readHeaded readAs readBoth then numberOut
         marks-are edition j = rw (counted-in, second .read ∙ ap (numberOut s 4) e, third .read ∙ ap (numberOut s 8) j)
 
 -- ---- the configuration
-config-stored : (gic : ℕ) (rs : List Region) → length rs ≤ mostRegions → storeSet configCount configRecords (set (replicate configWords 0) configGic gic) rs ≡ wordsOfConfig (record { regions = rs; gic = gic })
+config-stored : (gic : ℕ) (rs : List Region) → length rs ≤ mostRegions
+    → storeSet configCount configRecords (set (replicate configWords 0) configGic gic) rs
+    ≡ wordsOfConfig (record { regions = rs; gic = gic })
 unfolding storeSet wordsOfConfig counted
 config-stored gic rs h =
     let c : ℕ = length rs in
     let free : List ℕ = replicate ((mostRegions - c) * regionWords) 0 in
-    let split : replicate {A = ℕ} (mostRegions * regionWords) 0 ≡ replicate (c * regionWords) 0 ++ free = (let q : mostRegions * regionWords ≡ c * regionWords + (mostRegions - c) * regionWords = omega arith in ap (λ (m : ℕ). replicate m 0) q ∙ sym (replicate-append-replicate (c * regionWords) ((mostRegions - c) * regionWords) 0)) in
+    let split : replicate {A = ℕ} (mostRegions * regionWords) 0 ≡ replicate (c * regionWords) 0 ++ free =
+    (let q : mostRegions * regionWords ≡ c * regionWords + (mostRegions - c) * regionWords = omega arith in
+    ap (λ (m : ℕ). replicate m 0) q
+    ∙ sym (replicate-append-replicate (c * regionWords) ((mostRegions - c) * regionWords) 0)) in
     ap (λ (l : List ℕ). putAll (storeRecord configRecords) 0 (c ∷ gic ∷ l) rs) split
     ∙ records-stored configRecords rs (c ∷ gic ∷ []) free refl
-    ∙ ap (λ (l : List ℕ). c ∷ gic ∷ drop 1 l) (sym (counted-words wordsOfRegion regionWords mostRegions noRegion zero-region rs h))
+    ∙ ap (λ (l : List ℕ). c ∷ gic ∷ drop 1 l)
+    (sym (counted-words wordsOfRegion regionWords mostRegions noRegion zero-region rs h))
 
-module _ (s v : List ℕ) (gic : ℕ) (r : Section) (read : Reads s v r (setInto 1 mostRegions configCount configRecords (set (replicate configWords 0) configGic gic) (drop 0 s))) where
-  agree : Agrees (storeSet configCount configRecords (set (replicate configWords 0) configGic gic)) (regionsSection limits .read s) (setInto 1 mostRegions configCount configRecords (set (replicate configWords 0) configGic gic) s)
+module _ (s v : List ℕ) (gic : ℕ) (r : Section)
+    (read : Reads s v r (setInto 1 mostRegions configCount configRecords (set (replicate configWords 0) configGic gic)
+    (drop 0 s))) where
+  agree : Agrees (storeSet configCount configRecords (set (replicate configWords 0) configGic gic))
+      (regionsSection limits .read s) (setInto 1 mostRegions configCount configRecords
+      (set (replicate configWords 0) configGic gic) s)
   agree = set-agrees 1 mostRegions configCount configRecords (set (replicate configWords 0) configGic gic) s
 
-  pub regions-bad : (k at : ℕ) → r ≡ Bad k at → _≡_ {A = Regions} (record { section = r; config = noConfig }) (regionsAnswer gic (length s) (regionsSection limits .read s))
+  pub regions-bad : (k at : ℕ) → r ≡ Bad k at
+      → _≡_ {A = Regions} (record { section = r; config = noConfig })
+      (regionsAnswer gic (length s) (regionsSection limits .read s))
   unfolding sectionAnswer configAnswer
   regions-bad k at f =
       let (e, l) = reads-bad _ _ s v r _ agree read k at f in
-      (λ i. record { section = (f ∙ ap (Bad k) (place s at l)) i; config = noConfig }) ∙ sym (ap (regionsAnswer gic (length s)) e)
+      (λ i. record { section = (f ∙ ap (Bad k) (place s at l)) i; config = noConfig })
+      ∙ sym (ap (regionsAnswer gic (length s)) e)
 
-  pub regions-are : (e : ℕ) → r ≡ End e → _≡_ {A = Regions} (record { section = End e; config = record { words = v } }) (regionsAnswer gic (length s) (regionsSection limits .read s))
+  pub regions-are : (e : ℕ) → r ≡ End e
+      → _≡_ {A = Regions} (record { section = End e; config = record { words = v } })
+      (regionsAnswer gic (length s) (regionsSection limits .read s))
   unfolding sectionAnswer configAnswer
   regions-are e f =
       let (rs, o, m, l) = reads-end _ _ s v r _ agree read e f in
-      let h : length rs ≤ mostRegions = listed-got regionField (λ x. Unit {0}) (λ b x t e. tt) 4 1 mostRegions s rs (drop e s) o .0 in
-      (λ i. record { section = ap End (place s e l) i; config = record { words = (m ∙ config-stored gic rs h) i } }) ∙ sym (ap (regionsAnswer gic (length s)) o)
+      let h : length rs ≤ mostRegions =
+      listed-got regionField (λ x. Unit {0}) (λ b x t e. tt) 4 1 mostRegions s rs (drop e s) o .0 in
+      (λ i. record { section = ap End (place s e l) i; config = record { words = (m ∙ config-stored gic rs h) i } })
+      ∙ sym (ap (regionsAnswer gic (length s)) o)
 
 -- ---- the zones
 module _ (s v : List ℕ) (r : Section) (read : Reads s v r (zonesInto (replicate tableWords 0) s)) where
-  pub zones-bad : (k at : ℕ) → r ≡ Bad k at → _≡_ {A = Zones} (record { section = r; table = noTable }) (zonesAnswer (length s) (zonesSection limits .read s))
+  pub zones-bad : (k at : ℕ) → r ≡ Bad k at
+      → _≡_ {A = Zones} (record { section = r; table = noTable }) (zonesAnswer (length s) (zonesSection limits .read s))
   unfolding sectionAnswer tableAnswer
   zones-bad k at f =
       let (e, l) = reads-bad _ _ s v r _ (zones-agree (replicate tableWords 0) s) read k at f in
-      (λ i. record { section = (f ∙ ap (Bad k) (place s at l)) i; table = noTable }) ∙ sym (ap (zonesAnswer (length s)) e)
+      (λ i. record { section = (f ∙ ap (Bad k) (place s at l)) i; table = noTable })
+      ∙ sym (ap (zonesAnswer (length s)) e)
 
-  pub zones-are : (e : ℕ) → r ≡ End e → _≡_ {A = Zones} (record { section = End e; table = record { words = v } }) (zonesAnswer (length s) (zonesSection limits .read s))
+  pub zones-are : (e : ℕ) → r ≡ End e
+      → _≡_ {A = Zones} (record { section = End e; table = record { words = v } })
+      (zonesAnswer (length s) (zonesSection limits .read s))
   unfolding sectionAnswer tableAnswer
   zones-are e f =
       let (zs, o, m, l) = reads-end _ _ s v r _ (zones-agree (replicate tableWords 0) s) read e f in
       let (h, g) = listed-got (zoneFormat limits) SetsFit (sets-few limits) 4 0 mostZones s zs (drop e s) o in
-      (λ i. record { section = ap End (place s e l) i; table = record { words = (m ∙ zones-stored zs g h) i } }) ∙ sym (ap (zonesAnswer (length s)) o)
+      (λ i. record { section = ap End (place s e l) i; table = record { words = (m ∙ zones-stored zs g h) i } })
+      ∙ sym (ap (zonesAnswer (length s)) o)
 
 -- ---- the requests: all of one width
 module _ (s : List ℕ) (c : Number) (read : NumberRead s 0 (readNumber 4 (drop 0 s)) c) where
@@ -143,12 +187,16 @@ module _ (s : List ℕ) (c : Number) (read : NumberRead s 0 (readNumber 4 (drop 
     requests-out = list-out fiveNumbers requestBytes askedIn wide-asked 0 mostRequests s 0 c read n b f t (omega arith)
 
     module _ (h : not b ≡ false) where
-      pub requests-cut : (length s - 4) / requestBytes < n → Bad 20 (4 + (length s - 4) / requestBytes * requestBytes) ≡ sectionAnswer (length s) (requestsSection limits .read s)
+      pub requests-cut : (length s - 4) / requestBytes < n
+          → Bad 20 (4 + (length s - 4) / requestBytes * requestBytes)
+          ≡ sectionAnswer (length s) (requestsSection limits .read s)
       requests-cut g =
           let l : 4 ≤ length s = number-within s 0 c read n f in
-          list-cut fiveNumbers requestBytes askedIn wide-asked 0 mostRequests s 0 c read n b f t h ((length s - 4) / requestBytes) g (omega arith) (omega arith)
+          list-cut fiveNumbers requestBytes askedIn wide-asked 0 mostRequests s 0 c read n b f t h
+          ((length s - 4) / requestBytes) g (omega arith) (omega arith)
 
-      pub requests-end : n ≤ (length s - 4) / requestBytes → End (4 + n * requestBytes) ≡ sectionAnswer (length s) (requestsSection limits .read s)
+      pub requests-end : n ≤ (length s - 4) / requestBytes
+          → End (4 + n * requestBytes) ≡ sectionAnswer (length s) (requestsSection limits .read s)
       requests-end g =
           let l : 4 ≤ length s = number-within s 0 c read n f in
           list-end fiveNumbers requestBytes askedIn wide-asked 0 mostRequests s 0 c read n b f t h (omega arith)

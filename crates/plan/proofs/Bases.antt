@@ -1,4 +1,5 @@
--- What a plan gives that reads whole: its base, held against the terminal's words, passes exactly if it is the base that they hold. And its requests.
+-- What a plan gives that reads whole: its base, held against the terminal's words, passes exactly if it is the base
+-- that they hold. And its requests.
 use Prim.Native.Nat.{ℕ, _+_, _-_, _*_, _/_, _≤_}
 use native.Mathlib.Omega.{arith}
 use mathlib.Core.Bool.{Bool, true, false, cond}
@@ -48,12 +49,22 @@ module _ (b : List ℕ) (p : Plan) (t : List ℕ) (e : readPlan limits b ≡ got
   before-requests =
       let h = sections in
       let (w1, q1) = subst (λ (o : Out Marks). Part (left o) b) (h .marks) (lawful-marks .part b) in
-      let (w2, q2) = subst (λ (o : Out (List Region)). Part (left o) (h .afterMarks)) (h .regions) (lawful-regions limits .part (h .afterMarks)) in
-      let (w3, q3) = subst (λ (o : Out (List Zone)). Part (left o) (h .afterRegions)) (h .zones) (lawful-zones limits .part (h .afterRegions)) in
-      (w1 ++ (w2 ++ w3), q1 ∙ ap (λ (l : List ℕ). w1 ++ l) (q2 ∙ ap (λ (l : List ℕ). w2 ++ l) q3 ∙ sym (append-assoc w2 w3 (h .afterZones))) ∙ sym (append-assoc w1 (w2 ++ w3) (h .afterZones)))
+      let (w2, q2) =
+      subst (λ (o : Out (List Region)). Part (left o) (h .afterMarks)) (h .regions)
+      (lawful-regions limits .part (h .afterMarks)) in
+      let (w3, q3) =
+      subst (λ (o : Out (List Zone)). Part (left o) (h .afterRegions)) (h .zones)
+      (lawful-zones limits .part (h .afterRegions)) in (
+        w1 ++ (w2 ++ w3),
+        q1 ∙ ap (λ (l : List ℕ). w1 ++ l) (q2
+            ∙ ap (λ (l : List ℕ). w2 ++ l) q3
+            ∙ sym (append-assoc w2 w3 (h .afterZones)))
+            ∙ sym (append-assoc w1 (w2 ++ w3) (h .afterZones)),
+      )
 
   -- the requests are the last of its bytes
-  requests-last : (4 + length (p .asked) * requestBytes ≡ length (sections .afterZones)) × (drop (length b - length (p .asked) * requestBytes) b ≡ drop 4 (sections .afterZones))
+  requests-last : (4 + length (p .asked) * requestBytes ≡ length (sections .afterZones))
+      × (drop (length b - length (p .asked) * requestBytes) b ≡ drop 4 (sections .afterZones))
   requests-last =
       let (w, q) = before-requests in
       let u : List ℕ = sections .afterZones in
@@ -64,14 +75,27 @@ module _ (b : List ℕ) (p : Plan) (t : List ℕ) (e : readPlan limits b ≡ got
       (omega arith, ap₂ drop k q ∙ sym (drop-drop 4 (length w) (w ++ u)) ∙ ap (drop 4) (drop-at w u (length w) refl))
 
   -- each is made of its numbers
-  one-request : (d : List ℕ) (at : ℕ) → makeRequest (askedIn (drop at d) .kind) (askedIn (drop at d) .zone) (askedIn (drop at d) .region) ≡ requestFrom d at
+  one-request : (d : List ℕ) (at : ℕ)
+      → makeRequest (askedIn (drop at d) .kind) (askedIn (drop at d) .zone) (askedIn (drop at d) .region)
+      ≡ requestFrom d at
   unfolding requestFrom part
   one-request d at =
       let e4 : drop 4 (drop at d) ≡ drop (at + 4) d = drop-drop 4 at d in
-      let e8 : drop 4 (drop 4 (drop at d)) ≡ drop (at + 8) d = (let k : at + 4 + 4 ≡ at + 8 = omega arith in ap (drop 4) e4 ∙ drop-drop 4 (at + 4) d ∙ ap (λ (j : ℕ). drop j d) k) in
-      let e16 : drop 8 (drop 4 (drop 4 (drop at d))) ≡ drop (at + 16) d = (let k : at + 8 + 8 ≡ at + 16 = omega arith in ap (drop 8) e8 ∙ drop-drop 8 (at + 8) d ∙ ap (λ (j : ℕ). drop j d) k) in
-      let e24 : drop 8 (drop 8 (drop 4 (drop 4 (drop at d)))) ≡ drop (at + 24) d = (let k : at + 16 + 8 ≡ at + 24 = omega arith in ap (drop 8) e16 ∙ drop-drop 8 (at + 16) d ∙ ap (λ (j : ℕ). drop j d) k) in
-      (λ i. makeRequest (little (take 4 (drop at d))) (little (take 4 (e4 i))) (record { v = record { 0 = little (take 8 (e8 i)) }; p = record { 0 = little (take 8 (e16 i)) }; size = little (take 8 (e24 i)) }))
+      let e8 : drop 4 (drop 4 (drop at d)) ≡ drop (at + 8) d =
+      (let k : at + 4 + 4 ≡ at + 8 = omega arith in
+      ap (drop 4) e4 ∙ drop-drop 4 (at + 4) d ∙ ap (λ (j : ℕ). drop j d) k) in
+      let e16 : drop 8 (drop 4 (drop 4 (drop at d))) ≡ drop (at + 16) d =
+      (let k : at + 8 + 8 ≡ at + 16 = omega arith in
+      ap (drop 8) e8 ∙ drop-drop 8 (at + 8) d ∙ ap (λ (j : ℕ). drop j d) k) in
+      let e24 : drop 8 (drop 8 (drop 4 (drop 4 (drop at d)))) ≡ drop (at + 24) d =
+      (let k : at + 16 + 8 ≡ at + 24 = omega arith in
+      ap (drop 8) e16 ∙ drop-drop 8 (at + 16) d ∙ ap (λ (j : ℕ). drop j d) k) in
+      (λ i. makeRequest (little (take 4 (drop at d)))
+      (little (take 4 (e4 i))) (record {
+        v = record { 0 = little (take 8 (e8 i)) };
+        p = record { 0 = little (take 8 (e16 i)) };
+        size = little (take 8 (e24 i));
+      }))
 
   pub requests-same : requestsIn (drop (length b - length (p .asked) * requestBytes) b) ≡ requestsOf p
   unfolding requestsIn tab
@@ -79,12 +103,16 @@ module _ (b : List ℕ) (p : Plan) (t : List ℕ) (e : readPlan limits b ≡ got
       let (l, q) = requests-last in
       let d : List ℕ = drop 4 (sections .afterZones) in
       let n : ℕ = length (p .asked) in
-      let asked : p .asked ≡ tab n (λ i. askedIn (drop (i * requestBytes) d)) = requests-read (sections .afterZones) (p .asked) [] (sections .requests) .1 in
-      let m : length d / requestBytes ≡ n = (let k : length d ≡ n * requestBytes = omega (arith, length-drop 4 (sections .afterZones)) in omega arith) in
+      let asked : p .asked ≡ tab n (λ i. askedIn (drop (i * requestBytes) d)) =
+      requests-read (sections .afterZones) (p .asked) [] (sections .requests) .1 in
+      let m : length d / requestBytes ≡ n =
+      (let k : length d ≡ n * requestBytes = omega (arith, length-drop 4 (sections .afterZones)) in
+      omega arith) in
       ap requestsIn q
       ∙ ap (λ (k : ℕ). map (λ i. requestFrom d (i * requestBytes)) (places 0 k)) m
       ∙ (λ j. map (λ i. sym (one-request d (i * requestBytes)) j) (places 0 n))
-      ∙ sym (map-map (λ (a : Asked). makeRequest (a .kind) (a .zone) (a .region)) (λ i. askedIn (drop (i * requestBytes) d)) (places 0 n))
+      ∙ sym (map-map (λ (a : Asked). makeRequest (a .kind) (a .zone) (a .region))
+      (λ i. askedIn (drop (i * requestBytes) d)) (places 0 n))
       ∙ ap (map (λ (a : Asked). makeRequest (a .kind) (a .zone) (a .region))) (sym asked)
 
 -- ---- where its sections begin
@@ -95,8 +123,11 @@ module _ (b : List ℕ) (p : Plan) (t : List ℕ) (e : readPlan limits b ≡ got
   after-marks : (12 ≤ length b) × (sections b p t e .afterMarks ≡ drop 12 b)
   after-marks = marks-got b (p .marks) (sections b p t e .afterMarks) (sections b p t e .marks)
 
-  regions-read : Listed regionNumbers regionBytes regionValue wide-region 1 mostRegions (sections b p t e .afterMarks) (p .regions) (sections b p t e .afterRegions)
-  regions-read = list-read regionNumbers regionBytes regionValue wide-region 1 mostRegions (sections b p t e .afterMarks) (p .regions) (sections b p t e .afterRegions) (sections b p t e .regions)
+  regions-read : Listed regionNumbers regionBytes regionValue wide-region 1 mostRegions (sections b p t e .afterMarks)
+      (p .regions) (sections b p t e .afterRegions)
+  regions-read =
+      list-read regionNumbers regionBytes regionValue wide-region 1 mostRegions (sections b p t e .afterMarks)
+      (p .regions) (sections b p t e .afterRegions) (sections b p t e .regions)
 
   pub marks-within : 12 ≤ length b
   marks-within = after-marks .0
@@ -109,11 +140,15 @@ module _ (b : List ℕ) (p : Plan) (t : List ℕ) (e : readPlan limits b ≡ got
 
   pub zones-at : zonesSection limits .read (drop zonesAt b) ≡ got (p .zones) (sections b p t e .afterZones)
   zones-at =
-      let q : sections b p t e .afterRegions ≡ drop zonesAt b = regions-read .rest ∙ ap (drop (4 + length (p .regions) * regionBytes)) (after-marks .1) ∙ drop-drop (4 + length (p .regions) * regionBytes) 12 b in
+      let q : sections b p t e .afterRegions ≡ drop zonesAt b =
+      regions-read .rest
+      ∙ ap (drop (4 + length (p .regions) * regionBytes)) (after-marks .1)
+      ∙ drop-drop (4 + length (p .regions) * regionBytes) 12 b in
       ap (λ (l : List ℕ). zonesSection limits .read l) (sym q) ∙ sections b p t e .zones
 
 -- ---- its base, held against the terminal's words c and w
-held-value : {A : Type 0} (n : ℕ) (f : A → Bool) (o : Out A) (x : A) (t : List ℕ) → o ≡ got x t → isHeld (heldAnswer n f o) ≡ f x
+held-value : {A : Type 0} (n : ℕ) (f : A → Bool) (o : Out A) (x : A) (t : List ℕ) → o ≡ got x t
+    → isHeld (heldAnswer n f o) ≡ f x
 unfolding isHeld heldAnswer
 held-value n f o x t e = ap (λ (y : Out _). isHeld (heldAnswer n f y)) e ∙ by (f x)
   where
@@ -121,15 +156,23 @@ held-value n f o x t e = ap (λ (y : Out _). isHeld (heldAnswer n f y)) e ∙ by
     by true = refl
     by false = refl
 
-module _ (b : List ℕ) (p : Plan) (t : List ℕ) (e : readPlan limits b ≡ got p t) (c w : List ℕ) (stands : standing limits (storedConfig c) (storedTable w) ≡ 0) where
+module _ (b : List ℕ) (p : Plan) (t : List ℕ) (e : readPlan limits b ≡ got p t) (c w : List ℕ)
+    (stands : standing limits (storedConfig c) (storedTable w) ≡ 0) where
   pub config-same : configHeld (drop 12 b) (p .marks .gic) c ≡ sameConfig (configIn c) p
   unfolding configHeld sameConfig holdsRegions
   config-same =
       let ok : ConfigPassed c = stands-well limits (storedConfig c) (storedTable w) stands .0 in
-      let regions : recordsAt c configRecords (getD c configCount 0) ≡ configIn c .regions = ap (recordsAt c configRecords) (count-is c ok .0) ∙ sym (regions-in c ok) in
-      let first : isHeld (heldAnswer (length (drop 12 b)) (holdsRegions c configCount configRecords) (regionsSection limits .read (drop 12 b))) ≡ sameList regionEq (configIn c .regions) (p .regions) = held-value _ (holdsRegions c configCount configRecords) _ (p .regions) _ (regions-at b p t e) ∙ ap (λ (l : List Region). sameList regionEq l (p .regions)) regions in
+      let regions : recordsAt c configRecords (getD c configCount 0) ≡ configIn c .regions =
+      ap (recordsAt c configRecords) (count-is c ok .0) ∙ sym (regions-in c ok) in
+      let first : isHeld (heldAnswer (length (drop 12 b)) (holdsRegions c configCount configRecords)
+      (regionsSection limits .read (drop 12 b)))
+      ≡ sameList regionEq (configIn c .regions) (p .regions) =
+      held-value _ (holdsRegions c configCount configRecords) _ (p .regions) _ (regions-at b p t e)
+      ∙ ap (λ (l : List Region). sameList regionEq l (p .regions)) regions in
       ap₂ (λ (x : Bool) (g : ℕ). allOf (x ∷ eqb g (p .marks .gic) ∷ [])) first (gic-is c ok .0)
 
   pub zones-same : tableHeld (drop (zonesAt b p t e) b) w ≡ sameList sameZone (tableOf (storedTable w)) (p .zones)
   unfolding tableHeld
-  zones-same = held-value _ (sameList sameZone (zonesIn w)) _ (p .zones) _ (zones-at b p t e) ∙ ap (λ (l : List Zone). sameList sameZone l (p .zones)) (stands-same c w 0 (sym stands) refl)
+  zones-same =
+      held-value _ (sameList sameZone (zonesIn w)) _ (p .zones) _ (zones-at b p t e)
+      ∙ ap (λ (l : List Zone). sameList sameZone l (p .zones)) (stands-same c w 0 (sym stands) refl)

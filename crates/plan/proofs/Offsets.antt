@@ -1,4 +1,5 @@
--- Offsets: a reader leaves the end of the bytes that it was lent, so the offset of what it leaves is a difference of lengths.
+-- Offsets: a reader leaves the end of the bytes that it was lent, so the offset of what it leaves is a difference of
+-- lengths.
 use Prim.Native.Nat.{ℕ, _-_, _≤_}
 use native.Mathlib.Omega.{arith}
 use mathlib.Core.List.{List}
@@ -24,7 +25,8 @@ pub part-in : (s t : List ℕ) (at : ℕ) → Part t (drop at s) → Part t s
 part-in s t at p = part-trans t (drop at s) s p (take at s, sym (take-append-drop at s))
 
 -- ---- a section that reads o, in bytes of which what o leaves is the end
-module _ {A : Type 0} (s : List ℕ) (o : Out A) (part : Part (left o) s) (r : Section) (er : r ≡ sectionAnswer (length s) o) where
+module _ {A : Type 0} (s : List ℕ) (o : Out A) (part : Part (left o) s) (r : Section)
+    (er : r ≡ sectionAnswer (length s) o) where
   pub left-within : length (left o) ≤ length s
   left-within = omega (arith, ap length (part .1), length-append (part .0) (left o))
 
@@ -33,16 +35,28 @@ module _ {A : Type 0} (s : List ℕ) (o : Out A) (part : Part (left o) s) (r : S
   end-within e f = by o er
     where
       by : (o : Out A) → r ≡ sectionAnswer (length s) o → e ≤ length s
-      by (got x t) g = let q : End (length s - length t) ≡ End e = sym g ∙ f in let m : length s - length t ≡ e = cc in omega arith
-      by (bad k t) g = absurd (let q : Bad k (length s - length t) ≡ End e = sym g ∙ f in let z : _≡_ {A = ℕ} 0 1 = cc in omega arith)
+      by (got x t) g =
+          let q : End (length s - length t) ≡ End e = sym g ∙ f in
+          let m : length s - length t ≡ e = cc in
+          omega arith
+      by (bad k t) g =
+          absurd (let q : Bad k (length s - length t) ≡ End e = sym g ∙ f in
+          let z : _≡_ {A = ℕ} 0 1 = cc in
+          omega arith)
 
   pub bad-within : (k a : ℕ) → r ≡ Bad k a → a ≤ length s
   unfolding sectionAnswer
   bad-within k a f = by o er
     where
       by : (o : Out A) → r ≡ sectionAnswer (length s) o → a ≤ length s
-      by (got x t) g = absurd (let q : End (length s - length t) ≡ Bad k a = sym g ∙ f in let z : _≡_ {A = ℕ} 0 1 = cc in omega arith)
-      by (bad j t) g = let q : Bad j (length s - length t) ≡ Bad k a = sym g ∙ f in let m : length s - length t ≡ a = cc in omega arith
+      by (got x t) g =
+          absurd (let q : End (length s - length t) ≡ Bad k a = sym g ∙ f in
+          let z : _≡_ {A = ℕ} 0 1 = cc in
+          omega arith)
+      by (bad j t) g =
+          let q : Bad j (length s - length t) ≡ Bad k a = sym g ∙ f in
+          let m : length s - length t ≡ a = cc in
+          omega arith
 
   -- what it reads, where it ends
   pub ends-with : (e : ℕ) → r ≡ End e → (x : A) × (o ≡ got x (drop e s))
@@ -55,4 +69,7 @@ module _ {A : Type 0} (s : List ℕ) (o : Out A) (part : Part (left o) s) (r : S
           let m : length s - length t ≡ e = cc in
           let n : length (p .0) ≡ e = omega (arith, ap length (p .1), length-append (p .0) t) in
           (x, ap (got x) (sym (ap (drop e) (p .1) ∙ drop-at (p .0) t e n)))
-      by (bad k t) p g = absurd (let q : Bad k (length s - length t) ≡ End e = sym g ∙ f in let z : _≡_ {A = ℕ} 0 1 = cc in omega arith)
+      by (bad k t) p g =
+          absurd (let q : Bad k (length s - length t) ≡ End e = sym g ∙ f in
+          let z : _≡_ {A = ℕ} 0 1 = cc in
+          omega arith)

@@ -23,7 +23,11 @@ use Rattle.plan.specs.declared.words.Section.{Section}
 
 -- the terminal whose state the words are
 abbrev pub terminalIn : State → Terminal
-terminalIn s = record { config = storedConfig (s .config .words); table = storedTable (s .table .words); edition = s .edition }
+terminalIn s = record {
+  config = storedConfig (s .config .words);
+  table = storedTable (s .table .words);
+  edition = s .edition;
+}
 
 -- the words of a terminal's next state; its configuration is the same
 abbrev pub stateFor : State → Terminal → State
@@ -48,7 +52,9 @@ pub record AppliedIn (c t : List ℕ) (e : ℕ) (b : List ℕ) (r : Outcome) (u 
 -- ---- how the code goes about it
 -- 1 or 2, or a number that the plan has earned
 unfoldable pub turnedAway : List ℕ → List ℕ → ℕ → ℕ → Outcome
-turnedAway c t k place = cond (eqb (standing limits (storedConfig c) (storedTable t)) 0) (plain k place) (plain (standing limits (storedConfig c) (storedTable t)) 0)
+turnedAway c t k place =
+    cond (eqb (standing limits (storedConfig c) (storedTable t)) 0) (plain k place)
+    (plain (standing limits (storedConfig c) (storedTable t)) 0)
 
 -- 23 to 26, or 0: the plan's marks, and its bytes from the regions on and from the zones on, held against the words
 unfoldable pub baseNumber : List ℕ → List ℕ → ℕ → ℕ → ℕ → List ℕ → List ℕ → ℕ
@@ -72,5 +78,6 @@ Refilled s w v = (r : Section) × Reads s v r (zonesInto (emptied w) s)
 
 -- a plan that reads whole, by its base's number
 pub record FoundIn (c t : List ℕ) (e gic base : ℕ) (rs zs b : List ℕ) (r : Outcome) (u : List ℕ) : Type 0 where
-  pub base-other : (baseNumber c t e gic base rs zs ≡ 0 → ⊥) → (r ≡ turnedAway c t (baseNumber c t e gic base rs zs) 0) × (u ≡ t)
+  pub base-other : (baseNumber c t e gic base rs zs ≡ 0 → ⊥)
+      → (r ≡ turnedAway c t (baseNumber c t e gic base rs zs) 0) × (u ≡ t)
   pub base-same : baseNumber c t e gic base rs zs ≡ 0 → RanOrUndone c t b r u

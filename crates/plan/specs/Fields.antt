@@ -18,7 +18,11 @@ regionBytes = 24
 
 -- the region whose bytes begin at a place of s
 unfoldable pub regionIn : List ℕ → ℕ → Region
-regionIn s at = record { v = record { 0 = little (part at 8 s) }; p = record { 0 = little (part (at + 8) 8 s) }; size = little (part (at + 16) 8 s) }
+regionIn s at = record {
+  v = record { 0 = little (part at 8 s) };
+  p = record { 0 = little (part (at + 8) 8 s) };
+  size = little (part (at + 16) 8 s);
+}
 
 -- a number of 4 bytes at a place of s
 unfoldable pub numberOut : List ℕ → ℕ → Number → Out ℕ

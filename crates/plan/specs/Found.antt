@@ -18,7 +18,9 @@ marksBytes = 12
 
 -- a plan that reads whole: its regions follow the marks, and its requests are the last of its bytes
 unfoldable pub foundIn : ℕ → Out Plan → Found
-foundIn n (got p left) = At (p .marks .gic) (p .marks .edition) (marksBytes + (4 + length (p .regions) * regionBytes)) (n - length (p .asked) * requestBytes)
+foundIn n (got p left) =
+    At (p .marks .gic) (p .marks .edition) (marksBytes + (4 + length (p .regions) * regionBytes))
+    (n - length (p .asked) * requestBytes)
 foundIn n (bad k left) = Bad k (n - length left)
 
 -- ---- the same, section by section

@@ -44,7 +44,9 @@ holdsSets w k y = allOf (holdsRegions w k (k + 1) (y .0) ∷ holdsRegions w (k +
 
 -- the bytes from the regions' count on, and the GIC's position, are those of the configuration in the words w
 unfoldable pub configHeld : List ℕ → ℕ → List ℕ → Bool
-configHeld s gic w = allOf (isHeld (heldAnswer (length s) (holdsRegions w configCount configRecords) (regionsSection limits .read s)) ∷ eqb (getD w configGic 0) gic ∷ [])
+configHeld s gic w =
+    allOf (isHeld (heldAnswer (length s) (holdsRegions w configCount configRecords) (regionsSection limits .read s))
+    ∷ eqb (getD w configGic 0) gic ∷ [])
 
 -- the bytes from the zones' count on are those of the zones in the words w
 unfoldable pub tableHeld : List ℕ → List ℕ → Bool

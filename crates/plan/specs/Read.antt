@@ -17,7 +17,12 @@ refusedRead k at = record { requests = Bad k at; edition = 0; config = noConfig;
 
 -- a plan that reads whole: its requests are the last of its bytes
 unfoldable pub readAnswer : ℕ → Out Plan → Read
-readAnswer n (got p left) = record { requests = End (n - length (p .asked) * requestBytes); edition = p .marks .edition; config = configFor (p .marks .gic) (p .regions); table = tableFor (p .zones) }
+readAnswer n (got p left) = record {
+  requests = End (n - length (p .asked) * requestBytes);
+  edition = p .marks .edition;
+  config = configFor (p .marks .gic) (p .regions);
+  table = tableFor (p .zones);
+}
 readAnswer n (bad k left) = refusedRead k (n - length left)
 
 -- the stretch of the plan's bytes that holds its requests: none where it was refused

@@ -54,15 +54,10 @@ pub fn find_requests(plan: &[u8]) -> &[u8]
     ensures { λ r. ⌜ now r ≡ recordsIn (now (plan .entry)) ⌝ }
 {
     let found = find_sections(plan);
-    match found {
-        Found::Bad { number, at } => &plan[..0],
-        Found::At {
-            gic,
-            edition,
-            zones,
-            requests,
-        } => &plan[requests..],
-    }
+    let Found::At { requests, .. } = found else {
+        return &plan[..0];
+    };
+    &plan[requests..]
 }
 
 fn refused(number: u32, at: usize) -> Read

@@ -1,4 +1,5 @@
--- A stretch of words is zero exactly where its parts are: so it may be looked at by blocks of any width, and record by record.
+-- A stretch of words is zero exactly where its parts are: so it may be looked at by blocks of any width, and record by
+-- record.
 use Prim.Native.Nat.{ℕ, zero, suc, _+_, _-_, _*_, _≤_}
 use native.Mathlib.Omega.{arith}
 use mathlib.Core.Bool.{Bool, true, false, not, _&&_, and-true, Bool·not-not}
@@ -35,22 +36,27 @@ pub bits-none : (w : List ℕ) (k : ℕ) → eqb 0 0 ≡ zeros w k 0
 unfolding all places
 bits-none w k = refl
 
-pub bits-more : (w : List ℕ) (k i x : ℕ) → eqb x 0 ≡ zeros w k i → eqb (bitOr x (getD w (k + i) 0)) 0 ≡ zeros w k (i + 1)
+pub bits-more : (w : List ℕ) (k i x : ℕ) → eqb x 0 ≡ zeros w k i
+    → eqb (bitOr x (getD w (k + i) 0)) 0 ≡ zeros w k (i + 1)
 bits-more w k i x inv =
     or-none x (getD w (k + i) 0) ∙ ap (λ (b : Bool). b && isZeroAt w (k + i)) inv
-    ∙ sym (zeros-parts w k i 1 ∙ ap (λ (b : Bool). zeros w k i && b) (one-place (isZeroAt w) (k + i) ∙ and-true (isZeroAt w (k + i))))
+    ∙ sym (zeros-parts w k i 1
+    ∙ ap (λ (b : Bool). zeros w k i && b) (one-place (isZeroAt w) (k + i) ∙ and-true (isZeroAt w (k + i))))
 
 pub bits-all : (w : List ℕ) (k i n x : ℕ) → eqb x 0 ≡ zeros w k i → i ≤ n → n ≤ i → eqb x 0 ≡ zeros w k n
 bits-all w k i n x inv h l = let e : i ≡ n = omega arith in inv ∙ ap (zeros w k) e
 
 -- ---- a loop over blocks of m words: x has the bits of the block at k, and r is the whole answer
-module _ (w : List ℕ) (k e m x : ℕ) (r : Bool) (inv : zeros w k (e - k) ≡ r) (h : m ≤ e - k) (bits : eqb x 0 ≡ zeros w k m) where
+module _ (w : List ℕ) (k e m x : ℕ) (r : Bool) (inv : zeros w k (e - k) ≡ r) (h : m ≤ e - k)
+    (bits : eqb x 0 ≡ zeros w k m) where
   rest : Bool
   rest = zeros w (k + m) (e - (k + m))
 
   block : (eqb x 0 && rest) ≡ r
   unfolding rest
-  block = let f : e - k ≡ m + (e - (k + m)) = omega arith in ap (λ (b : Bool). b && rest) bits ∙ sym (ap (zeros w k) f ∙ zeros-parts w k m (e - (k + m))) ∙ inv
+  block =
+      let f : e - k ≡ m + (e - (k + m)) = omega arith in
+      ap (λ (b : Bool). b && rest) bits ∙ sym (ap (zeros w k) f ∙ zeros-parts w k m (e - (k + m))) ∙ inv
 
   pub block-stop : (x ≡ 0 → ⊥) → false ≡ r
   block-stop f = sym (ap (λ (b : Bool). b && rest) (ne-eqb x 0 f)) ∙ block
@@ -73,7 +79,8 @@ zero-record w k =
     ∙ sym (Bool·not-not (allOf (isZeroAt w k ∷ isZeroAt w (k + 1) ∷ isZeroAt w (k + 2) ∷ [])))
 
 -- those of n from word b on that are past the first c are all zero exactly when their words are
-pub free-zero : (w : List ℕ) (b n c : ℕ) → c ≤ n → not (any used (drop c (recordsAt w b n))) ≡ zeros w (b + c * regionWords) ((n - c) * regionWords)
+pub free-zero : (w : List ℕ) (b n c : ℕ) → c ≤ n
+    → not (any used (drop c (recordsAt w b n))) ≡ zeros w (b + c * regionWords) ((n - c) * regionWords)
 unfolding recordsAt recordAt
 free-zero w b n c h =
     let f : ℕ → Region = recordAt w b in
@@ -81,8 +88,13 @@ free-zero w b n c h =
     ∙ ap (all (λ (r : Region). not (used r))) (drop-tab n c f h)
     ∙ all-map f (λ (r : Region). not (used r)) (places c (n - c))
     ∙ places-shift (λ i. not (used (f i))) c (n - c)
-    ∙ all-same (λ i. not (used (f (c + i)))) (λ i. zeros w (b + c * regionWords + i * regionWords) regionWords) each (places 0 (n - c))
+    ∙ all-same (λ i. not (used (f (c + i)))) (λ i. zeros w (b + c * regionWords + i * regionWords) regionWords) each
+    (places 0 (n - c))
     ∙ sym (every-block (isZeroAt w) regionWords (b + c * regionWords) (n - c))
   where
-    each : (i : ℕ) → not (used (regionAt w (b + (c + i) * regionWords))) ≡ zeros w (b + c * regionWords + i * regionWords) regionWords
-    each i = let e : b + (c + i) * regionWords ≡ b + c * regionWords + i * regionWords = omega arith in sym (zero-record w (b + (c + i) * regionWords)) ∙ ap (λ (k : ℕ). zeros w k regionWords) e
+    each : (i : ℕ)
+        → not (used (regionAt w (b + (c + i) * regionWords)))
+        ≡ zeros w (b + c * regionWords + i * regionWords) regionWords
+    each i =
+        let e : b + (c + i) * regionWords ≡ b + c * regionWords + i * regionWords = omega arith in
+        sym (zero-record w (b + (c + i) * regionWords)) ∙ ap (λ (k : ℕ). zeros w k regionWords) e

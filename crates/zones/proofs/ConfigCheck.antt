@@ -41,7 +41,8 @@ module _ (w : List ℕ) (b n k : ℕ) (p : Region → Bool) (found : k ≡ first
       ∙ le-ltb (firstIndex p (recordsAt w b n)) (length (recordsAt w b n)) (omega (arith, length-tab n (recordAt w b)))
 
 -- ---- whether some record past the count is used, by whether the words of those records are zero
-module _ (w : List ℕ) (n : ℕ) (t : Bool) (h : n ≤ mostRegions) (e : t ≡ zeros w (configRecords + n * regionWords) (configWords - (configRecords + n * regionWords))) where
+module _ (w : List ℕ) (n : ℕ) (t : Bool) (h : n ≤ mostRegions)
+    (e : t ≡ zeros w (configRecords + n * regionWords) (configWords - (configRecords + n * regionWords))) where
   used-told : any used (drop n (allRecords w)) ≡ not t
   used-told =
       let f : (mostRegions - n) * regionWords ≡ configWords - (configRecords + n * regionWords) = omega arith in

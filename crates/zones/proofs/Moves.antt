@@ -1,4 +1,5 @@
--- The loops that move words down and clear them: up to a place the work is done, and from there on the words are as they were.
+-- The loops that move words down and clear them: up to a place the work is done, and from there on the words are as
+-- they were.
 use Prim.Native.Nat.{ℕ, _+_, _-_, _≤_, _<_}
 use native.Mathlib.Omega.{arith}
 use mathlib.Core.List.{List}

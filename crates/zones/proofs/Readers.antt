@@ -45,7 +45,10 @@ start-past z h = rw (le-ltb _ _ h)
 -- it is never past the end; and where there is room for as many zones, it is where the last of them ends
 pub start-fits : (w : List ℕ) (z b : ℕ) → length w ≡ tableWords → b ≡ zoneStart z → b ≤ length w
 start-fits w z b l e =
-    elim (decLt z mostZones) [ yes h ↦ omega (arith, start-is z b e h) | no h ↦ omega (arith, start-past z (omega arith)) ]
+    elim (decLt z mostZones) [
+      | yes h ↦ omega (arith, start-is z b e h)
+      | no h ↦ omega (arith, start-past z (omega arith))
+    ]
 
 pub start-used : (z : ℕ) → z ≤ mostZones → zoneStart z ≡ zoneBase z
 start-used z l =

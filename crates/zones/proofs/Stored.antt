@@ -1,4 +1,5 @@
--- Words as stored: packed words are exactly those that are tidy and within limits, and then the stored table is the one that readers find.
+-- Words as stored: packed words are exactly those that are tidy and within limits, and then the stored table is the one
+-- that readers find.
 use Prim.Native.Nat.{ℕ, _+_, _-_, _*_, _≤_, _<_}
 use native.Mathlib.Omega.{arith}
 use mathlib.Core.Bool.{Bool, true, false, not, _&&_, true≢false, and-true}
@@ -15,7 +16,8 @@ use Rattle.lists.specs.Rules.{_when_, firstRule}
 use Rattle.lists.specs.Tests.{allOf}
 use Rattle.lists.specs.Words.{isZeroAt}
 use Rattle.lists.proofs.Every.{all-at, all-same, all-map}
-use Rattle.lists.proofs.Places.{getD-any, every-at, one-place, same-at, places-shift, every-block, length-tab, getD-tab, take-tab, drop-tab, all-tab}
+use Rattle.lists.proofs.Places.{getD-any, every-at, one-place, same-at, places-shift, every-block, length-tab, getD-tab}
+use Rattle.lists.proofs.Places.{take-tab, drop-tab, all-tab}
 use Rattle.lists.proofs.Room.{length-room, room-tab, room-take}
 use Rattle.lists.proofs.Rules.{rule-hit, rule-skip, rule-none}
 use Rattle.lists.proofs.Tests.{false-of, Holds, parts, all-miss, all-pass, all-last}
@@ -24,7 +26,8 @@ use Rattle.rules.specs.Configuration.{configOf, check, isSound, Configuration, 
 use Rattle.rules.specs.Limits.{mostZones, mostInSet, limits}
 use Rattle.rules.specs.Regions.{noRegion, used}
 use Rattle.rules.specs.Requests.{standingRules, standing}
-use Rattle.rules.specs.Tables.{noZone, sideOf, noStored, setOf, zoneOf, tableOf, restZero, zeroSet, tidyZone, zeroZone, tidy, soundSet, soundZone, sound, checkTable, StoredZone, StoredTable}
+use Rattle.rules.specs.Tables.{noZone, sideOf, noStored, setOf, zoneOf, tableOf, restZero, zeroSet, tidyZone, zeroZone}
+use Rattle.rules.specs.Tables.{tidy, soundSet, soundZone, sound, checkTable, StoredZone, StoredTable}
 use Rattle.rules.specs.declared.Checked.{Checked}
 use Rattle.rules.specs.declared.Checked.the-variants.{Sound}
 use Rattle.rules.specs.declared.Side.{Side}
@@ -41,7 +44,8 @@ use Rattle.zones.proofs.Writers.{set-in}
 
 -- ---- zeros, record by record
 module _ (w : List ℕ) (b : ℕ) where
-  rest-free : getD w b 0 ≤ mostInSet → restZero (storedSet w b) ≡ zeros w (recordBase b (getD w b 0)) ((mostInSet - getD w b 0) * regionWords)
+  rest-free : getD w b 0 ≤ mostInSet
+      → restZero (storedSet w b) ≡ zeros w (recordBase b (getD w b 0)) ((mostInSet - getD w b 0) * regionWords)
   unfolding restZero storedSet
   rest-free h = free-zero w (b + 1) mostInSet (getD w b 0) h
 
@@ -50,9 +54,13 @@ module _ (w : List ℕ) (b : ℕ) where
   unfolding zeroSet storedSet allOf
   zero-set =
       let none : not (any used (recordsAt w (b + 1) mostInSet)) ≡ zeros w (b + 1) (mostInSet * regionWords) =
-      (let z : recordBase b 0 ≡ b + 1 = omega arith in free-zero w (b + 1) mostInSet 0 (omega arith) ∙ ap (λ (k : ℕ). zeros w k (mostInSet * regionWords)) z) in
-      let one : zeros w b setWords ≡ (zeros w b 1 && zeros w (b + 1) (mostInSet * regionWords)) = zeros-parts w b 1 (mostInSet * regionWords) in
-      ap (λ (t : Bool). isZeroAt w b && (t && true)) none ∙ by (isZeroAt w b) (zeros w (b + 1) (mostInSet * regionWords)) ∙ sym (one ∙ ap (λ (t : Bool). t && zeros w (b + 1) (mostInSet * regionWords)) first)
+      (let z : recordBase b 0 ≡ b + 1 = omega arith in
+      free-zero w (b + 1) mostInSet 0 (omega arith) ∙ ap (λ (k : ℕ). zeros w k (mostInSet * regionWords)) z) in
+      let one : zeros w b setWords ≡ (zeros w b 1 && zeros w (b + 1) (mostInSet * regionWords)) =
+      zeros-parts w b 1 (mostInSet * regionWords) in
+      ap (λ (t : Bool). isZeroAt w b && (t && true)) none
+      ∙ by (isZeroAt w b) (zeros w (b + 1) (mostInSet * regionWords))
+      ∙ sym (one ∙ ap (λ (t : Bool). t && zeros w (b + 1) (mostInSet * regionWords)) first)
     where
       by : (x y : Bool) → (x && (y && true)) ≡ ((x && true) && y)
       by true true = refl
@@ -76,13 +84,17 @@ module _ (w : List ℕ) (z : ℕ) where
   unfolding zeroZone storedZone allOf
   zero-zone-words =
       let b : ℕ = zoneBase z in
-      let split : zeros w b zoneWords ≡ (zeros w b 1 && (zeros w (b + 1) setWords && zeros w (b + 1 + setWords) setWords)) =
-      zeros-parts w b 1 (setWords + setWords) ∙ ap (λ (t : Bool). zeros w b 1 && t) (zeros-parts w (b + 1) setWords setWords) in
+      let split : zeros w b zoneWords ≡ (zeros w b 1
+      && (zeros w (b + 1) setWords && zeros w (b + 1 + setWords) setWords)) =
+      zeros-parts w b 1 (setWords + setWords)
+      ∙ ap (λ (t : Bool). zeros w b 1 && t) (zeros-parts w (b + 1) setWords setWords) in
       ap₂ (λ (x y : Bool). isZeroAt w b && (x && (y && true)))
       (zero-set w (setBase z Cpu) ∙ ap (λ (k : ℕ). zeros w k setWords) cpu-base)
       (zero-set w (setBase z Iommu) ∙ ap (λ (k : ℕ). zeros w k setWords) iommu-base)
       ∙ by (isZeroAt w b) (zeros w (b + 1) setWords) (zeros w (b + 1 + setWords) setWords)
-      ∙ sym (split ∙ ap (λ (t : Bool). t && (zeros w (b + 1) setWords && zeros w (b + 1 + setWords) setWords)) (one-place (isZeroAt w) b))
+      ∙ sym (split
+      ∙ ap (λ (t : Bool). t && (zeros w (b + 1) setWords && zeros w (b + 1 + setWords) setWords))
+      (one-place (isZeroAt w) b))
     where
       by : (x y v : Bool) → (x && (y && (v && true))) ≡ ((x && true) && (y && v))
       by true true true = refl
@@ -97,17 +109,26 @@ module _ (w : List ℕ) (z : ℕ) where
     tidy-packed =
         ap₂ (λ (x y : Bool). x && (y && true)) (side Cpu) (side Iommu)
       where
-        side : (s : Side) → restZero (storedSet w (setBase z s)) ≡ (leb (getD w (setBase z s) 0) mostInSet && (zeros w (recordBase (setBase z s) (getD w (setBase z s) 0)) ((mostInSet - getD w (setBase z s) 0) * regionWords) && true))
+        side : (s : Side)
+            → restZero (storedSet w (setBase z s)) ≡ (leb (getD w (setBase z s) 0) mostInSet
+            && (zeros w (recordBase (setBase z s) (getD w (setBase z s) 0))
+            ((mostInSet - getD w (setBase z s) 0) * regionWords) && true))
         side s =
-            let t : Bool = zeros w (recordBase (setBase z s) (getD w (setBase z s) 0)) ((mostInSet - getD w (setBase z s) 0) * regionWords) in
-            rest-free w (setBase z s) (small s) ∙ sym (and-true t) ∙ ap (λ (u : Bool). u && (t && true)) (sym (le-leb (getD w (setBase z s) 0) mostInSet (small s)))
+            let t : Bool =
+            zeros w (recordBase (setBase z s) (getD w (setBase z s) 0))
+            ((mostInSet - getD w (setBase z s) 0) * regionWords) in
+            rest-free w (setBase z s) (small s)
+            ∙ sym (and-true t)
+            ∙ ap (λ (u : Bool). u && (t && true)) (sym (le-leb (getD w (setBase z s) 0) mostInSet (small s)))
 
     set-same : (s : Side) → setOf (storedSet w (setBase z s)) ≡ setIn w z s
     unfolding setOf storedSet setIn recordsAt
     set-same s =
         let n : ℕ = getD w (setBase z s) 0 in
         let l : n ≤ mostInSet = small s in
-        room-take n noRegion (tab mostInSet (recordAt w (setBase z s + 1))) (omega (arith, length-tab mostInSet (recordAt w (setBase z s + 1)))) ∙ take-tab mostInSet n (recordAt w (setBase z s + 1)) l
+        room-take n noRegion (tab mostInSet (recordAt w (setBase z s + 1)))
+        (omega (arith, length-tab mostInSet (recordAt w (setBase z s + 1))))
+        ∙ take-tab mostInSet n (recordAt w (setBase z s + 1)) l
 
     zone-same : zoneOf (storedZone w z) ≡ zoneIn w z
     unfolding zoneOf storedZone zoneIn
@@ -129,12 +150,18 @@ module _ (w : List ℕ) where
   table-same l =
       let n : ℕ = getD w 0 0 in
       let few : n ≤ mostZones = l .zones in
-      ap (map zoneOf) (room-take n noStored (tab mostZones (storedZone w)) (omega (arith, length-tab mostZones (storedZone w))) ∙ used-zones l)
-      ∙ ext-getD noZone (map zoneOf (tab n (storedZone w))) (tab n (zoneIn w)) (length-map (tab n (storedZone w)) zoneOf ∙ length-tab n (storedZone w) ∙ sym (length-tab n (zoneIn w)))
+      ap (map zoneOf) (room-take n noStored (tab mostZones (storedZone w))
+      (omega (arith, length-tab mostZones (storedZone w)))
+      ∙ used-zones l)
+      ∙ ext-getD noZone (map zoneOf (tab n (storedZone w))) (tab n (zoneIn w))
+      (length-map (tab n (storedZone w)) zoneOf ∙ length-tab n (storedZone w) ∙ sym (length-tab n (zoneIn w)))
       (λ z h.
       let lt : z < n = omega (arith, length-map (tab n (storedZone w)) zoneOf, length-tab n (storedZone w)) in
-      getD-any (map zoneOf (tab n (storedZone w))) z noZone (zoneOf noStored) h ∙ List·getD-map zoneOf (tab n (storedZone w)) z noStored
-      ∙ ap zoneOf (getD-tab n (storedZone w) z noStored lt) ∙ zone-same w z (l .sets z lt) ∙ sym (getD-tab n (zoneIn w) z noZone lt))
+      getD-any (map zoneOf (tab n (storedZone w))) z noZone (zoneOf noStored) h
+      ∙ List·getD-map zoneOf (tab n (storedZone w)) z noStored
+      ∙ ap zoneOf (getD-tab n (storedZone w) z noStored lt)
+      ∙ zone-same w z (l .sets z lt)
+      ∙ sym (getD-tab n (zoneIn w) z noZone lt))
 
   -- within limits, tidy is packed
   tidy-is-packed : Limited → tidy (storedTable w) ≡ packed w
@@ -143,16 +170,25 @@ module _ (w : List ℕ) where
       let n : ℕ = getD w 0 0 in
       let few : n ≤ mostZones = l .zones in
       let front : all tidyZone (take n (tab mostZones (storedZone w))) ≡ all (zonePacked w) (places 0 n) =
-      ap (all tidyZone) (used-zones l) ∙ all-tab tidyZone n (storedZone w) ∙ same-at (λ z. tidyZone (storedZone w z)) (zonePacked w) n (λ z h. tidy-packed w z (l .sets z h)) in
-      let back : all zeroZone (drop n (tab mostZones (storedZone w))) ≡ zeros w (zoneBase n) ((mostZones - n) * zoneWords) =
-      ap (all zeroZone) (drop-tab mostZones n (storedZone w) few) ∙ all-map (storedZone w) zeroZone (places n (mostZones - n))
+      ap (all tidyZone) (used-zones l)
+      ∙ all-tab tidyZone n (storedZone w)
+      ∙ same-at (λ z. tidyZone (storedZone w z)) (zonePacked w) n (λ z h. tidy-packed w z (l .sets z h)) in
+      let back : all zeroZone (drop n (tab mostZones (storedZone w)))
+      ≡ zeros w (zoneBase n) ((mostZones - n) * zoneWords) =
+      ap (all zeroZone) (drop-tab mostZones n (storedZone w) few)
+      ∙ all-map (storedZone w) zeroZone (places n (mostZones - n))
       ∙ places-shift (λ z. zeroZone (storedZone w z)) n (mostZones - n)
-      ∙ all-same (λ i. zeroZone (storedZone w (n + i))) (λ i. zeros w (zoneBase n + i * zoneWords) zoneWords) (λ i. next n i) (places 0 (mostZones - n))
+      ∙ all-same (λ i. zeroZone (storedZone w (n + i))) (λ i. zeros w (zoneBase n + i * zoneWords) zoneWords)
+      (λ i. next n i) (places 0 (mostZones - n))
       ∙ sym (every-block (isZeroAt w) zoneWords (zoneBase n) (mostZones - n)) in
-      ap₂ (λ (x y : Bool). x && (y && true)) front back ∙ ap (λ (u : Bool). u && (all (zonePacked w) (places 0 n) && (zeros w (zoneBase n) ((mostZones - n) * zoneWords) && true))) (sym (le-leb n mostZones few))
+      ap₂ (λ (x y : Bool). x && (y && true)) front back
+      ∙ ap (λ (u : Bool). u && (all (zonePacked w) (places 0 n)
+      && (zeros w (zoneBase n) ((mostZones - n) * zoneWords) && true))) (sym (le-leb n mostZones few))
     where
       next : (n i : ℕ) → zeroZone (storedZone w (n + i)) ≡ zeros w (zoneBase n + i * zoneWords) zoneWords
-      next n i = let e : zoneBase (n + i) ≡ zoneBase n + i * zoneWords = omega arith in zero-zone-words w (n + i) ∙ ap (λ (k : ℕ). zeros w k zoneWords) e
+      next n i =
+          let e : zoneBase (n + i) ≡ zoneBase n + i * zoneWords = omega arith in
+          zero-zone-words w (n + i) ∙ ap (λ (k : ℕ). zeros w k zoneWords) e
 
   -- packed words are within limits
   packed-limited : packed w ≡ true → Limited
@@ -161,10 +197,12 @@ module _ (w : List ℕ) where
       let p = parts _ e in
       record {
         zones = leb-true _ _ (p .0);
-        sets = λ z h s. by z s (parts _ (every-at (zonePacked w) 0 (getD w 0 0) (p .1 .0) z (omega arith) (omega arith)));
+        sets =
+            λ z h s. by z s (parts _ (every-at (zonePacked w) 0 (getD w 0 0) (p .1 .0) z (omega arith) (omega arith)));
       }
     where
-      by : (z : ℕ) (s : Side) → Holds (setPacked w (setBase z Cpu) ∷ setPacked w (setBase z Iommu) ∷ []) → getD w (setBase z s) 0 ≤ mostInSet
+      by : (z : ℕ) (s : Side) → Holds (setPacked w (setBase z Cpu) ∷ setPacked w (setBase z Iommu) ∷ [])
+          → getD w (setBase z s) 0 ≤ mostInSet
       by z Cpu h = leb-true _ _ (parts _ (h .0) .0)
       by z Iommu h = leb-true _ _ (parts _ (h .1 .0) .0)
 
@@ -172,28 +210,48 @@ module _ (w : List ℕ) where
   module _ (c : Configuration) (e : sound limits c (tableOf (storedTable w)) ≡ true) where
     few : getD w 0 0 ≤ mostZones
     unfolding sound tableOf storedTable
-    few = let l : length (map zoneOf (room (getD w 0 0) noStored (tab mostZones (storedZone w)))) ≤ mostZones = leb-true _ _ (parts _ e .0) in omega (arith, length-map (room (getD w 0 0) noStored (tab mostZones (storedZone w))) zoneOf, length-room (getD w 0 0) noStored (tab mostZones (storedZone w)))
+    few =
+        let l : length (map zoneOf (room (getD w 0 0) noStored (tab mostZones (storedZone w)))) ≤ mostZones =
+        leb-true _ _ (parts _ e .0) in
+        omega (
+          arith,
+          length-map (room (getD w 0 0) noStored (tab mostZones (storedZone w))) zoneOf,
+          length-room (getD w 0 0) noStored (tab mostZones (storedZone w)),
+        )
 
     zone-stored : (z : ℕ) → z < getD w 0 0 → getD (tableOf (storedTable w)) z noZone ≡ zoneOf (storedZone w z)
     unfolding tableOf storedTable
     zone-stored z h =
         let n : ℕ = getD w 0 0 in
         let f : n ≤ mostZones = few in
-        getD-any (map zoneOf (room n noStored (tab mostZones (storedZone w)))) z noZone (zoneOf noStored) (omega (arith, length-map (room n noStored (tab mostZones (storedZone w))) zoneOf, length-room n noStored (tab mostZones (storedZone w))))
+        getD-any (map zoneOf (room n noStored (tab mostZones (storedZone w)))) z noZone (zoneOf noStored)
+        (omega (
+          arith,
+          length-map (room n noStored (tab mostZones (storedZone w))) zoneOf,
+          length-room n noStored (tab mostZones (storedZone w)),
+        ))
         ∙ List·getD-map zoneOf (room n noStored (tab mostZones (storedZone w))) z noStored
         ∙ ap (λ (l : List StoredZone). zoneOf (getD l z noStored)) (room-tab n noStored (tab mostZones (storedZone w)))
-        ∙ ap zoneOf (getD-tab n (λ i. getD (tab mostZones (storedZone w)) i noStored) z noStored h ∙ getD-tab mostZones (storedZone w) z noStored (omega arith))
+        ∙ ap zoneOf (getD-tab n (λ i. getD (tab mostZones (storedZone w)) i noStored) z noStored h
+        ∙ getD-tab mostZones (storedZone w) z noStored (omega arith))
 
-    set-stored : (z : ℕ) (s : Side) → z < getD w 0 0 → length (sideOf s (zoneOf (storedZone w z))) ≡ getD w (setBase z s) 0
+    set-stored : (z : ℕ) (s : Side) → z < getD w 0 0
+        → length (sideOf s (zoneOf (storedZone w z))) ≡ getD w (setBase z s) 0
     unfolding sideOf zoneOf storedZone setOf storedSet
     set-stored z Cpu h = length-room (getD w (setBase z Cpu) 0) noRegion (recordsAt w (setBase z Cpu + 1) mostInSet)
-    set-stored z Iommu h = length-room (getD w (setBase z Iommu) 0) noRegion (recordsAt w (setBase z Iommu + 1) mostInSet)
+    set-stored z Iommu h =
+        length-room (getD w (setBase z Iommu) 0) noRegion (recordsAt w (setBase z Iommu + 1) mostInSet)
 
     one : (z : ℕ) → z < getD w 0 0 → soundZone limits c (zoneOf (storedZone w z)) ≡ true
     unfolding sound tableOf storedTable
     one z h =
         ap (soundZone limits c) (sym (zone-stored z h))
-        ∙ all-at (soundZone limits c) (tableOf (storedTable w)) noZone (parts _ e .1 .0) z (omega (arith, length-map (room (getD w 0 0) noStored (tab mostZones (storedZone w))) zoneOf, length-room (getD w 0 0) noStored (tab mostZones (storedZone w))))
+        ∙ all-at (soundZone limits c) (tableOf (storedTable w)) noZone (parts _ e .1 .0) z
+        (omega (
+          arith,
+          length-map (room (getD w 0 0) noStored (tab mostZones (storedZone w))) zoneOf,
+          length-room (getD w 0 0) noStored (tab mostZones (storedZone w)),
+        ))
 
     small : (z : ℕ) → z < getD w 0 0 → (s : Side) → length (sideOf s (zoneOf (storedZone w z))) ≤ mostInSet
     unfolding sound soundZone soundSet sideOf
@@ -201,14 +259,22 @@ module _ (w : List ℕ) where
     small z h Iommu = leb-true _ _ (parts _ (parts _ (one z h) .1 .1 .0) .0)
 
     pub sound-limited : Limited
-    sound-limited = record { zones = few; sets = λ z h s. let l : length (sideOf s (zoneOf (storedZone w z))) ≤ mostInSet = small z h s in omega (arith, set-stored z s h) }
+    sound-limited = record {
+      zones = few;
+      sets =
+          λ z h s. let l : length (sideOf s (zoneOf (storedZone w z))) ≤ mostInSet = small z h s in
+          omega (arith, set-stored z s h);
+    }
 
 -- limits on the counts are limits on the lists
 within-limits : (w : List ℕ) → Limited w → Within (zonesIn w)
 unfolding zonesIn
 within-limits w l = record {
   zones = (let f : getD w 0 0 ≤ mostZones = l .zones in omega (arith, length-tab (getD w 0 0) (zoneIn w)));
-  sets = λ z s h. let k : z < getD w 0 0 = omega (arith, length-tab (getD w 0 0) (zoneIn w)) in let b : getD w (setBase z s) 0 ≤ mostInSet = l .sets z k s in omega (arith, ap length (set-in w z s h), set-count w z s);
+  sets =
+      λ z s h. let k : z < getD w 0 0 = omega (arith, length-tab (getD w 0 0) (zoneIn w)) in
+      let b : getD w (setBase z s) 0 ≤ mostInSet = l .sets z k s in
+      omega (arith, ap length (set-in w z s h), set-count w z s);
 }
 
 -- ---- what the check answers
@@ -229,12 +295,15 @@ module _ (s : StoredConfig) (w : List ℕ) where
       true≢false (sym (p .1 .0) ∙ tidy-is-packed w (sound-limited w (configOf s) (p .1 .1 .0)) ∙ sym e ∙ not-true t f)))
 
   -- both are well: the answer is whether the table is sound
-  pub table-judged : (t b : Bool) → check limits s ≡ Sound → t ≡ packed w → not t ≡ false → b ≡ sound limits (configOf s) (zonesIn w) → b ≡ checkTable limits s (storedTable w)
+  pub table-judged : (t b : Bool) → check limits s ≡ Sound → t ≡ packed w → not t ≡ false
+      → b ≡ sound limits (configOf s) (zonesIn w) → b ≡ checkTable limits s (storedTable w)
   unfolding checkTable
   table-judged t b g q h j =
       let p : packed w ≡ true = sym q ∙ not-false t h in
       let l : Limited w = packed-limited w p in
-      all-pass b _ _ (ap isSound g ∙ sound-is) (all-pass b _ _ (tidy-is-packed w l ∙ p) (all-last b _ (j ∙ ap (sound limits (configOf s)) (sym (table-same w l)))))
+      all-pass b _ _ (ap isSound g ∙ sound-is)
+      (all-pass b _ _ (tidy-is-packed w l ∙ p)
+      (all-last b _ (j ∙ ap (sound limits (configOf s)) (sym (table-same w l)))))
 
   -- a table that passed is packed and sound
   module _ (e : checkTable limits s (storedTable w) ≡ true) where

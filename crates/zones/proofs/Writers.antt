@@ -36,9 +36,12 @@ side-set w z Iommu = refl
 
 pub set-in : (w : List ℕ) (z : ℕ) (s : Side) → z < length (zonesIn w) → setAt (zonesIn w) z s ≡ setIn w z s
 unfolding setAt zonesIn
-set-in w z s h = ap (sideOf s) (getD-tab (getD w 0 0) (zoneIn w) z noZone (omega (arith, length-tab (getD w 0 0) (zoneIn w)))) ∙ side-set w z s
+set-in w z s h =
+    ap (sideOf s) (getD-tab (getD w 0 0) (zoneIn w) z noZone (omega (arith, length-tab (getD w 0 0) (zoneIn w))))
+    ∙ side-set w z s
 
-module _ (w u : List ℕ) (p : Packed w) (z : ℕ) (h : z < length (zonesIn w)) (s : Side) (b n : ℕ) (eb : b ≡ setBase z s) (en : n ≡ length (setIn w z s)) where
+module _ (w u : List ℕ) (p : Packed w) (z : ℕ) (h : z < length (zonesIn w)) (s : Side) (b n : ℕ) (eb : b ≡ setBase z s)
+    (en : n ≡ length (setIn w z s)) where
   m : List Zone
   m = zonesIn w
 
@@ -54,25 +57,34 @@ module _ (w u : List ℕ) (p : Packed w) (z : ℕ) (h : z < length (zonesIn w)) 
   unfolding m wordsOfSet
   around = p .words ∙ focus-same m z s h (p .within .zones)
 
-  pub push-words : (r : Region) → length (setIn w z s) < mostInSet → u ≡ sets w (b + 1 + n * regionWords) (wordsOfRegion r) → set u b (n + 1) ≡ wordsOf (pushed z s r (zonesIn w))
+  pub push-words : (r : Region) → length (setIn w z s) < mostInSet
+      → u ≡ sets w (b + 1 + n * regionWords) (wordsOfRegion r) → set u b (n + 1) ≡ wordsOf (pushed z s r (zonesIn w))
   unfolding m pushed wordsOfSet
   push-words r k e =
       ap (λ (l : List ℕ). set l b (n + 1)) e
       ∙ ap₂ (λ (l : List ℕ) (c : ℕ). set (sets l (b + 1 + c * regionWords) (wordsOfRegion r)) b (c + 1)) around count
-      ∙ push-counted mostInSet noRegion wordsOfRegion regionWords region-wide (pre m z s) (post m z s) b long (setAt m z s) r (omega (arith, count))
+      ∙ push-counted mostInSet noRegion wordsOfRegion regionWords region-wide (pre m z s) (post m z s) b long
+      (setAt m z s) r (omega (arith, count))
       ∙ sym (focus m z s h (p .within .zones) (setAt m z s ++ r ∷ []))
 
-  pub cut-words : (i : ℕ) → i < length (setIn w z s) → u ≡ closed w (b + 1 + i * regionWords) regionWords (b + 1 + n * regionWords) → set u b (n - 1) ≡ wordsOf (cut z s i (zonesIn w))
+  pub cut-words : (i : ℕ) → i < length (setIn w z s)
+      → u ≡ closed w (b + 1 + i * regionWords) regionWords (b + 1 + n * regionWords)
+      → set u b (n - 1) ≡ wordsOf (cut z s i (zonesIn w))
   unfolding m cut wordsOfSet
   cut-words i k e =
       ap (λ (l : List ℕ). set l b (n - 1)) e
-      ∙ ap₂ (λ (l : List ℕ) (c : ℕ). set (closed l (b + 1 + i * regionWords) regionWords (b + 1 + c * regionWords)) b (c - 1)) around count
-      ∙ ap (λ (l : List ℕ). set l b (length (setAt m z s) - 1)) (closed-used mostInSet noRegion wordsOfRegion regionWords region-wide zero-region (setAt m z s) (p .within .sets z s h) (pre m z s) (post m z s) b long (b + 1 + i * regionWords) (omega (arith, count)))
-      ∙ cut-counted mostInSet noRegion wordsOfRegion regionWords region-wide (pre m z s) (post m z s) b long (setAt m z s) i (omega (arith, count)) (p .within .sets z s h) zero-region
+      ∙ ap₂ (λ (l : List ℕ) (c : ℕ). set (closed l (b + 1 + i * regionWords) regionWords (b + 1 + c * regionWords)) b
+      (c - 1)) around count
+      ∙ ap (λ (l : List ℕ). set l b (length (setAt m z s) - 1))
+      (closed-used mostInSet noRegion wordsOfRegion regionWords region-wide zero-region (setAt m z s)
+      (p .within .sets z s h) (pre m z s) (post m z s) b long (b + 1 + i * regionWords) (omega (arith, count)))
+      ∙ cut-counted mostInSet noRegion wordsOfRegion regionWords region-wide (pre m z s) (post m z s) b long
+      (setAt m z s) i (omega (arith, count)) (p .within .sets z s h) zero-region
       ∙ sym (focus m z s h (p .within .zones) (removeAt i (setAt m z s)))
 
 -- the id of a zone that is zero
-named : (a c : List ℕ) (id k : ℕ) → length a ≡ k → set (a ++ (wordsOfZone noZone ++ c)) k id ≡ a ++ (wordsOfZone (record { id = id; cpu = []; iommu = [] }) ++ c)
+named : (a c : List ℕ) (id k : ℕ) → length a ≡ k
+    → set (a ++ (wordsOfZone noZone ++ c)) k id ≡ a ++ (wordsOfZone (record { id = id; cpu = []; iommu = [] }) ++ c)
 unfolding wordsOfZone
 named a c id k e = set-at a 0 ((wordsOfSet [] ++ wordsOfSet []) ++ c) id k e
 
@@ -82,27 +94,35 @@ unfolding wordsOf
 whole m = sym (append-nil (counted mostZones noZone wordsOfZone m))
 
 module _ (w u : List ℕ) (p : Packed w) (n : ℕ) (en : n ≡ length (zonesIn w)) where
-  pub remove-words : (z b k : ℕ) → b ≡ zoneBase z → k ≡ zoneBase n → z < length (zonesIn w) → u ≡ closed w b zoneWords k → set u 0 (n - 1) ≡ wordsOf (dropped z (zonesIn w))
+  pub remove-words : (z b k : ℕ) → b ≡ zoneBase z → k ≡ zoneBase n → z < length (zonesIn w) → u ≡ closed w b zoneWords k
+      → set u 0 (n - 1) ≡ wordsOf (dropped z (zonesIn w))
   unfolding dropped
   remove-words z b k q r h e =
       let m : List Zone = zonesIn w in
       ap (λ (l : List ℕ). set l 0 (n - 1)) (e ∙ ap₂ (λ (i j : ℕ). closed w i zoneWords j) q r)
-      ∙ ap₂ (λ (l : List ℕ) (c : ℕ). set (closed l (zoneBase z) zoneWords (zoneBase c)) 0 (c - 1)) (p .words ∙ whole m) en
-      ∙ ap (λ (l : List ℕ). set l 0 (length m - 1)) (closed-used mostZones noZone wordsOfZone zoneWords zone-wide zero-zone m (p .within .zones) [] [] 0 refl (zoneBase z) (omega arith))
+      ∙ ap₂ (λ (l : List ℕ) (c : ℕ). set (closed l (zoneBase z) zoneWords (zoneBase c)) 0 (c - 1))
+      (p .words ∙ whole m) en
+      ∙ ap (λ (l : List ℕ). set l 0 (length m - 1))
+      (closed-used mostZones noZone wordsOfZone zoneWords zone-wide zero-zone m (p .within .zones) [] [] 0 refl
+      (zoneBase z) (omega arith))
       ∙ cut-counted mostZones noZone wordsOfZone zoneWords zone-wide [] [] 0 refl m z h (p .within .zones) zero-zone
       ∙ sym (whole (removeAt z m))
 
-  pub add-words : (id b : ℕ) → b ≡ zoneBase n → length (zonesIn w) < mostZones → u ≡ set w b id → set u 0 (n + 1) ≡ wordsOf (added id (zonesIn w))
+  pub add-words : (id b : ℕ) → b ≡ zoneBase n → length (zonesIn w) < mostZones → u ≡ set w b id
+      → set u 0 (n + 1) ≡ wordsOf (added id (zonesIn w))
   unfolding added
   add-words id b q h e =
       let m : List Zone = zonesIn w in
       let y : Zone = record { id = id; cpu = []; iommu = [] } in
       let a : List ℕ = free-before mostZones noZone wordsOfZone zoneWords zone-wide [] [] 0 refl m in
       let c : List ℕ = free-after mostZones noZone wordsOfZone zoneWords zone-wide [] [] 0 refl m in
-      let f : w ≡ a ++ (wordsOfZone noZone ++ c) = p .words ∙ whole m ∙ free-at mostZones noZone wordsOfZone zoneWords zone-wide [] [] 0 refl m h in
+      let f : w ≡ a ++ (wordsOfZone noZone ++ c) =
+      p .words ∙ whole m ∙ free-at mostZones noZone wordsOfZone zoneWords zone-wide [] [] 0 refl m h in
       ap (λ (l : List ℕ). set l 0 (n + 1)) (e ∙ ap (λ (k : ℕ). set w k id) q)
       ∙ ap₂ (λ (l : List ℕ) (k : ℕ). set (set l (1 + k * zoneWords) id) 0 (k + 1)) f en
-      ∙ ap (λ (l : List ℕ). set l 0 (length m + 1)) (named a c id (1 + length m * zoneWords) (length-free mostZones noZone wordsOfZone zoneWords zone-wide [] [] 0 refl m))
+      ∙ ap (λ (l : List ℕ). set l 0 (length m + 1))
+      (named a c id (1 + length m * zoneWords)
+      (length-free mostZones noZone wordsOfZone zoneWords zone-wide [] [] 0 refl m))
       ∙ fill-free mostZones noZone wordsOfZone zoneWords zone-wide [] [] 0 refl m y h
       ∙ sym (whole (m ++ y ∷ []))
 

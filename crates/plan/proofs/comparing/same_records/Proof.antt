@@ -10,7 +10,8 @@ use Rattle.plan.proofs.comparing.same_records.Statement.{statement}
 use Rattle.plan.proofs.comparing.same_records.Tie as tie
 
 abbrev Inv-loop : tie.InvT-loop
-Inv-loop s at w a n i₀ i = (i ≤ n) × (all (sameRecord s at w a) (places i (n - i)) ≡ all (sameRecord s at w a) (places 0 n))
+Inv-loop s at w a n i₀ i =
+    (i ≤ n) × (all (sameRecord s at w a) (places i (n - i)) ≡ all (sameRecord s at w a) (places 0 n))
 
 abbrev μ-loop : tie.MeasureT-loop
 μ-loop s at w a n i₀ i = n - i

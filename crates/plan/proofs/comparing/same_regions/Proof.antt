@@ -1,5 +1,6 @@
 -- By where the list ends: refused; another count; a record that differs; or all the same.
-use Rattle.plan.proofs.Holding.{regions-other, regions-fewer, regions-differ, regions-same, records-room, bytes-there}
+use Rattle.plan.proofs.Holding.{regions-other, regions-fewer, regions-differ, regions-same, records-room}
+use Rattle.plan.proofs.Holding.{bytes-there}
 use borrow.Author.Needs.{needs}
 use Rattle.plan.proofs.comparing.same_regions.Statement.{statement}
 use Rattle.plan.proofs.comparing.same_regions.Tie as tie

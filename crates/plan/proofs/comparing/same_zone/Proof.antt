@@ -41,7 +41,8 @@ add-same-sets-2 : tie.Need-add-same-sets-2
 add-same-sets-2 c = omega (arith, start-is _ _ (c .before .before .zone-start .ensures) (omega arith))
 
 same-sets-requires : tie.Need-same-sets-requires
-same-sets-requires c κs = (search (number-within, needs), omega (arith, start-is _ _ (c .before .before .zone-start .ensures) (omega arith)))
+same-sets-requires c κs =
+    (search (number-within, needs), omega (arith, start-is _ _ (c .before .before .zone-start .ensures) (omega arith)))
 
 returns-3 : tie.Need-returns-3
 returns-3 c = search (zone-same, needs)

@@ -15,7 +15,10 @@ use Rattle.plan.proofs.comparing.same_zone_list.Statement.{statement}
 use Rattle.plan.proofs.comparing.same_zone_list.Tie as tie
 
 abbrev Inv-loop : tie.InvT-loop
-Inv-loop s start n w at₀ i₀ at i = ((i ≤ n) × (at ≤ length s)) × (zonesFrom s w (n - i) i at ≡ isHeld (heldAnswer (length s) (sameList sameZone (tab n (zoneIn w))) (readMany (zoneFormat limits) n (drop start s))))
+Inv-loop s start n w at₀ i₀ at i =
+    ((i ≤ n) × (at ≤ length s))
+    × (zonesFrom s w (n - i) i at ≡ isHeld (heldAnswer (length s) (sameList sameZone (tab n (zoneIn w)))
+    (readMany (zoneFormat limits) n (drop start s))))
 
 abbrev μ-loop : tie.MeasureT-loop
 μ-loop s start n w at₀ i₀ at i = n - i

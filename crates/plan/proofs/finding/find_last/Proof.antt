@@ -1,5 +1,6 @@
 -- By what the requests' finder answered: a refusal, moved by the base; bytes after the end; or all there.
-use Rattle.plan.proofs.Locating.{bad-requests-place, requests-refused, requests-start, requests-more, requests-whole}
+use Rattle.plan.proofs.Locating.{bad-requests-place, requests-refused, requests-start, requests-more}
+use Rattle.plan.proofs.Locating.{requests-whole}
 use borrow.Author.Needs.{needs}
 use Rattle.plan.proofs.finding.find_last.Statement.{statement}
 use Rattle.plan.proofs.finding.find_last.Tie as tie

@@ -1,5 +1,6 @@
 -- By where the regions end: a refusal, moved by the base, or the rest of the plan after them.
-use Rattle.plan.proofs.Locating.{regions-place, regions-refused, regions-end, zones-place, zones-follow, regions-lead}
+use Rattle.plan.proofs.Locating.{regions-place, regions-refused, regions-end, zones-place, zones-follow}
+use Rattle.plan.proofs.Locating.{regions-lead}
 use borrow.Author.Needs.{needs}
 use Rattle.plan.proofs.finding.find_regions.Statement.{statement}
 use Rattle.plan.proofs.finding.find_regions.Tie as tie

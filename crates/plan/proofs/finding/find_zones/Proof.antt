@@ -1,5 +1,6 @@
 -- By where the zones end: a refusal, moved by the base, or the rest of the plan after them.
-use Rattle.plan.proofs.Locating.{bad-zones-place, zones-refused, zones-end, requests-place, requests-follow, zones-lead}
+use Rattle.plan.proofs.Locating.{bad-zones-place, zones-refused, zones-end, requests-place, requests-follow}
+use Rattle.plan.proofs.Locating.{zones-lead}
 use borrow.Author.Needs.{needs}
 use Rattle.plan.proofs.finding.find_zones.Statement.{statement}
 use Rattle.plan.proofs.finding.find_zones.Tie as tie

@@ -1,4 +1,5 @@
--- Each return is one case: a count that is cut or out of range, a region that is cut, or all there; regions have one width, so none is looked at.
+-- Each return is one case: a count that is cut or out of range, a region that is cut, or all there; regions have one
+-- width, so none is looked at.
 use Rattle.plan.proofs.Into.{number-within}
 use Rattle.plan.proofs.Passing.{passed-none, passed-out, passed-cut, passed-end}
 use borrow.Author.Needs.{needs}

@@ -10,11 +10,14 @@ find-sections-requires c κs = search needs
 enum-known-found : tie.Need-enum-known-found
 enum-known-found c = search needs
 
+enum-told : tie.Need-enum-told
+enum-told c = search needs
+
 slice-aggregate-result : tie.Need-slice-aggregate-result
 slice-aggregate-result c = search needs
 
-enum-known-found-2 : tie.Need-enum-known-found-2
-enum-known-found-2 c = search needs
+returns : tie.Need-returns
+returns c = search (none-found, needs)
 
 sub-result : tie.Need-sub-result
 sub-result c = search (requests-fit, needs)
@@ -25,9 +28,6 @@ part-result-start c = search (requests-fit, needs)
 part-result-end : tie.Need-part-result-end
 part-result-end c = search needs
 
-returns : tie.Need-returns
-returns c = search (none-found, needs)
-
 returns-2 : tie.Need-returns-2
 returns-2 c = search (requests-found, needs)
 
@@ -37,10 +37,10 @@ find-requests-spec =
     (tie.spec
     find-sections-requires
     enum-known-found
+    enum-told
     slice-aggregate-result
-    enum-known-found-2
+    returns
     sub-result
     part-result-start
     part-result-end
-    returns
     returns-2)

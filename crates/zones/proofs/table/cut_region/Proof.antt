@@ -15,22 +15,38 @@ add-close-gap : tie.Need-add-close-gap
 add-close-gap c = search needs
 
 mul-close-gap : tie.Need-mul-close-gap
-mul-close-gap c = let st = c .before .before .before .before in let q = set-few _ _ (st .args .side) (st .pre .0 .0) (st .pre .0 .1) in omega arith
+mul-close-gap c =
+    let st = c .before .before .before .before in
+    let q = set-few _ _ (st .args .side) (st .pre .0 .0) (st .pre .0 .1) in
+    omega arith
 
 add-close-gap-2 : tie.Need-add-close-gap-2
-add-close-gap-2 c = let st = c .before .before .before .before in let q = set-few _ _ (st .args .side) (st .pre .0 .0) (st .pre .0 .1) in omega arith
+add-close-gap-2 c =
+    let st = c .before .before .before .before in
+    let q = set-few _ _ (st .args .side) (st .pre .0 .0) (st .pre .0 .1) in
+    omega arith
 
 add-close-gap-3 : tie.Need-add-close-gap-3
 add-close-gap-3 c = search needs
 
 mul-close-gap-2 : tie.Need-mul-close-gap-2
-mul-close-gap-2 c = let st = c .before .before .before .before in let q = set-few _ _ (st .args .side) (st .pre .0 .0) (st .pre .0 .1) in omega arith
+mul-close-gap-2 c =
+    let st = c .before .before .before .before in
+    let q = set-few _ _ (st .args .side) (st .pre .0 .0) (st .pre .0 .1) in
+    omega arith
 
 add-close-gap-4 : tie.Need-add-close-gap-4
-add-close-gap-4 c = let st = c .before .before .before .before in let q = set-few _ _ (st .args .side) (st .pre .0 .0) (st .pre .0 .1) in omega arith
+add-close-gap-4 c =
+    let st = c .before .before .before .before in
+    let q = set-few _ _ (st .args .side) (st .pre .0 .0) (st .pre .0 .1) in
+    omega arith
 
 close-gap-requires : tie.Need-close-gap-requires
-close-gap-requires c κs = let st = c .before .before .before .before in let q = set-few _ _ (st .args .side) (st .pre .0 .0) (st .pre .0 .1) in let l = packed-long _ (st .pre .0 .0) in (omega arith, omega arith)
+close-gap-requires c κs =
+    let st = c .before .before .before .before in
+    let q = set-few _ _ (st .args .side) (st .pre .0 .0) (st .pre .0 .1) in
+    let l = packed-long _ (st .pre .0 .0) in
+    (omega arith, omega arith)
 
 sub-t : tie.Need-sub-t
 sub-t c = search needs

@@ -10,8 +10,9 @@
 set -euo pipefail
 test_name=count
 . "$(dirname "$0")/../../../tests/host.sh"
+# Both of one digit: what a program does with its arguments depends on their length.
 few=2
-many=12
+many=9
 # The emulator's own processor has the instruction that copies any length, and would count it once for each byte.
 processor=Nehalem
 

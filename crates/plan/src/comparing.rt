@@ -68,15 +68,22 @@ fn same_record(s: &[u8], at: usize, w: &[u64], k: usize) -> bool
         p: Phys(w[k + 1]),
         size: w[k + 2],
     };
-    let v = u64_at(s, at);
-    let p = u64_at(s, at + 8);
-    let size = u64_at(s, at + 16);
-    let given = Region {
+    region_eq(held, region_of(&s[at..at + REGION_BYTES]))
+}
+
+// The region of its own bytes. They are lent alone, so that the compiler knows how many there are and tests no field.
+fn region_of(s: &[u8]) -> Region
+    requires { ⌜ length (now s) ≡ regionBytes ⌝ }
+    ensures { λ r. ⌜ r ≡ regionIn (now (s .entry)) 0 ⌝ }
+{
+    let v = u64_at(s, 0);
+    let p = u64_at(s, 8);
+    let size = u64_at(s, 16);
+    Region {
         v: Guest(v),
         p: Phys(p),
         size,
-    };
-    region_eq(held, given)
+    }
 }
 
 // A count from lo to hi at byte `start` and as many regions, held against the count in word k and the records from word a on.

@@ -24,6 +24,7 @@ use Rattle.rules.specs.Limits.{mostZones, mostInSet, limits}
 use Rattle.rules.specs.Plan.{regionNumbers, regionField, setFormat, zoneTo, zoneFormat, regionsSection, zonesSection}
 use Rattle.rules.specs.Plan.{RegionFits}
 use Rattle.rules.specs.Regions.{regionEq}
+use Rattle.rules.specs.Run.{numberAt}
 use Rattle.rules.specs.Tables.{Zone}
 use Rattle.rules.specs.declared.Region.{Region}
 use Rattle.rules.specs.declared.Side.the-variants.{Cpu, Iommu}
@@ -35,6 +36,7 @@ use Rattle.zones.specs.Layout.{configRecords}
 use Rattle.zones.specs.Records.{regionAt, recordAt, recordsAt}
 use Rattle.zones.specs.View.{setIn, zoneIn, zonesIn}
 use Rattle.zones.proofs.Readers.{start-is}
+use Rattle.zones.proofs.Running.{own-number}
 use Rattle.plan.specs.Fields.{regionBytes, regionIn, numberOut, NumberRead}
 use Rattle.plan.specs.Held.{twoSets, heldAnswer, isHeld, sameRecord, holdsRegions, holdsSets, configHeld}
 use Rattle.plan.specs.Held.{tableHeld}
@@ -149,29 +151,23 @@ module _ {A B C : Type 0} (n : ℕ) (o : Out A) (g : List ℕ → Out B) (to : A
       by (bad k u) = refl
 
 -- ---- a record
-pub record-same : (s w : List ℕ) (at k v p n : ℕ) (b : Bool) → v ≡ little (part at 8 s) → p ≡ little (part (at + 8) 8 s)
-    → n ≡ little (part (at + 16) 8 s)
-    → b ≡ regionEq (record {
-      v = record { 0 = getD w k 0 };
-      p = record { 0 = getD w (k + 1) 0 };
-      size = getD w (k + 2) 0;
-    }) (record {
-      v = record { 0 = v };
-      p = record { 0 = p };
-      size = n;
-    })
+pub region-read : (s : List ℕ) (v p n : ℕ) → v ≡ little (part 0 8 s) → p ≡ little (part 8 8 s) → n ≡ little (part 16 8 s)
+    → _≡_ {A = Region} (record { v = record { 0 = v }; p = record { 0 = p }; size = n }) (regionIn s 0)
+unfolding regionIn
+region-read s v p n ev ep en = (λ i. record { v = record { 0 = ev i }; p = record { 0 = ep i }; size = en i })
+
+-- a region that was read from its own bytes, which end at e
+pub record-same : (s w : List ℕ) (at e k : ℕ) (r : Region) (b : Bool) → at + regionBytes ≤ e
+    → r ≡ regionIn (take (e - at) (drop at s)) 0
+    → b ≡ regionEq (record { v = record { 0 = getD w k 0 }; p = record { 0 = getD w (k + 1) 0 }; size = getD w (k + 2) 0 }) r
     → b ≡ regionEq (regionAt w k) (regionIn s at)
 unfolding regionAt regionIn
-record-same s w at k v p n b ev ep en e =
-    e ∙ (λ i. regionEq (record {
-      v = record { 0 = getD w k 0 };
-      p = record { 0 = getD w (k + 1) 0 };
-      size = getD w (k + 2) 0;
-    }) (record {
-      v = record { 0 = ev i };
-      p = record { 0 = ep i };
-      size = en i;
-    }))
+record-same s w at e k r b h er eb =
+    let z : at + 0 ≡ at = omega arith in
+    let v : numberAt 8 (take (e - at) (drop at s)) 0 ≡ numberAt 8 s at = own-number s at e 0 8 (omega arith) ∙ ap (numberAt 8 s) z in
+    let p : numberAt 8 (take (e - at) (drop at s)) 8 ≡ numberAt 8 s (at + 8) = own-number s at e 8 8 (omega arith) in
+    let n : numberAt 8 (take (e - at) (drop at s)) 16 ≡ numberAt 8 s (at + 16) = own-number s at e 16 8 (omega arith) in
+    eb ∙ ap (regionEq (regionAt w k)) (er ∙ (λ i. record { v = record { 0 = v i }; p = record { 0 = p i }; size = n i }))
 
 -- ---- records one after another
 module _ (s w : List ℕ) (at a n i : ℕ) (R : Bool) (inv : all (sameRecord s at w a) (places i (n - i)) ≡ R) where

@@ -68,12 +68,13 @@ fn same_record(s: &[u8], at: usize, w: &[u64], k: usize) -> bool
         p: Phys(w[k + 1]),
         size: w[k + 2],
     };
-    region_eq(held, region_of(&s[at..at + REGION_BYTES]))
+    let end = at + REGION_BYTES;
+    region_eq(held, read_region(&s[at..end]))
 }
 
-// The region of its own bytes. They are lent alone, so that the compiler knows how many there are and tests no field.
-fn region_of(s: &[u8]) -> Region
-    requires { ⌜ length (now s) ≡ regionBytes ⌝ }
+// The region that the first bytes are. It is lent a region's own bytes, whose number the compiler then knows: no field is asked whether it
+// is there.
+fn read_region(s: &[u8]) -> Region
     ensures { λ r. ⌜ r ≡ regionIn (now (s .entry)) 0 ⌝ }
 {
     let v = u64_at(s, 0);

@@ -63,7 +63,7 @@ part-take (suc k) n (suc m) [] h = refl
 part-take (suc k) n (suc m) (x ∷ l) h = part-take k n m l (omega arith)
 
 module _ (b : List ℕ) (at e : ℕ) where
-  own-number : (k n : ℕ) → k + n ≤ e - at → numberAt n (take (e - at) (drop at b)) k ≡ numberAt n b (at + k)
+  pub own-number : (k n : ℕ) → k + n ≤ e - at → numberAt n (take (e - at) (drop at b)) k ≡ numberAt n b (at + k)
   unfolding part
   own-number k n l = ap little (part-take k n (e - at) (drop at b) l ∙ ap (take n) (drop-drop k at b))
 

@@ -17,7 +17,9 @@
  * written by another thread meanwhile.
  *
  * Stack: PEATMITTEN_STACK bytes are enough. tests/stack.sh measures it: it calls every function on a stack filled with a pattern, over the
- * stored plans, looks how deep the pattern is gone, and prints it for each function. Nothing is allocated.
+ * stored plans, looks how deep the pattern is gone, and prints it for each function. Measured were 214,904 bytes for peatmitten_apply,
+ * 120,168 for peatmitten_read, 31,728 for peatmitten_check_table, 6,304 for peatmitten_check_config and some hundred for the others.
+ * Nothing is allocated.
  *
  * Imports: memcpy and memset, and nothing else. The code is for x86-64 and calls as Linux does there (System V); no other system is
  * supported.
@@ -39,16 +41,16 @@ extern "C" {
 
 /* Limits. */
 enum {
-    PEATMITTEN_MOST_REGIONS = 64,   /* regions of a configuration */
-    PEATMITTEN_MOST_ZONES = 8,      /* zones of a table */
+    PEATMITTEN_MOST_REGIONS = 256,  /* regions of a configuration */
+    PEATMITTEN_MOST_ZONES = 32,     /* zones of a table */
     PEATMITTEN_MOST_IN_SET = 16,    /* regions of one set of a zone */
     PEATMITTEN_MOST_REQUESTS = 1024, /* requests of a plan */
     PEATMITTEN_HIGHEST_ID = 255,    /* the highest zone id */
-    PEATMITTEN_LONGEST_PLAN = 40568 /* bytes; a longer file is no plan */
+    PEATMITTEN_LONGEST_PLAN = 63896 /* bytes; a longer file is no plan */
 };
 
 /* Bytes of stack that are enough for every function. */
-enum { PEATMITTEN_STACK = 65536 };
+enum { PEATMITTEN_STACK = 221184 };
 
 /*
  * Where things stand among words.
@@ -105,8 +107,8 @@ PEATMITTEN_ASSERT(sizeof(size_t) == 8, "the library is for a 64-bit machine");
  * of a region; each file that includes this header refers to it, so that with the library of another layout a program does not link.
  * It answers these numbers, one for each peatmitten_layout_number, and 0 for any other.
  */
-#define peatmitten_layout peatmitten_layout_64_8_16_1024_3
-uint64_t peatmitten_layout_64_8_16_1024_3(uint32_t which);
+#define peatmitten_layout peatmitten_layout_256_32_16_1024_3
+uint64_t peatmitten_layout_256_32_16_1024_3(uint32_t which);
 
 enum peatmitten_layout_number {
     PEATMITTEN_LAYOUT_REGIONS = 0,

@@ -34,7 +34,7 @@ check_limits() {
     [ "$found" -gt 0 ] || say_failed "docs/RULES.md has no table of limits"
 }
 
-# A number as documents write it: 40568 is 40,568.
+# A number as documents write it: 63896 is 63,896.
 grouped() {
     sed ':again; s/\([0-9]\)\([0-9]\{3\}\)\($\|,\)/\1,\2\3/; t again' <<<"$1"
 }

@@ -75,6 +75,8 @@ make_states() {
     cp "$state" "$work/edition2"
     cp "$work/edition2" "$work/edition0"
     printf '\0' | dd of="$work/edition0" bs=1 seek=$(($(stat -c %s "$state") - 8)) conv=notrunc status=none
+    # A state of any size takes two writes, so that a program which takes a short one for whole is seen.
+    export POWER_WRITES=$(($(stat -c %s "$state") / 2 + 1))
 }
 
 # What must hold of a run that ended early, however it did. Prints what does not.

@@ -10,6 +10,7 @@
  *         data           of a file that was written and not synced since, every byte
  *         names          a rename whose folder was not synced since; and data, as above
  *     POWER_FORGETS=..   which sync does nothing, so that a test can be seen to fail: `file` or `folder`
+ *     POWER_WRITES=N     a write takes N bytes at most, as a system may
  *
  * It knows one file that is created and written at a time, which is all that these programs do.
  */
@@ -120,12 +121,19 @@ ssize_t __wrap_read(int file, void *bytes, size_t length)
     return is_failing("read", "") ? -1 : __real_read(file, bytes, length);
 }
 
-/* Writes at most 5,000 bytes at once, as a system may, so that a state takes two calls. */
+/* How many of so many bytes a write takes. */
+static size_t taken_of(size_t length)
+{
+    const char *most = getenv("POWER_WRITES");
+
+    return most == NULL || length < (size_t)atoi(most) ? length : (size_t)atoi(most);
+}
+
 ssize_t __wrap_write(int file, const void *bytes, size_t length)
 {
     if (file == STDERR_FILENO)
         return __real_write(file, bytes, length);
-    return is_failing("write", file == STDOUT_FILENO ? "answer" : "") ? -1 : __real_write(file, bytes, length < 5000 ? length : 5000);
+    return is_failing("write", file == STDOUT_FILENO ? "answer" : "") ? -1 : __real_write(file, bytes, taken_of(length));
 }
 
 int __wrap_fsync(int file)

@@ -45,7 +45,7 @@ ghost use Rattle.agent.specs.Agent.{layout, placesOf, yesOrNo, sideAsked
 // What a header must have for this library, one number at a time; 0 past the last. Its name says them too, so that a program with the
 // header of another library does not link.
 #[no_mangle]
-pub extern "C" fn peatmitten_layout_64_8_16_1024_3(which: u32) -> u64
+pub extern "C" fn peatmitten_layout_256_32_16_1024_3(which: u32) -> u64
     ensures { λ n. ⌜ n ≡ getD layout which 0 ⌝ }
 {
     if which == 0 {

@@ -6,6 +6,7 @@ use crate::report::number;
 use crate::report::say;
 use crate::report::text;
 use rules::Checked;
+use rules::limits::MOST_REGIONS;
 use zones::Config;
 use zones::TABLE_WORDS;
 use zones::Table;
@@ -15,10 +16,12 @@ use zones::check_number;
 use zones::check_place;
 use zones::check_table;
 
+const ONE_TOO_MANY: u64 = MOST_REGIONS as u64 + 1;
+
 pub fn examples() {
     check(4, 3, 0, b'A');
     check(0, 3, 0, b'A');
-    check(65, 3, 0, b'A');
+    check(ONE_TOO_MANY, 3, 0, b'A');
     check(4, 4, 0, b'A');
     check(4, 3, 4, b'H');
     check(4, 3, 2, b'H');

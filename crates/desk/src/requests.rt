@@ -1,5 +1,5 @@
-// The desk examples on requests. A request is four bytes: its kind, its zone, its region and a space. The zone is a digit, x for 255 or
-// y for 256; the region is F, nothing, where the kind takes none.
+// The desk examples on requests. A request is four bytes: its kind, its zone, its region and a space. The zone is a digit, a letter from
+// a for 10 to w for 32, x for 255 or y for 256; the region is F, nothing, where the kind takes none.
 use crate::given::config;
 use crate::given::region;
 use crate::given::two_zones;
@@ -27,8 +27,13 @@ pub fn examples() {
     run(4, 3, 5, b"35A 35C 36C ");
     // A zone that holds only the GIC, removed after it.
     run(4, 3, 5, b"55G 25F 65G 25F ");
-    // The ninth zone, also after one is removed.
-    run(4, 3, 5, b"11F 12F 13F 14F 17F 18F 19F 26F 19F ");
+    // Zones 0 to 31, and one too many, also after one is removed.
+    run(
+        4,
+        3,
+        5,
+        b"10F 11F 12F 13F 14F 17F 18F 19F 1aF 1bF 1cF 1dF 1eF 1fF 1gF 1hF 1iF 1jF 1kF 1lF 1mF 1nF 1oF 1pF 1qF 1rF 1sF 1tF 1uF 1vF 1wF 26F 1wF ",
+    );
     // Form, reach, and whether a region is configured.
     run(4, 3, 5, b"35F 35H 35K 35X 35V 35Z 35W 35Y ");
 }
@@ -101,6 +106,7 @@ fn zone_of(id: u8) -> u32 {
     match id {
         b'x' => 255,
         b'y' => 256,
+        b'a'..=b'w' => id as u32 - b'a' as u32 + 10,
         _ => digit(id),
     }
 }

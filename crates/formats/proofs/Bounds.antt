@@ -193,3 +193,13 @@ module _ {A : Type 0} (size : A → ℕ) (give : ℕ → A → List (Rule ℕ)) 
   along-within at (x ∷ xs) h =
       all-joined _ (give at x) (along size give (at + size x) xs) (each at x (omega arith))
       (along-within (at + size x) xs (omega arith))
+
+-- what holds of all that each element gives holds of all that they give together
+module _ {A R : Type 0} (size : A → ℕ) (give : ℕ → A → List R) (P : A → Type 0) (Q : R → Type 0)
+    (each : (at : ℕ) (x : A) → P x → All Q (give at x)) where
+  pub along-all : (at : ℕ) (xs : List A) → All P xs → All Q (along size give at xs)
+  unfolding along
+  along-all at [] h = tt
+  along-all at (x ∷ xs) h =
+      all-joined Q (give at x) (along size give (at + size x) xs) (each at x (h .0))
+      (along-all (at + size x) xs (h .1))

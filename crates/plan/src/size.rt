@@ -19,5 +19,5 @@ const ZONES_BYTES: usize = NUMBER_BYTES + MOST_ZONES * ZONE_BYTES;
 
 const REQUESTS_BYTES: usize = NUMBER_BYTES + MOST_REQUESTS as usize * REQUEST_BYTES;
 
-// 40,568 bytes.
+// With all that a plan may have; specs/Sizes.antt of `rules` says how many bytes that is.
 pub const LONGEST_PLAN: usize = MARKS_BYTES + REGIONS_BYTES + ZONES_BYTES + REQUESTS_BYTES;

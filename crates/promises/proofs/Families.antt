@@ -1,13 +1,13 @@
 -- Families of terminals: a reader on its own limits goes through what was written for wider ones and stops at the first
 -- count above its own; the counts of a plan, each with its place, are rules, and the first that applies is its answer.
-use Prim.Native.Nat.{ℕ, zero, suc, _+_, _-_, _≤_, _<_}
+use Prim.Native.Nat.{ℕ, zero, suc, _+_, _*_, _-_, _≤_, _<_}
 use native.Mathlib.Omega.{arith}
 use mathlib.Core.Bool.{Bool, true, false, cond}
 use mathlib.Core.List.{List, [], _∷_, _++_}
-use mathlib.Core.Path.{_≡_, refl, ap, _∙_}
-use borrow.Author.Tests.{leb-true, eq-eqb}
+use mathlib.Core.Path.{_≡_, refl, ap, subst, _∙_}
+use borrow.Author.Tests.{leb-true, lt-ltb, le-ltb, eq-eqb}
 use lib.Dec.{ltb, leb}
-use lib.ListN.{length, getD, drop, length-drop}
+use lib.ListN.{length, getD, drop, length-drop, length-replicate}
 use Rattle.lists.specs.Rules.{_when_, firstRule, numbered, Silent, Rule, Applies}
 use Rattle.lists.specs.Tests.{allOf}
 use Rattle.lists.specs.Bytes.{Bytes}
@@ -16,21 +16,22 @@ use Rattle.lists.proofs.Rules.{number-exactly, zero-exactly}
 use Rattle.lists.proofs.Tests.{parts}
 use Rattle.formats.specs.Formats.{got, bad, writeBoth, both, writeMany, writeHeaded, All}
 use Rattle.formats.specs.Sizes.{total, along}
-use Rattle.formats.proofs.Bounds.{stopped, judged-back, judged-both, judged-as, judged-many, judged-listed, judged-fields, judged-file, stops-at, stops-never, all-joined, all-one, along-within, Judged}
+use Rattle.formats.proofs.Bounds.{stopped, judged-back, judged-both, judged-as, judged-many, judged-listed, judged-fields, judged-file, stops-at, stops-never, all-joined, all-one, along-within, along-all, Judged}
 use Rattle.formats.proofs.Formats.{lawful-number}
 use Rattle.formats.proofs.Sizes.{sized-listed}
 use Rattle.rules.specs.Applying.{plain, applyRead, apply, Terminal}
-use Rattle.rules.specs.Desk.{deskTerminal}
 use Rattle.rules.specs.Limits.{limits, Limits, Sayable}
 use Rattle.rules.specs.Plan.{short, regionField, askedField, marksSection, regionsSection, setFormat, zoneTo, zoneFrom, zoneFormat, zonesSection, requestsSection, planTo, planFrom, planFormat, readPlan, encode, Short, RegionFits, AskedFits, MarksFit, SetFits, ZoneFits, PlanFits, Asked, Plan}
 use Rattle.rules.specs.Requests.{after, standing}
-use Rattle.rules.specs.Sizes.{shortSize, marksSize, regionSize, regionsSize, zoneSize, planSize, planWith}
+use Rattle.rules.specs.Regions.{noRegion}
+use Rattle.rules.specs.Sizes.{shortSize, marksSize, regionSize, regionsSize, zoneSize, planSize, zoneWith, planWith}
 use Rattle.rules.specs.Tables.{Zone}
 use Rattle.rules.specs.declared.Region.{Region}
 use Rattle.rules.proofs.Computing.{listParts, checkParts, tableParts, requestParts}
 use Rattle.rules.proofs.Plan.{lawful-region-field, lawful-asked, lawful-marks, read-encoded, no-slack, encoded-bytes}
+use Rattle.rules.proofs.Planner.{limits-sayable}
 use Rattle.rules.proofs.Sizes.{sized-region, sized-list, sized-marks, sized-set, sized-zone, encoded-length, counts-fit}
-use Rattle.promises.specs.Families.{Refuses21, zonesAt, requestsAt, setsAbove, countsAbove, AboveIsRefused, WithinIsRead, oneMore, MetWith, AboveIsMet, WithinIsMet, WidePagesShown, Meets}
+use Rattle.promises.specs.Families.{Refuses21, zonesAt, requestsAt, setsAbove, countsAbove, AboveIsRefused, WithinIsRead, gicOnly, MetWith, oneMore, AboveIsMet, WithinIsMet, oldLimits, ManyRegions, ManyZones, AsBefore, OldTerminalsRefuse, OldTerminalsMeet, WidePagesShown, Meets}
 
 -- a terminal that stands well answers what its reader refuses, at its place
 refuses : (l : Limits) (s : Terminal) (b t : List ℕ) (place : ℕ) → standing l (s .config) (s .table) ≡ 0
@@ -132,9 +133,44 @@ module _ (own wide : Limits) where
       read-as b p (m .bytes) (m .reads) ∙ stops-never b (0 when false) (got p []) (countsAbove own p) q
 
 -- ---- there are such
-desk-stands : standing limits (deskTerminal .config) (deskTerminal .table) ≡ 0
+-- a plan with so many of each, within the wider limits, at the terminal with the GIC only
+module _ (own wide : Limits) (stands : standing own (gicOnly own .config) (gicOnly own .table) ≡ 0) (say : Sayable wide)
+    (r z c i q : ℕ) where
+  abbrev few : List Bool
+  few =
+      leb 1 r ∷ leb r (wide .regions) ∷ leb z (wide .zones) ∷ leb c (wide .inSet) ∷ leb i (wide .inSet)
+      ∷ leb q (wide .requests) ∷ []
+
+  abbrev plan : Plan
+  plan = planWith r z c i q
+
+  abbrev above : List (Rule ℕ)
+  above = countsAbove own plan
+
+  met : (P : Plan → Type 0) → allOf few ≡ true → P plan → MetWith own wide P
+  met P h k =
+      let (one, (mr, (mz, (mc, (mi, (mq, _)))))) = parts few h in
+      let f : PlanFits wide plan = counts-fit wide say r z c i q (leb-true _ _ one) (leb-true _ _ mr) (leb-true _ _ mz) (leb-true _ _ mc) (leb-true _ _ mi) (leb-true _ _ mq) in (
+        encode wide plan,
+        plan,
+        record { stands = stands; bytes = encoded-bytes wide plan; reads = read-encoded wide plan f },
+        k,
+      )
+
+  -- the first count above the limits is the one at place k, as the places show; or there is none
+  met-above : (k : ℕ) → allOf few ≡ true → numbered above ≡ true → k < length above
+      → firstRule above 0 ≡ getD above k (0 when false) .0
+      → MetWith own wide (λ p. Applies (countsAbove own p) (0 when false) k)
+  met-above k h apart there e = met _ h (number-exactly above (0 when false) apart k there .0 e)
+
+  met-within : allOf few ≡ true → numbered above ≡ true → firstRule above 0 ≡ 0
+      → MetWith own wide (λ p. Silent (countsAbove own p) (0 when false))
+  met-within h apart e = met _ h (zero-exactly above (0 when false) apart .0 e)
+
+-- on the document's limits
+stands-now : standing limits (gicOnly limits .config) (gicOnly limits .table) ≡ 0
 unfolding tableParts
-desk-stands = refl
+stands-now = refl
 
 abbrev more : Limits
 more = oneMore limits
@@ -142,47 +178,59 @@ more = oneMore limits
 more-sayable : Sayable more
 more-sayable = record { guestReach = omega arith; physReach = omega arith; regions = omega arith; zones = omega arith; inSet = omega arith; requests = omega arith }
 
--- a plan with so many of each, within the wider limits
-module _ (r z c i q : ℕ) where
-  abbrev few : List Bool
-  few =
-      leb 1 r ∷ leb r (more .regions) ∷ leb z (more .zones) ∷ leb c (more .inSet) ∷ leb i (more .inSet)
-      ∷ leb q (more .requests) ∷ []
-
-  abbrev plan : Plan
-  plan = planWith r z c i q
-
-  abbrev above : List (Rule ℕ)
-  above = countsAbove limits plan
-
-  met : allOf few ≡ true → Meets limits more deskTerminal (encode more plan) plan
-  met h =
-      let (one, (mr, (mz, (mc, (mi, (mq, _)))))) = parts few h in
-      let f : PlanFits more plan = counts-fit more more-sayable r z c i q (leb-true _ _ one) (leb-true _ _ mr) (leb-true _ _ mz) (leb-true _ _ mc) (leb-true _ _ mi) (leb-true _ _ mq) in
-      record { stands = desk-stands; bytes = encoded-bytes more plan; reads = read-encoded more plan f }
-
-  -- the first count above the limits is the one at place k, as the places show; or there is none
-  met-above : (k : ℕ) → allOf few ≡ true → numbered above ≡ true → k < length above
-      → firstRule above 0 ≡ getD above k (0 when false) .0
-      → MetWith (λ p. Applies (countsAbove limits p) (0 when false) k)
-  met-above k h apart there e = (encode more plan, plan, met h, number-exactly above (0 when false) apart k there .0 e)
-
-  met-within : allOf few ≡ true → numbered above ≡ true → firstRule above 0 ≡ 0
-      → MetWith (λ p. Silent (countsAbove limits p) (0 when false))
-  met-within h apart e = (encode more plan, plan, met h, zero-exactly above (0 when false) apart .0 e)
-
 pub above-is-met : AboveIsMet
 unfolding countsAbove along total numbered listParts
-above-is-met zero h = met-above (more .regions) 1 0 0 0 0 refl refl (omega arith) refl
-above-is-met (suc zero) h = met-above 1 (more .zones) 0 0 0 1 refl refl (omega arith) refl
-above-is-met (suc (suc zero)) h = met-above 1 1 (more .inSet) 0 0 2 refl refl (omega arith) refl
-above-is-met (suc (suc (suc zero))) h = met-above 1 1 0 (more .inSet) 0 3 refl refl (omega arith) refl
-above-is-met (suc (suc (suc (suc zero)))) h = met-above 1 1 0 0 (more .requests) 4 refl refl (omega arith) refl
+above-is-met zero h = met-above limits more stands-now more-sayable (more .regions) 1 0 0 0 0 refl refl (omega arith) refl
+above-is-met (suc zero) h = met-above limits more stands-now more-sayable 1 (more .zones) 0 0 0 1 refl refl (omega arith) refl
+above-is-met (suc (suc zero)) h = met-above limits more stands-now more-sayable 1 1 (more .inSet) 0 0 2 refl refl (omega arith) refl
+above-is-met (suc (suc (suc zero))) h = met-above limits more stands-now more-sayable 1 1 0 (more .inSet) 0 3 refl refl (omega arith) refl
+above-is-met (suc (suc (suc (suc zero)))) h = met-above limits more stands-now more-sayable 1 1 0 0 (more .requests) 4 refl refl (omega arith) refl
 above-is-met (suc (suc (suc (suc (suc k))))) h = absurd (omega arith)
 
 pub within-is-met : WithinIsMet
 unfolding countsAbove along total numbered listParts
-within-is-met = met-within 1 1 0 0 0 refl refl refl
+within-is-met = met-within limits more stands-now more-sayable 1 1 0 0 0 refl refl refl
+
+-- ---- terminals on the old limits
+-- sets and requests have the limits that they had, so a count above the old ones is that of the regions or of the zones
+old-silent : (p : Plan) → PlanFits limits p → AsBefore p → Silent (countsAbove oldLimits p) (0 when false)
+unfolding countsAbove
+old-silent p (marks, (regions, (zones, asked))) (r, z) =
+    let no : Rule ℕ → Type 0 = λ (q : Rule ℕ). q .1 ≡ false in
+    let sets = along-all zoneSize (setsAbove oldLimits) (ZoneFits limits) no (λ at x h. (le-ltb _ _ (h .1 .0 .most), (le-ltb _ _ (h .1 .1 .most), tt))) (zonesAt p + shortSize) (p .zones) (zones .fits .1) in
+    let ofAsked : List (Rule ℕ) = requestsAt p when ltb (oldLimits .requests) (length (p .asked)) ∷ [] in
+    all-one no (countsAbove oldLimits p) (0 when false) (
+      le-ltb _ _ r,
+      (le-ltb _ _ z, all-joined no (along zoneSize (setsAbove oldLimits) (zonesAt p + shortSize) (p .zones)) ofAsked sets (le-ltb _ _ (asked .most), tt)),
+    )
+
+pub old-terminals-refuse : OldTerminalsRefuse
+unfolding countsAbove
+old-terminals-refuse s b p m =
+    let refused = above-is-refused oldLimits limits s b p m in
+    let behind : zonesAt p ≡ 16 + length (p .regions) * 24 = omega arith in (
+      λ r. refused 0 (record { there = omega arith; holds = lt-ltb _ _ r; earlier = λ j l. absurd (omega arith) }),
+      λ (r, z). subst (Refuses21 oldLimits s b) behind
+          (refused 1 (record { there = omega arith; holds = lt-ltb _ _ z; earlier = λ j l. first r j l })),
+      λ h. within-is-read oldLimits limits s b p m (old-silent p (no-slack limits b p [] (m .bytes) (m .reads) .1) h),
+    )
+  where
+    first : length (p .regions) ≤ oldLimits .regions → (j : ℕ) → j < 1 → getD (countsAbove oldLimits p) j (0 when false) .1 ≡ false
+    first r zero l = le-ltb _ _ r
+    first r (suc j) l = absurd (omega arith)
+
+stood : standing oldLimits (gicOnly oldLimits .config) (gicOnly oldLimits .table) ≡ 0
+unfolding tableParts
+stood = refl
+
+pub old-terminals-meet : OldTerminalsMeet
+unfolding listParts
+old-terminals-meet =
+    let meet = met oldLimits limits stood limits-sayable in (
+      meet (oldLimits .regions + 1) 0 0 0 0 ManyRegions refl (omega (arith, length-replicate (oldLimits .regions + 1) noRegion)),
+      meet 1 (oldLimits .zones + 1) 0 0 0 ManyZones refl (omega arith, omega (arith, length-replicate (oldLimits .zones + 1) (zoneWith 0 0))),
+      meet 1 0 0 0 0 AsBefore refl (omega arith, omega arith),
+    )
 
 pub wide-pages-shown : WidePagesShown
 unfolding checkParts requestParts

@@ -15,7 +15,7 @@ use Rattle.rules.specs.Configuration.{StoredConfig, configOf, check}
 abbrev pub at : StoredConfig → ℕ → Region
 at s i = getD (s .records) i noRegion
 
--- 1 to 64 regions
+-- at least one region, and no more than the limit
 abbrev pub RightCount : Limits → StoredConfig → Type 0
 RightCount l s = (1 ≤ s .count) × (s .count ≤ l .regions)
 

@@ -1,6 +1,6 @@
 -- Families of terminals: each has its own limits, and every promise above holds for each. Here is what a terminal does
 -- with a plan that was made for other limits.
-use Prim.Native.Nat.{ℕ, _+_, _<_}
+use Prim.Native.Nat.{ℕ, _+_, _*_, _≤_, _<_}
 use mathlib.Core.Bool.{false}
 use mathlib.Core.List.{List, [], _∷_, _++_}
 use mathlib.Core.Path.{_≡_}
@@ -11,9 +11,9 @@ use Rattle.lists.specs.Room.{room}
 use Rattle.lists.specs.Rules.{_when_, Silent, Rule, Applies}
 use Rattle.formats.specs.Formats.{got}
 use Rattle.formats.specs.Sizes.{total, along}
-use Rattle.rules.specs.Applying.{plain, apply, Terminal}
+use Rattle.rules.specs.Applying.{store, plain, apply, storeConfig, Terminal}
 use Rattle.rules.specs.Configuration.{configOf, check, StoredConfig}
-use Rattle.rules.specs.Desk.{regionOf, A, G, insert, deskTerminal}
+use Rattle.rules.specs.Desk.{regionOf, A, G, insert}
 use Rattle.rules.specs.Limits.{limits, Limits}
 use Rattle.rules.specs.Plan.{readPlan, Plan}
 use Rattle.rules.specs.Regions.{noRegion}
@@ -69,7 +69,16 @@ WithinIsRead own wide =
     (s : Terminal) (b : List ℕ) (p : Plan) → Meets own wide s b p → Silent (countsAbove own p) (0 when false)
     → readPlan own b ≡ got p []
 
--- ---- there are such: a sound terminal on the document's limits, and limits that allow one more of each
+-- ---- there are such
+-- a terminal that holds nothing, with the GIC only, as a family stores it
+abbrev pub gicOnly : Limits → Terminal
+gicOnly l = record { config = storeConfig l (record { regions = G ∷ []; gic = 0 }); table = store l []; edition = 0 }
+
+-- such a terminal meets a plan, and P holds of it
+abbrev pub MetWith : Limits → Limits → (Plan → Type 0) → Type 0
+MetWith own wide P = (b : List ℕ) × (p : Plan) × Meets own wide (gicOnly own) b p × P p
+
+-- limits that allow one more of each
 abbrev pub oneMore : Limits → Limits
 oneMore l = record {
   page = l .page;
@@ -82,17 +91,42 @@ oneMore l = record {
   requests = l .requests + 1;
 }
 
-abbrev pub MetWith : (Plan → Type 0) → Type 0
-MetWith P = (b : List ℕ) × (p : Plan) × Meets limits (oneMore limits) deskTerminal b p × P p
-
--- each kind of count is the first above the limits in some plan: the regions (0), the zones (1); with one zone, its CPU
--- set (2), its IOMMU set (3), the requests (4)
+-- on the document's limits each kind of count is the first above them in some plan: the regions (0), the zones (1);
+-- with one zone, its CPU set (2), its IOMMU set (3), the requests (4)
 abbrev pub AboveIsMet : Type 0
-AboveIsMet = (k : ℕ) → k < 5 → MetWith (λ p. Applies (countsAbove limits p) (0 when false) k)
+AboveIsMet =
+    (k : ℕ) → k < 5 → MetWith limits (oneMore limits) (λ p. Applies (countsAbove limits p) (0 when false) k)
 
 -- and a plan within them
 abbrev pub WithinIsMet : Type 0
-WithinIsMet = MetWith (λ p. Silent (countsAbove limits p) (0 when false))
+WithinIsMet = MetWith limits (oneMore limits) (λ p. Silent (countsAbove limits p) (0 when false))
+
+-- ---- request 4 of document 02: 32 zones over 256 regions, where there were 8 over 64; all else stays
+abbrev pub oldLimits : Limits
+oldLimits = record { page = limits .page; iommuPage = limits .iommuPage; guestReach = limits .guestReach; physReach = limits .physReach; regions = 64; zones = 8; inSet = limits .inSet; requests = limits .requests }
+
+-- a plan with more regions than the old limits allow; with no more of these, but more zones; with neither
+abbrev pub ManyRegions : Plan → Type 0
+ManyRegions p = oldLimits .regions < length (p .regions)
+
+abbrev pub ManyZones : Plan → Type 0
+ManyZones p = (length (p .regions) ≤ oldLimits .regions) × (oldLimits .zones < length (p .zones))
+
+abbrev pub AsBefore : Plan → Type 0
+AsBefore p = (length (p .regions) ≤ oldLimits .regions) × (length (p .zones) ≤ oldLimits .zones)
+
+-- a sound terminal still on the old limits answers a whole plan with such a count with 21, where the count stands, and
+-- does not change: at 12, before the regions, or behind them. A plan with neither it reads
+abbrev pub OldTerminalsRefuse : Type 0
+OldTerminalsRefuse =
+    (s : Terminal) (b : List ℕ) (p : Plan) → Meets oldLimits limits s b p
+    → (ManyRegions p → Refuses21 oldLimits s b 12)
+    × (ManyZones p → Refuses21 oldLimits s b (16 + length (p .regions) * 24))
+    × (AsBefore p → readPlan oldLimits b ≡ got p [])
+
+-- there are such: a sound terminal on the old limits, and whole plans of each of the three
+abbrev pub OldTerminalsMeet : Type 0
+OldTerminalsMeet = MetWith oldLimits limits ManyRegions × MetWith oldLimits limits ManyZones × MetWith oldLimits limits AsBefore
 
 -- ---- a family whose devices have pages of 64 KiB
 abbrev pub widePages : Limits

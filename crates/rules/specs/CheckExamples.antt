@@ -88,9 +88,9 @@ lowestFound =
     ∷ stored 3 0 (theGic ∷ unknown ∷ far ∷ []) gives found 6 1 0
     ∷ []
 
--- the document's limit, a second time: 64 regions. Here the first of them is not well formed
+-- the document's limit, a second time: 256 regions. Here the first of them is not well formed
 abbrev pub mostFound : List (StoredConfig × Found)
-mostFound = stored 64 0 [] gives found 4 0 0 ∷ stored 65 0 [] gives found 1 0 0 ∷ []
+mostFound = stored 256 0 [] gives found 4 0 0 ∷ stored 257 0 [] gives found 1 0 0 ∷ []
 
 -- the GIC and one region more
 abbrev pub besideTheGic : Region → StoredConfig

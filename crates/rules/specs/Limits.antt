@@ -16,11 +16,11 @@ physReach = 2 ^ 48
 
 -- a configuration has 1 to this many regions
 abbrev pub mostRegions : ℕ
-mostRegions = 64
+mostRegions = 256
 
 -- a table has up to this many zones, each with an id up to the highest and two sets of up to so many regions
 abbrev pub mostZones : ℕ
-mostZones = 8
+mostZones = 32
 
 abbrev pub highestId : ℕ
 highestId = 255

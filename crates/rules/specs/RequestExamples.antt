@@ -272,7 +272,7 @@ abbrev pub ofIds : List Numbered
 ofIds =
     addZone 255 at deskZones gives 0 ∷ addZone 256 at deskZones gives 4 ∷ addZone (2 ^ 32 - 1) at deskZones gives 4 ∷ []
 
--- eight zones, and sixteen regions in a set: how many are accepted one after another, and what the next one gets
+-- 32 zones, and 16 regions in a set: how many are accepted one after another, and what the next one gets
 abbrev pub blocksTo5 : Side → List Request
 blocksTo5 s = map (λ (i : ℕ). insert s (block i) 5) (places 0 17)
 
@@ -283,7 +283,7 @@ LimitsShown =
     × Shows (insertedIn5 Cpu) inTheReaches
     × Shows (insertedIn5 Iommu) inTheReaches
     × Shows answerTo ofIds
-    × (answers limits model [] (map addZone (places 0 9)) ≡ replicate 8 0 ++ 7 ∷ [])
+    × (answers limits model [] (map addZone (places 0 33)) ≡ replicate 32 0 ++ 7 ∷ [])
     × (answers limits model deskZones (blocksTo5 Cpu) ≡ replicate 16 0 ++ 16 ∷ [])
     × (answers limits model deskZones (blocksTo5 Iommu) ≡ replicate 16 0 ++ 16 ∷ [])
 

@@ -58,7 +58,7 @@ leastSize = marksSize + (regionsSize 1 + (shortSize + requestsSize 0))
 
 -- the document's two numbers
 abbrev pub SizesShown : Type 0
-SizesShown = (leastSize ≡ 48) × (longestSize limits ≡ 40568)
+SizesShown = (leastSize ≡ 48) × (longestSize limits ≡ 63896)
 
 -- ---- a plan that has so many of each, every number 0
 abbrev pub zoneWith : ℕ → ℕ → Zone

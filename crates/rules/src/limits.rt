@@ -5,9 +5,9 @@ pub const GUEST_REACH: u64 = 0x100_0000_0000;
 
 pub const PHYS_REACH: u64 = 0x1_0000_0000_0000;
 
-pub const MOST_REGIONS: usize = 64;
+pub const MOST_REGIONS: usize = 256;
 
-pub const MOST_ZONES: usize = 8;
+pub const MOST_ZONES: usize = 32;
 
 pub const HIGHEST_ID: u64 = 255;
 

@@ -98,13 +98,13 @@ fn repeated(regions: usize, zones: usize, requests: usize) -> Job {
 }
 
 /// Two requests from outside, each of which checks the configuration and the table.
-fn two_requests(name: &str, regions: usize, zones: usize) -> Job {
+fn two_requests(regions: usize, zones: usize) -> Job {
     let terminal = Terminal::new(regions, zones);
     let records = removals_and_inserts(&terminal, 2);
     let requests: Vec<peatmitten::Request> = records.iter().map(library_request).collect();
     let Terminal { mut library, mut ordinary } = terminal;
     Job {
-        name: name.into(),
+        name: format!("two requests from outside, {regions} regions"),
         library: Box::new(move || {
             for request in &requests {
                 assert_eq!(library.table.request(&library.config, *black_box(request)), Ok(()));
@@ -119,7 +119,7 @@ fn two_requests(name: &str, regions: usize, zones: usize) -> Job {
 }
 
 fn check_config(regions: usize) -> Job {
-    let Terminal { library, ordinary } = Terminal::new(regions, 8);
+    let Terminal { library, ordinary } = Terminal::new(regions, MAX_ZONES);
     Job {
         name: format!("configuration check, {regions} regions"),
         library: Box::new(move || assert_eq!(black_box(&library.config).check(), Ok(()))),
@@ -136,13 +136,13 @@ fn check_table(regions: usize, zones: usize) -> Job {
     }
 }
 
-fn translate(name: &str, regions: usize, zones: usize) -> Job {
+fn translate(regions: usize, zones: usize) -> Job {
     let terminal = Terminal::new(regions, zones);
     let (zone, region) = terminal.last_held();
     let (address, physical) = (region.v.0 + 5, region.p.0 + 5);
     let Terminal { library, ordinary } = terminal;
     Job {
-        name: name.into(),
+        name: format!("translation, {regions} regions"),
         library: Box::new(move || {
             let guest = peatmitten::Guest(black_box(address));
             let answer = library.table.translate(&library.config, zone, peatmitten::Side::Cpu, guest);
@@ -164,12 +164,12 @@ pub fn all() -> Vec<Job> {
         apply("typical plan", 16, 4, 16),
         apply("small plan", 4, 2, 2),
         repeated(16, 4, 16),
-        two_requests("two requests from outside, 64 regions", 64, 8),
-        two_requests("two requests from outside, 4 regions", 4, 2),
-        check_config(64),
-        check_table(64, 8),
-        translate("translation, 64 regions", 64, 8),
-        translate("translation, 4 regions", 4, 2),
+        two_requests(MAX_REGIONS, MAX_ZONES),
+        two_requests(4, 2),
+        check_config(MAX_REGIONS),
+        check_table(MAX_REGIONS, MAX_ZONES),
+        translate(MAX_REGIONS, MAX_ZONES),
+        translate(4, 2),
     ]
 }
 

@@ -66,16 +66,18 @@ fn past_the_count(book: &mut Book) {
 
 fn many(book: &mut Book) {
     let most = MAX_REGIONS as u64;
-    book.ask_config(format!("{LAST} regions"), sound(LAST));
-    book.ask_config(format!("{most} regions"), all());
+    book.ask_config(format!("{LAST} regions"), sound(LAST)).known(0);
+    book.ask_config(format!("{most} regions"), all()).known(0);
     for (text, count) in [
         ("0".into(), 0),
         (format!("{}", most - 2), most - 2),
-        (format!("{}", most + 1), most + 1),
         (format!("2^32 + {most}"), (1 << 32) + most),
         ("2^64 - 1".into(), u64::MAX),
     ] {
         book.ask_config(format!("{text} counted"), with_word(all(), CONFIG_COUNT, count));
+    }
+    for (count, number) in [(most - 1, 3), (most, 0), (most + 1, 1)] {
+        book.ask_config(format!("{count} counted, all there"), with_word(all(), CONFIG_COUNT, count)).known(number);
     }
     for (text, gic) in [(&*LAST.to_string(), most - 1), ("the count", most), ("2^32", 1 << 32), ("2^64 - 1", u64::MAX)] {
         book.ask_config(format!("GIC at {text}"), with_word(all(), CONFIG_GIC, gic));

@@ -17,7 +17,7 @@ const LAST_PAGE: u64 = PAGE.wrapping_neg();
 
 // The document's lengths.
 const LEAST_LENGTH: usize = 48;
-const MOST_LENGTH: usize = 40_568;
+const MOST_LENGTH: usize = 63_896;
 
 /// A region whose numbers need more than 32 bits, beside the desk's.
 pub const H: Region = Region::new(0x1_0000_0000, 0x12_3456_7000, 0x5000);
@@ -206,6 +206,8 @@ fn lengths(files: &mut PlanFiles) {
     files.add("longest-and-many-bytes", [&most[..], &most[..20_000]].concat()).is(22, MOST_LENGTH);
     files.add("longest-without-its-last-byte", most[..most.len() - 1].to_vec()).is(20, MOST_LENGTH - REQUEST_BYTES);
     files.add("longest-sound", sound.bytes()).is(0, MAX_REQUESTS);
+    let every_region_held = sound.clone().with_requests(&[]);
+    files.add(format!("{MAX_ZONES}-zones-that-hold-all-{MAX_REGIONS}-regions"), every_region_held.bytes()).is(0, 0);
     let last = MAX_REQUESTS - 1;
     let last_refused = [&sound.requests[..last], &[of_zone(ADD_ZONE, MAX_ZONES as u32)]].concat();
     files.add("longest-sound-last-request-refused", sound.with_requests(&last_refused).bytes()).refused(last, 7);
@@ -285,15 +287,18 @@ fn other_counts(count: u32, least: u32, most: u32) -> Vec<(&'static str, u32)> {
     shown
 }
 
-/// As many elements as the limit allows, and one more; all of them are there.
+/// As many elements as the limit allows, and one more, of regions and zones one fewer too; all of them are there.
 fn too_many(files: &mut PlanFiles) {
+    for (count, number, place) in [(MAX_REGIONS - 1, 0, 0), (MAX_REGIONS, 0, 0), (MAX_REGIONS + 1, 21, 12)] {
+        let regions = [vec![G], pages(0..count - 1)].concat();
+        files.add(format!("{count}-regions"), least().with_regions(&regions).bytes()).is(number, place);
+    }
+    let zones_at = least().field("zones-count").start;
+    for (count, number, place) in [(MAX_ZONES - 1, 0, 0), (MAX_ZONES, 0, 0), (MAX_ZONES + 1, 21, zones_at)] {
+        let zones: Vec<Zone> = (0..count as u32).map(Zone::empty).collect();
+        files.add(format!("{count}-zones"), least().with_zones(&zones).bytes()).is(number, place);
+    }
     let wide = least().with_regions(&all_regions());
-    files.add(format!("{MAX_REGIONS}-regions"), wide.bytes()).is(0, 0);
-    let wider = wide.clone().with_regions(&[vec![G], pages(0..MAX_REGIONS)].concat());
-    files.add(format!("{}-regions", MAX_REGIONS + 1), wider.bytes()).is(21, 12);
-    let (zones, ids) = (MAX_ZONES + 1, 0..=MAX_ZONES as u32);
-    let crowded = least().with_zones(&ids.map(Zone::empty).collect::<Vec<_>>());
-    files.add(format!("{zones}-zones"), crowded.bytes()).is(21, crowded.field("zones-count").start);
     for (count, is_in_range) in [(MAX_IN_SET, true), (MAX_IN_SET + 1, false)] {
         let held = pages(0..count);
         for (side, zones) in [("cpu", [zone(5, &held, &[])]), ("iommu", [zone(5, &[], &held)])] {
@@ -469,9 +474,9 @@ fn requests_in_turn(files: &mut PlanFiles) {
         ("zone-added-twice", least(), vec![add[5], add[5]], 27, 1, 5),
         ("zone-removed-then-used", rich(), vec![remove(0), c_to(0)], 27, 1, 6),
         ("zone-removed-then-added", rich(), vec![remove(0), add[0], c_to(0)], 0, 3, 0),
-        ("eight-zones-added", least(), add[..MAX_ZONES].to_vec(), 0, MAX_ZONES, 0),
-        ("nine-zones-added", least(), add.clone(), 27, MAX_ZONES, 7),
-        ("ninth-zone-after-one-is-removed", least(), used_again, 0, MAX_ZONES + 2, 0),
+        ("all-zones-added", least(), add[..MAX_ZONES].to_vec(), 0, MAX_ZONES, 0),
+        ("one-zone-too-many-added", least(), add.clone(), 27, MAX_ZONES, 7),
+        ("zone-too-many-after-one-is-removed", least(), used_again, 0, MAX_ZONES + 2, 0),
         ("zone-filled-then-removed", rich(), vec![c_in, remove(0)], 27, 1, 8),
         ("zone-emptied-then-removed", rich(), [&emptied[..], &[remove(9)]].concat(), 0, 5, 0),
         ("region-inserted-twice", rich(), vec![c_in, c_in], 27, 1, 13),
@@ -561,8 +566,8 @@ fn flipped_bits(files: &mut PlanFiles, rng: &mut Rng) {
 mod tests {
     use super::*;
 
-    /// The longest of a plan that is accepted: 63 regions twice and the GIC 8 times is all that sound zones can hold.
-    const MOST_SOUND_LENGTH: usize = 37_640;
+    /// The longest of a plan that is accepted: 255 regions twice and the GIC 32 times is all that sound zones can hold.
+    const MOST_SOUND_LENGTH: usize = 52_328;
 
     #[test]
     fn the_lengths_are_the_documents() {

@@ -173,7 +173,7 @@ fn unsound(book: &mut Book) {
     let bad_config = with_word(config(), CONFIG_GIC, 23);
     let overlapping = with_word(config(), config_record(19) + P, region(18).p.0);
     let bad_id = with_word(base(), zone_id(1), 256);
-    let left = with_word(base(), zone_id(7), 1);
+    let left = with_word(base(), zone_id(MAX_ZONES - 1), 1);
     for (name, config, words) in [
         ("unsound configuration", bad_config, base()),
         ("configured regions overlap", overlapping, base()),
@@ -544,8 +544,8 @@ fn runs(book: &mut Book, rng: &mut Rng) {
     }
     let regions: Vec<Region> = (0..=GIC_TWIN).map(region).collect();
     let kinds = [&[ADD_ZONE; 4][..], &[REMOVE_ZONE, CPU_INSERT, IOMMU_REMOVE]].concat();
-    let ids: Vec<u32> = (0..11).collect();
-    Run { name: "zones", config: config(), regions: &regions, steps: 60, kinds: &kinds, ids: &ids }.add(book, rng);
+    let ids: Vec<u32> = (0..2 * MAX_ZONES as u32).collect();
+    Run { name: "zones", config: config(), regions: &regions, steps: 4 * MAX_ZONES, kinds: &kinds, ids: &ids }.add(book, rng);
     let kinds = [&[ADD_ZONE], &removes[..], &inserts.repeat(6)].concat();
     Run { name: "sets", config: config(), regions: &regions, steps: 140, kinds: &kinds, ids: &[3, 3, 3, 9] }.add(book, rng);
 }

@@ -24,10 +24,17 @@ pub fn add(book: &mut Book) {
     desk(book);
 }
 
-/// Configured region k, of a page: 0 is the GIC, and 62 and 63 share guest addresses.
+/// The last position of a configuration.
+const LAST: u64 = MAX_REGIONS as u64 - 1;
+
+/// The last zone of a table, and the last record of a set.
+const LAST_ZONE: usize = MAX_ZONES - 1;
+const LAST_IN_SET: usize = MAX_IN_SET - 1;
+
+/// Configured region k, of a page: 0 is the GIC, and the last two share guest addresses.
 fn region(k: u64) -> Region {
     let p = if k == 0 { 0x0800_0000 } else { 0x8000_0000 + k * 2 * PAGE };
-    Region::new(0x4000_0000 + k.min(62) * 2 * PAGE, p, PAGE)
+    Region::new(0x4000_0000 + k.min(LAST - 1) * 2 * PAGE, p, PAGE)
 }
 
 fn config() -> ConfigWords {
@@ -71,10 +78,13 @@ fn configurations(book: &mut Book) {
 
 fn counts(book: &mut Book) {
     let (zones, all) = (MAX_ZONES as u64, table_words(&all_empty()));
-    ask(book, &format!("{} zones counted", zones + 1), with_word(all, TABLE_COUNT, zones + 1));
+    let fewer: Vec<Zone> = all_empty().into_iter().take(LAST_ZONE).collect();
+    book.ask_table(format!("{LAST_ZONE} zones"), config(), table_words(&fewer)).known(1);
+    for (count, is_sound) in [(zones - 1, 0), (zones, 1), (zones + 1, 0)] {
+        book.ask_table(format!("{count} zones counted, {zones} there"), config(), with_word(all, TABLE_COUNT, count)).known(is_sound);
+    }
     ask(book, &format!("2^32 + {zones} zones counted"), with_word(all, TABLE_COUNT, (1 << 32) + zones));
     ask(book, "2^64 - 1 zones counted", with_word(all, TABLE_COUNT, u64::MAX));
-    ask(book, &format!("{zones} zones counted"), all);
     let most = MAX_IN_SET as u64;
     let (low, high): (Vec<u64>, Vec<u64>) = ((1..1 + most).collect(), (1 + most..1 + 2 * most).collect());
     let full = table(&[(1, &low, &high)]);
@@ -103,12 +113,12 @@ fn unused(book: &mut Book) {
         ("v in an unused record", set_record(0, Side::Cpu, 2) + V),
         ("p in an unused record", set_record(1, Side::Iommu, 1) + P),
         ("size in an unused record", set_record(0, Side::Iommu, 2) + SIZE),
-        ("size in a set's last record", set_record(1, Side::Cpu, 15) + SIZE),
+        ("size in a set's last record", set_record(1, Side::Cpu, LAST_IN_SET) + SIZE),
         ("id in an unused zone", zone_id(2)),
         ("CPU count in an unused zone", set_count(2, Side::Cpu)),
-        ("IOMMU count in the last zone", set_count(7, Side::Iommu)),
+        ("IOMMU count in the last zone", set_count(LAST_ZONE, Side::Iommu)),
         ("v in an unused zone", set_record(2, Side::Cpu, 0) + V),
-        ("p in the last zone", set_record(7, Side::Cpu, 15) + P),
+        ("p in the last zone", set_record(LAST_ZONE, Side::Cpu, LAST_IN_SET) + P),
         ("the last word", TABLE_WORDS - 1),
     ] {
         ask(book, name, with_word(base(), at, 1));
@@ -147,12 +157,13 @@ fn reaches(book: &mut Book) {
     }
 }
 
-/// Configured regions 62 and 63 share guest addresses.
+/// The last two configured regions share guest addresses.
 fn guests(book: &mut Book) {
-    ask(book, "62 and 63 in a CPU set", table(&[(5, &[1, 62, 63], &[1, 0]), SIX]));
-    ask(book, "63 and 62 in an IOMMU set", table(&[(5, &[1], &[63, 0, 62]), SIX]));
-    ask(book, "62 CPU, 63 IOMMU", table(&[(5, &[1, 62], &[1, 0, 63]), SIX]));
-    ask(book, "62 and 63 in two zones", table(&[(5, &[1, 62], &[1, 0]), (6, &[3, 63], &[0])]));
+    const TWIN: u64 = LAST - 1;
+    ask(book, "the last two in a CPU set", table(&[(5, &[1, TWIN, LAST], &[1, 0]), SIX]));
+    ask(book, "the last two in an IOMMU set, the last first", table(&[(5, &[1], &[LAST, 0, TWIN]), SIX]));
+    ask(book, "the last but one CPU, the last IOMMU", table(&[(5, &[1, TWIN], &[1, 0, LAST]), SIX]));
+    ask(book, "the last two in two zones", table(&[(5, &[1, TWIN], &[1, 0]), (6, &[3, LAST], &[0])]));
     ask(book, "a region twice in a set", table(&[(5, &[1, 2, 1], &[1, 0]), SIX]));
     ask(book, "the GIC twice in a set", table(&[(5, &[1, 2], &[0, 1, 0]), SIX]));
     ask(book, "each once", table(&[(5, &[1, 2], &[1, 0]), SIX]));
@@ -171,22 +182,25 @@ fn shared(book: &mut Book) {
     ask(book, "a region on both sides of a zone", table(&[(5, &[1, 2], &[1, 0, 2]), SIX]));
 }
 
+/// Zones with both sets full, as far as the regions but the GIC go, and one more; the last two regions do not go together.
 fn full(book: &mut Book) {
-    let shares: Vec<Vec<u64>> = (0..3).map(|z| (1 + 16 * z..17 + 16 * z).collect()).collect();
-    let three: Vec<Held> = shares.iter().zip(0..).map(|(own, id)| (id, &own[..], &own[..])).collect();
-    let left: Vec<u64> = (49..63).collect();
-    let most = [&[63], &left[..13], &[0]].concat();
-    let with_fourth = |iommu: &[u64]| table(&[&three[..], &[(3, &left[..], iommu)]].concat());
-    ask(book, "3 full zones", table(&three));
-    ask(book, "and a fourth with all that is left", with_fourth(&most));
-    ask(book, "and the first region again", with_fourth(&[&most[..], &[1]].concat()));
+    const IN_SET: u64 = MAX_IN_SET as u64;
+    const FULL: u64 = LAST / IN_SET;
+    let shares: Vec<Vec<u64>> = (0..FULL).map(|z| (1 + IN_SET * z..1 + IN_SET * (z + 1)).collect()).collect();
+    let full: Vec<Held> = shares.iter().zip(0..).map(|(own, id)| (id, &own[..], &own[..])).collect();
+    let left: Vec<u64> = (1 + IN_SET * FULL..LAST).collect();
+    let most = [&[LAST], &left[..left.len() - 1], &[0]].concat();
+    let with_last = |iommu: &[u64]| table(&[&full[..], &[(FULL as u32, &left[..], iommu)]].concat());
+    ask(book, &format!("{FULL} full zones"), table(&full));
+    ask(book, "and one more with all that is left", with_last(&most));
+    ask(book, "and the first region again", with_last(&[&most[..], &[1]].concat()));
     ask(book, &format!("{MAX_ZONES} full zones, some regions shared"), full_of_regions());
 }
 
 fn full_of_regions() -> TableWords {
     let zones: Vec<Zone> = (0..MAX_ZONES)
         .map(|z| {
-            let held: Vec<Region> = (0..MAX_IN_SET).map(|i| region(((MAX_IN_SET * z + i) % 61 + 1) as u64)).collect();
+            let held: Vec<Region> = (0..MAX_IN_SET).map(|i| region((MAX_IN_SET * z + i) as u64 % (LAST - 2) + 1)).collect();
             zone(z as u32, &held, &held)
         })
         .collect();

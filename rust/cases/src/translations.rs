@@ -3,7 +3,7 @@
 use std::collections::BTreeSet;
 
 use ordinary::layout::{zone_id, CONFIG_COUNT, CONFIG_GIC};
-use ordinary::limits::{GUEST_REACH, MAX_ID, PAGE, PHYS_REACH};
+use ordinary::limits::{GUEST_REACH, MAX_ID, MAX_ZONES, PAGE, PHYS_REACH};
 use ordinary::{ConfigWords, Region, TableWords};
 
 use crate::book::Book;
@@ -62,7 +62,7 @@ fn edges(book: &mut Book) {
 fn refused_early(book: &mut Book) {
     let bad_config = with_word(config(), CONFIG_GIC, 6);
     let bad_table = with_word(table(), zone_id(0), 256);
-    let left = with_word(table(), zone_id(7), 1);
+    let left = with_word(table(), zone_id(MAX_ZONES - 1), 1);
     for (name, config, table) in [
         ("sound", config(), table()),
         ("unsound configuration", bad_config, table()),

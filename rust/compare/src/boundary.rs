@@ -35,9 +35,9 @@ fn pages(count: u64) -> Config {
     Config { regions, gic: count as usize - 1 }
 }
 
-/// A full configuration and as many regions in all zones as a sound table can have.
-fn full() -> State {
-    let config = pages(MAX_REGIONS as u64);
+/// So many configured regions, in as many zones as there can be, each as often as a sound table can have it.
+fn all_held(count: usize) -> State {
+    let config = pages(count as u64);
     let (gic, others) = config.regions.split_last().expect("a region");
     let shares = others.chunks(others.len().div_ceil(MAX_ZONES));
     let zones = shares.zip(0..).map(|(own, id)| zone(id, own, &[own, &[*gic]].concat())).collect();
@@ -73,7 +73,8 @@ fn states() -> Vec<State> {
         desk(&[zone(5, &[], &[G]), zone(6, &[], &[])]),
         desk(&[zone(5, &[A], &[A, G]), zone(6, &[B], &[G])]),
         desk(&[zone(6, &[C], &[]), zone(5, &[], &[B])]),
-        full(),
+        all_held(MAX_REGIONS - 1),
+        all_held(MAX_REGIONS),
         sets_of(MAX_IN_SET - 1),
         sets_of(MAX_IN_SET),
         table_of(MAX_ZONES - 1),
@@ -181,7 +182,7 @@ fn table_cases() -> Vec<Case> {
 /// Requests of every kind for zones that are there and that are not, with regions of the desk and of the configuration.
 fn requests(state: &State) -> Vec<Record> {
     let mut regions = vec![Region::ZERO, A, B, C, G];
-    let step = if state.config.regions.len() < MAX_REGIONS { 1 } else { MAX_REGIONS / 8 };
+    let step = (state.config.regions.len() / 16).max(1);
     regions.extend(state.config.regions.iter().step_by(step));
     let mut requests = Vec::new();
     for kind in 1..=6 {

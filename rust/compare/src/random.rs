@@ -7,8 +7,12 @@ use ordinary::{encode, Config, ConfigWords, Record, Region, State, Table, TableW
 
 use crate::damage::{damage_bytes, damage_words};
 
-/// Numbers at which something changes, or just beside.
-pub const EDGES: [u64; 40] = [
+// The most zones and regions before request 4 of document 02.
+const OLD_ZONES: u64 = 8;
+const OLD_REGIONS: u64 = 64;
+
+/// Numbers at which something changes or changed, or just beside.
+pub const EDGES: [u64; 44] = [
     0,
     1,
     2,
@@ -25,6 +29,10 @@ pub const EDGES: [u64; 40] = [
     MAX_REGIONS as u64 - 1,
     MAX_REGIONS as u64,
     MAX_REGIONS as u64 + 1,
+    OLD_ZONES,
+    OLD_ZONES + 1,
+    OLD_REGIONS,
+    OLD_REGIONS + 1,
     255,
     256,
     0x101,
@@ -113,7 +121,7 @@ fn guest_start(rng: &mut Rng, p: u64, size: u64, is_crowded: bool) -> u64 {
 fn any_id(rng: &mut Rng) -> u32 {
     match rng.below(4) {
         0 => number_32(rng),
-        _ => rng.below(24) as u32,
+        _ => rng.below(3 * MAX_ZONES) as u32,
     }
 }
 
@@ -213,7 +221,7 @@ fn bent_table(rng: &mut Rng, state: &State) -> Table {
     let at = rng.below(table.zones.len());
     let zone = &mut table.zones[at];
     let set = if rng.one_in(2) { &mut zone.cpu } else { &mut zone.iommu };
-    if set.len() < 16 {
+    if set.len() < MAX_IN_SET {
         set.push(region);
     }
     table
@@ -247,6 +255,12 @@ fn other_base(rng: &mut Rng, state: &State) -> State {
     base
 }
 
+/// No zone; or, so that a table fills up, empty ones, nearly as many as there can be.
+fn first_table(rng: &mut Rng) -> Table {
+    let count = if rng.one_in(3) { MAX_ZONES - rng.below(4) } else { 0 };
+    Table { zones: (0..count as u32).map(Zone::empty).collect() }
+}
+
 /// A sound configuration with a sound table, from which cases are made while the table changes.
 pub struct World {
     state: State,
@@ -254,7 +268,7 @@ pub struct World {
 
 impl World {
     pub fn new(rng: &mut Rng) -> World {
-        let mut world = World { state: State { config: config(rng), table: Table::default(), edition: 0 } };
+        let mut world = World { state: State { config: config(rng), table: first_table(rng), edition: 0 } };
         let steps = rng.below(160);
         world.change(rng, steps);
         world

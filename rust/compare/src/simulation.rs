@@ -196,7 +196,8 @@ impl Simulation<'_> {
             None => &self.rng.pick(plans)[..],
         };
         let (event, bytes) = noise(self.rng, plan);
-        if event == Event::Damaged && self.is_forged(&bytes) {
+        // One bit of the edition can make another edition's plan one for the terminal's base.
+        if matches!(event, Event::Damaged | Event::Flipped) && self.is_forged(&bytes) {
             self.note(Event::Forged);
             return Ok(());
         }

@@ -34,9 +34,9 @@ pub mod limits {
     /// No region ends above this in physical addresses.
     pub const PHYS_REACH: u64 = 1 << 48;
     /// The most regions of a configuration.
-    pub const MAX_REGIONS: usize = 64;
+    pub const MAX_REGIONS: usize = 256;
     /// The most zones of a table.
-    pub const MAX_ZONES: usize = 8;
+    pub const MAX_ZONES: usize = 32;
     /// The most regions of one set.
     pub const MAX_IN_SET: usize = 16;
     /// The highest zone id.

@@ -278,7 +278,7 @@ fn the_least_and_the_longest_plan() {
     let full = State { config, table: Table { zones: vec![zone; MAX_ZONES] }, edition: 0 };
     let add = Record { kind: ADD, zone: 5, region: Region::ZERO };
     let longest = encode(&full, &[add; MAX_REQUESTS]);
-    assert_eq!(longest.len(), 40_568);
+    assert_eq!(longest.len(), 63_896);
     assert!(Plan::read(&longest).is_ok());
 }
 

@@ -1,12 +1,12 @@
 //! The limits that this crate shares with the library it is for: those of `include/peatmitten.h`.
 
 /// The most regions of a configuration.
-pub const MOST_REGIONS: usize = 64;
+pub const MOST_REGIONS: usize = 256;
 /// The most zones of a table.
-pub const MOST_ZONES: usize = 8;
+pub const MOST_ZONES: usize = 32;
 /// The most regions of one set of a zone.
 pub const MOST_IN_SET: usize = 16;
 /// The most requests of a plan.
 pub const MOST_REQUESTS: usize = 1024;
 /// How long a plan can be; a longer file is none.
-pub const LONGEST_PLAN: usize = 40568;
+pub const LONGEST_PLAN: usize = 63896;

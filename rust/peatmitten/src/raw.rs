@@ -17,7 +17,7 @@ mod library {
     }
 
     extern "C" {
-        pub fn peatmitten_layout_64_8_16_1024_3(which: u32) -> u64;
+        pub fn peatmitten_layout_256_32_16_1024_3(which: u32) -> u64;
         pub fn peatmitten_check_config(config: *const Config, places: *mut [u64; 2]) -> u32;
         pub fn peatmitten_check_table(config: *const Config, table: *const Table) -> u32;
         pub fn peatmitten_request(config: *const Config, table: *mut Table, kind: u32, zone: u32, v: u64, p: u64, size: u64)
@@ -43,11 +43,11 @@ mod library {
 /// The limits and sizes that the library and this crate must share, in the order of the header; 0 past the last. They are in the name of
 /// the library's function, so that this crate does not link with another library.
 pub fn layout(which: u32) -> u64 {
-    unsafe { library::peatmitten_layout_64_8_16_1024_3(which) }
+    unsafe { library::peatmitten_layout_256_32_16_1024_3(which) }
 }
 
 #[used]
-static LAYOUT_NEEDED: unsafe extern "C" fn(u32) -> u64 = library::peatmitten_layout_64_8_16_1024_3;
+static LAYOUT_NEEDED: unsafe extern "C" fn(u32) -> u64 = library::peatmitten_layout_256_32_16_1024_3;
 
 /// What stands in an answer's place before the library writes it: no answer, so that one which it left out would show.
 const UNWRITTEN: u64 = u64::MAX;

@@ -46,7 +46,7 @@ pub struct Applied {
     pub state: State,
 }
 
-// The same where the words lie: the table changes only on 0, and the edition is the caller's to raise then. 1 and 2 speak of the
+// Where the words lie: the table changes only on 0, and the edition is the caller's to raise then. 1 and 2 speak of the
 // terminal's own state and come before all others. The state is looked at once, and last: either for a refusal that the plan has earned
 // anyway, or by the run of its requests.
 pub fn apply_words(

@@ -14,14 +14,13 @@
  * that a function writes (a state, a table, a place for an answer) overlaps no other argument. None is kept after the call.
  *
  * Threads: there is no global state, so any number of threads may call at once. Memory that one call writes must not be read or
- * written by another thread meanwhile.
+ * written by another thread meanwhile: while a plan is applied, its table may hold what earlier requests of the plan made of it.
  *
  * Stack: PEATMITTEN_STACK bytes are enough. tests/stack.sh measures it: it calls every function on a stack filled with a pattern, over the
- * stored plans, looks how deep the pattern is gone, and prints it for each function. Measured were 214,904 bytes for peatmitten_apply,
- * 120,168 for peatmitten_read, 31,728 for peatmitten_check_table, 6,304 for peatmitten_check_config and some hundred for the others.
- * Nothing is allocated.
+ * stored plans, looks how deep the pattern is gone, and prints it for each function. Measured were 600 bytes for peatmitten_apply_words, 304
+ * for peatmitten_request and less for the others: no function has a table, a configuration or a plan on its stack. Nothing is allocated.
  *
- * Imports: memcpy and memset, and nothing else. The code is for x86-64 and calls as Linux does there (System V); no other system is
+ * Imports: memset, and nothing else. The code is for x86-64 and calls as Linux does there (System V); no other system is
  * supported.
  */
 #ifndef PEATMITTEN_H
@@ -50,7 +49,7 @@ enum {
 };
 
 /* Bytes of stack that are enough for every function. */
-enum { PEATMITTEN_STACK = 221184 };
+enum { PEATMITTEN_STACK = 8192 };
 
 /*
  * Where things stand among words.
@@ -85,7 +84,7 @@ typedef struct peatmitten_state {
     uint32_t edition;
 } peatmitten_state;
 
-/* What peatmitten_apply answers. */
+/* What peatmitten_apply answers, and peatmitten_apply_words in three numbers. */
 typedef struct peatmitten_outcome {
     uint32_t number; /* a peatmitten_answer: 0, 1, 2 or 20 to 27 */
     size_t place;    /* on 0 how many requests the plan had, on 20 to 22 an offset, on 27 the index of the refused request, else 0 */
@@ -97,9 +96,6 @@ PEATMITTEN_ASSERT(offsetof(peatmitten_state, table) == 8 * PEATMITTEN_CONFIG_WOR
 PEATMITTEN_ASSERT(offsetof(peatmitten_state, edition) == 8 * (PEATMITTEN_CONFIG_WORDS + PEATMITTEN_TABLE_WORDS),
                   "the edition stands after the table");
 PEATMITTEN_ASSERT(sizeof(peatmitten_state) == offsetof(peatmitten_state, edition) + 8, "the last 4 bytes of a state are padding");
-PEATMITTEN_ASSERT(offsetof(peatmitten_outcome, place) == 8, "the place stands after the number");
-PEATMITTEN_ASSERT(offsetof(peatmitten_outcome, inner) == 16, "the inner number stands after the place");
-PEATMITTEN_ASSERT(sizeof(peatmitten_outcome) == 24, "an outcome is 24 bytes");
 PEATMITTEN_ASSERT(sizeof(size_t) == 8, "the library is for a 64-bit machine");
 
 /*
@@ -215,12 +211,31 @@ uint32_t peatmitten_edition(const uint8_t *plan, size_t length, uint64_t answer[
 uint32_t peatmitten_read(const uint8_t *plan, size_t length, uint64_t place[1]);
 
 /*
- * Applies a plan to a terminal's state. On 0 the state is changed where it lies: every request is done and the edition is one higher.
- * Else it is untouched. `plan` points to `length` bytes; it must not be null even where the length is 0.
+ * Applies a plan to a terminal's state, which is lent in three parts. Answers a peatmitten_answer: 0, 1, 2 or 20 to 27. places[0] is the
+ * place and places[1] the inner number, as in a peatmitten_outcome.
+ * On 0 table and edition are changed where they lie: every request is done and the edition is one higher. Else both are, when the call
+ * returns, what they were. Nothing else is written but the places, not even what lies behind the edition in its word.
+ * While the call runs, the table may hold what earlier requests of the plan made of it, also where a later one is then refused. So no
+ * other thread may read it meanwhile, and memory that must be whole at every moment is not lent: an agent lends a copy that it has in
+ * memory, and writes the state to its file after the call. Its file then never has such a table, whenever the power is cut.
+ * `plan` points to `length` bytes; it must not be null even where the length is 0.
  *
  * A plan that was damaged in its requests alone may still be accepted: an agent checks a signature before it comes here.
  */
-peatmitten_outcome peatmitten_apply(peatmitten_state *state, const uint8_t *plan, size_t length);
+uint32_t peatmitten_apply_words(const uint64_t config[PEATMITTEN_CONFIG_WORDS], uint64_t table[PEATMITTEN_TABLE_WORDS],
+                                uint32_t *edition, const uint8_t *plan, size_t length, uint64_t places[2]);
+
+/* The same of a state in one piece. Of the state nothing but table and edition is written: its padding keeps what it held. */
+static inline peatmitten_outcome peatmitten_apply(peatmitten_state *state, const uint8_t *plan, size_t length)
+{
+    uint64_t places[2];
+    peatmitten_outcome outcome;
+
+    outcome.number = peatmitten_apply_words(state->config, state->table, &state->edition, plan, length, places);
+    outcome.place = (size_t)places[0];
+    outcome.inner = (uint32_t)places[1];
+    return outcome;
+}
 
 #ifdef __cplusplus
 }

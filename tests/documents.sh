@@ -1,7 +1,7 @@
 #!/usr/bin/env bash
 # Holds documents against the project. docs/RULES.md: each definition that it names is there, the limits are those of the definitions,
-# and the annotated plan is examples/first.plan. README.md: it lists the functions of the header. Both say how long a plan can be. Where it
-# is said how many cases are stored, it is so. Needs no library.
+# and the annotated plan is examples/first.plan. README.md: it lists the functions of the header, and how much stack is enough for them. Both
+# say how long a plan can be. Where it is said how many cases are stored, it is so. Needs no library.
 set -euo pipefail
 test_name=documents
 . "$(dirname "$0")/host.sh"
@@ -85,10 +85,19 @@ check_functions() {
     [ "$declared" = "$listed" ] || say_failed "README.md lists other functions than include/peatmitten.h declares"
 }
 
+# The header's stack, which README says in KiB.
+check_stack() {
+    local stack
+    stack=$(sed -n 's/^enum { PEATMITTEN_STACK = \([0-9]*\) };$/\1/p' "$root/include/peatmitten.h")
+    [ -n "$stack" ] || say_failed "include/peatmitten.h does not say how much stack is enough"
+    grep -Eq "(^|[^0-9])$((stack / 1024)) KiB of stack" "$root/README.md" || say_failed "README.md does not say that $((stack / 1024)) KiB of stack are enough"
+}
+
 check_names
 check_limits
 check_sizes
 check_counts
 check_plan
 check_functions
+check_stack
 echo "documents: ok"

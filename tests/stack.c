@@ -27,8 +27,8 @@ enum { CHECK_CONFIG, CHECK_TABLE, REQUEST, TRANSLATE, EDITION, READ, APPLY, LAYO
 #define TEXT_OF(symbol) NAME_OF(symbol)
 
 static const char *const names[FUNCTIONS] = {
-    "peatmitten_check_config", "peatmitten_check_table", "peatmitten_request", "peatmitten_translate",
-    "peatmitten_edition",      "peatmitten_read",        "peatmitten_apply",   TEXT_OF(peatmitten_layout)};
+    "peatmitten_check_config", "peatmitten_check_table", "peatmitten_request",     "peatmitten_translate",
+    "peatmitten_edition",      "peatmitten_read",        "peatmitten_apply_words", TEXT_OF(peatmitten_layout)};
 
 static uint64_t stack[STACK_WORDS] __attribute__((aligned(64)));
 static ucontext_t here, there;
@@ -81,7 +81,7 @@ static void read_only(void)
 
 static void apply(void)
 {
-    peatmitten_apply(&state, plan, length);
+    peatmitten_apply_words(state.config, state.table, &state.edition, plan, length, answers);
 }
 
 static void layout(void)

@@ -2,8 +2,9 @@
 use Prim.Native.Nat.{ℕ}
 use mathlib.Core.Bool.{Bool, cond}
 use mathlib.Core.List.{List, [], _∷_}
+use mathlib.Core.Path.{_≡_}
 use lib.Dec.{eqb}
-use lib.ListN.{length}
+use lib.ListN.{length, getD}
 use Rattle.rules.specs.Configuration.{checkPlace, checkEarlier}
 use Rattle.rules.specs.Limits.{mostRegions, mostZones, mostInSet, mostRequests, limits}
 use Rattle.rules.specs.Plan.{readPlan}
@@ -12,10 +13,12 @@ use Rattle.rules.specs.declared.Checked.{Checked}
 use Rattle.rules.specs.declared.Side.{Side}
 use Rattle.rules.specs.declared.Side.the-variants.{Cpu, Iommu}
 use Rattle.zones.specs.Layout.{regionWords}
+use Rattle.plan.specs.Applying.{applied, stateIn}
 use Rattle.plan.specs.Into.{sectionPlace}
 use Rattle.plan.specs.Read.{readAnswer}
 use Rattle.plan.specs.declared.words.Section.{Section}
 use Rattle.plan.specs.declared.words.Section.the-variants.{End, Bad}
+use Rattle.terminal.specs.Terminal.{Applies}
 use Rattle.walker.specs.declared.Edition.{Edition}
 use Rattle.walker.specs.declared.Edition.the-variants.{Is, Bad as BadEdition}
 
@@ -54,3 +57,18 @@ editionNumber (BadEdition k at) = k
 unfoldable pub editionValue : Edition → ℕ
 editionValue (Is e) = e
 editionValue (BadEdition k at) = at
+
+-- a plan at a state that is lent in three parts: the number, what then lies at the table and at the edition, and the
+-- place and inner number
+pub record AppliesWords (c t : List ℕ) (e : ℕ) (b : List ℕ) (n : ℕ) (u : List ℕ) (d : ℕ) (a : List ℕ) : Type 0 where
+  pub number : n ≡ applied (stateIn c t e) b .outcome .number
+  pub table : u ≡ applied (stateIn c t e) b .state .table .words
+  pub edition : d ≡ applied (stateIn c t e) b .state .edition
+  pub places : a ≡ applied (stateIn c t e) b .outcome .place ∷ applied (stateIn c t e) b .outcome .inner ∷ []
+
+-- so the three parts are a state to which the plan is applied: what is proved of any code that meets `Applies` is true
+-- of such calls
+abbrev pub PartsAreAState : Type 0
+PartsAreAState =
+    (c t : List ℕ) (e : ℕ) (b : List ℕ) (n : ℕ) (u : List ℕ) (d : ℕ) (a : List ℕ) → AppliesWords c t e b n u d a
+    → Applies (stateIn c t e) b (stateIn c u d) (record { number = n; place = getD a 0 0; inner = getD a 1 0 })

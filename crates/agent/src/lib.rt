@@ -1,11 +1,10 @@
 // The library for an update agent, for C and Rust to link: include/peatmitten.h has the same functions and layouts. Each function
 // answers on every argument; nothing is asked of the caller beyond pointers and lengths that are valid.
+use plan::Found;
 use plan::LONGEST_PLAN;
-use plan::Section;
-use plan::State;
-use plan::read_plan;
+use plan::apply_words;
+use plan::find_sections;
 use rules::Guest;
-use rules::Outcome;
 use rules::Phys;
 use rules::Region;
 use rules::Side;
@@ -16,15 +15,13 @@ use rules::limits::MOST_ZONES;
 use walker::Edition;
 use walker::edition_of;
 use zones::CONFIG_WORDS;
-use zones::Config;
 use zones::REGION_WORDS;
 use zones::TABLE_WORDS;
-use zones::Table;
-use zones::check_config;
 use zones::check_earlier;
 use zones::check_number;
 use zones::check_place;
-use zones::check_table;
+use zones::check_words;
+use zones::is_sound;
 use zones::make_request;
 use zones::step_in;
 use zones::translate_in;
@@ -38,9 +35,8 @@ ghost use Rattle.rules.specs.Tables.{checkTable};
 ghost use Rattle.rules.specs.Translation.{translated};
 ghost use Rattle.zones.specs.Step.{Stepped};
 ghost use Rattle.zones.specs.View.{storedConfig, storedTable};
-ghost use Rattle.terminal.specs.Terminal.{Applies};
 ghost use Rattle.walker.specs.Edition.{editionOf};
-ghost use Rattle.agent.specs.Agent.{layout, placesOf, yesOrNo, sideAsked, readingNumber, readingPlace, editionNumber, editionValue};
+ghost use Rattle.agent.specs.Agent.{layout, placesOf, yesOrNo, sideAsked, readingNumber, readingPlace, editionNumber, editionValue, AppliesWords};
 
 // What a header must have for this library, one number at a time; 0 past the last. Its name says them too, so that a program with the
 // header of another library does not link.
@@ -77,8 +73,7 @@ pub extern "C" fn peatmitten_check_config(
 ) -> u32
     ensures { λ n. ⌜ (n ≡ checkNumber (check limits (storedConfig (now (config .entry))))) × (now (places .exit) ≡ placesOf (check limits (storedConfig (now (config .entry))))) ⌝ }
 {
-    let words = *config;
-    let found = check_config(Config { words });
+    let found = check_words(config);
     put_two(
         places,
         check_place(found) as u64,
@@ -95,9 +90,7 @@ pub extern "C" fn peatmitten_check_table(
 ) -> u32
     ensures { λ n. ⌜ n ≡ yesOrNo (checkTable limits (storedConfig (now (config .entry))) (storedTable (now (table .entry)))) ⌝ }
 {
-    let c = *config;
-    let t = *table;
-    if check_table(Config { words: c }, Table { words: t }) {
+    if is_sound(config, table) {
         return 1;
     }
     0
@@ -152,15 +145,25 @@ fn side_asked(number: u32) -> Side
     Side::Iommu
 }
 
-// Applies a plan to the state that is lent: the number, its place and the inner number. The state is changed where it lies, and only
-// where the number is 0.
+// Applies a plan to the state that is lent in three parts: the number, and its place and inner number. Table and edition are changed where
+// they lie, and only where the number is 0. While the call runs, the table may hold what earlier requests of the plan made of it.
 #[no_mangle]
-pub extern "C" fn peatmitten_apply(state: &mut State, plan: &[u8]) -> Outcome
-    ensures { λ r. ⌜ Applies (now (state .entry)) (now (plan .entry)) (now (state .exit)) r ⌝ }
+pub extern "C" fn peatmitten_apply_words(
+    config: &[u64; CONFIG_WORDS],
+    table: &mut [u64; TABLE_WORDS],
+    edition: &mut u32,
+    plan: &[u8],
+    places: &mut [u64; 2],
+) -> u32
+    ensures { λ n. ⌜ AppliesWords (now (config .entry)) (now (table .entry)) (now (edition .entry)) (now (plan .entry)) n (now (table .exit)) (now (edition .exit)) (now (places .exit)) ⌝ }
 {
-    let done = plan::apply(*state, plan);
-    *state = done.state;
-    done.outcome
+    let held = *edition;
+    let outcome = apply_words(config, table, held, plan);
+    put_two(places, outcome.place as u64, outcome.inner as u64);
+    if outcome.number == 0 {
+        *edition = held + 1;
+    }
+    outcome.number
 }
 
 // Reads a plan and applies nothing: 20, 21 or 22 with its offset, or 0 with the offset of the first request.
@@ -168,15 +171,14 @@ pub extern "C" fn peatmitten_apply(state: &mut State, plan: &[u8]) -> Outcome
 pub extern "C" fn peatmitten_read(plan: &[u8], place: &mut [u64; 1]) -> u32
     ensures { λ n. ⌜ (n ≡ readingNumber (now (plan .entry))) × (now (place .exit) ≡ readingPlace (now (plan .entry)) ∷ []) ⌝ }
 {
-    let read = read_plan(plan);
-    let section = read.requests;
-    match section {
-        Section::Bad { number, at } => {
+    let found = find_sections(plan);
+    match found {
+        Found::Bad { number, at } => {
             put_one(place, at as u64);
             number
         }
-        Section::End(at) => {
-            put_one(place, at as u64);
+        Found::At { requests, .. } => {
+            put_one(place, requests as u64);
             0
         }
     }

@@ -31,7 +31,7 @@ use Rattle.terminal.specs.Terminal.{Applies}
 abbrev pub Code : Type 0
 Code = State → List ℕ → Applied
 
--- it says of every call what `terminal::apply_in` and `peatmitten_apply` say
+-- it says of every call what `terminal::apply_in` says, and the library's `peatmitten_apply_words` of a state in three parts
 abbrev pub Meets : Code → Type 0
 Meets f = (s : State) (b : List ℕ) → Applies s b (f s b .state) (f s b .outcome)
 

@@ -23,7 +23,7 @@ use Rattle.formats.specs.Formats.{All, InRange}
 abbrev pub Part : List ℕ → List ℕ → Type 0
 Part t b = (w : List ℕ) × (b ≡ w ++ t)
 
-part-trans : (t s b : List ℕ) → Part t s → Part s b → Part t b
+pub part-trans : (t s b : List ℕ) → Part t s → Part s b → Part t b
 part-trans t s b p q = (q .0 ++ p .0, q .1 ∙ ap (λ (l : List ℕ). q .0 ++ l) (p .1) ∙ sym (append-assoc (q .0) (p .0) t))
 
 -- the numbers of a field: not wholly there, or a count out of range

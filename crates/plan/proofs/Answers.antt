@@ -5,18 +5,13 @@ use native.Mathlib.Omega.{arith}
 use mathlib.Core.Bool.{Bool, true, false, not}
 use mathlib.Core.List.{List, [], _∷_, _++_}
 use mathlib.Core.Path.{_≡_, refl, sym, ap, ap₂, _∙_}
-use lib.ListN.{length, drop, set, length-drop, replicate, replicate-append-replicate}
-use lib.Seq.{drop-drop}
-use Rattle.lists.specs.Places.{tab}
+use lib.ListN.{length, drop, set, replicate, replicate-append-replicate}
 use Rattle.lists.specs.Words.{counted}
 use Rattle.lists.proofs.Words.{counted-words}
 use Rattle.formats.specs.Formats.{Out, got, bad, then, readNumber, within, readCount, readBoth, readAs, readHeaded}
-use Rattle.formats.specs.Formats.{readMany}
 use Rattle.formats.proofs.Formats.{listed-got}
-use Rattle.formats.proofs.Widths.{fields-there, fields-cut}
 use Rattle.rules.specs.Limits.{mostRegions, mostZones, mostRequests, limits}
-use Rattle.rules.specs.Plan.{regionField, askedField, marksSection, regionsSection, zoneFormat, zonesSection}
-use Rattle.rules.specs.Plan.{requestsSection}
+use Rattle.rules.specs.Plan.{regionField, marksSection, regionsSection, zoneFormat, zonesSection, requestsSection}
 use Rattle.rules.specs.Regions.{noRegion}
 use Rattle.rules.specs.Run.{requestBytes}
 use Rattle.rules.specs.declared.Region.{Region}
@@ -39,16 +34,14 @@ use Rattle.plan.specs.declared.words.Section.the-variants.{End, Bad}
 use Rattle.plan.proofs.Agreeing.{Agrees, putAll, storeRecord, storeSet, set-agrees, zones-agree}
 use Rattle.plan.proofs.Fields.{askedIn, fiveNumbers, wide-asked}
 use Rattle.plan.proofs.Into.{number-within, count-missing, count-out, count-in}
+use Rattle.plan.proofs.Offsets.{place}
+use Rattle.plan.proofs.Passing.{list-none, list-out, list-cut, list-end}
 use Rattle.plan.proofs.Storing.{SetsFit, records-stored, zones-stored}
-
--- an offset, and what is left from there
-pub place : (s : List ℕ) (k : ℕ) → k ≤ length s → k ≡ length s - length (drop k s)
-place s k h = omega (arith, length-drop k s)
 
 -- ---- what a reader into words says of the format: o is what the format reads
 module _ {A : Type 0} (p : A → List ℕ) (o : Out A) (s v : List ℕ) (r : Section) (S : Step) (agrees : Agrees p o S)
     (read : Reads s v r S) where
-  reads-end : (e : ℕ) → r ≡ End e → (x : A) × (o ≡ got x (drop e s)) × (v ≡ p x) × (e ≤ length s)
+  pub reads-end : (e : ℕ) → r ≡ End e → (x : A) × (o ≡ got x (drop e s)) × (v ≡ p x) × (e ≤ length s)
   unfolding Agrees stepOf sectionPlace
   reads-end e f = by o agrees
     where
@@ -63,7 +56,7 @@ module _ {A : Type 0} (p : A → List ℕ) (o : Out A) (s v : List ℕ) (r : Sec
           let z : _≡_ {A = ℕ} 0 1 = cc in
           omega arith)
 
-  reads-bad : (k at : ℕ) → r ≡ Bad k at → (o ≡ bad k (drop at s)) × (at ≤ length s)
+  pub reads-bad : (k at : ℕ) → r ≡ Bad k at → (o ≡ bad k (drop at s)) × (at ≤ length s)
   unfolding Agrees stepOf sectionPlace
   reads-bad k at f = by o agrees
     where
@@ -187,41 +180,23 @@ module _ (s v : List ℕ) (r : Section) (read : Reads s v r (zonesInto (replicat
 -- ---- the requests: all of one width
 module _ (s : List ℕ) (c : Number) (read : NumberRead s 0 (readNumber 4 (drop 0 s)) c) where
   pub requests-none : c ≡ Missing → Bad 20 0 ≡ sectionAnswer (length s) (requestsSection limits .read s)
-  unfolding sectionAnswer readHeaded then
-  requests-none f = rw (count-missing s 0 c read 0 mostRequests f) (ap (Bad 20) (place s 0 (omega arith)))
+  requests-none = list-none fiveNumbers requestBytes askedIn wide-asked 0 mostRequests s 0 c read (omega arith)
 
   module _ (n : ℕ) (b : Bool) (f : c ≡ Is n) (t : b ≡ within 0 mostRequests n) where
     pub requests-out : not b ≡ true → Bad 21 0 ≡ sectionAnswer (length s) (requestsSection limits .read s)
-    unfolding sectionAnswer readHeaded then
-    requests-out h = rw (count-out s 0 c read 0 mostRequests n b f t h) (ap (Bad 21) (place s 0 (omega arith)))
+    requests-out = list-out fiveNumbers requestBytes askedIn wide-asked 0 mostRequests s 0 c read n b f t (omega arith)
 
     module _ (h : not b ≡ false) where
-      records : readMany askedField n (drop 4 s) ≡ requestsSection limits .read s
-      unfolding readHeaded then
-      records = rw (count-in s 0 c read 0 mostRequests n b f t h)
-
       pub requests-cut : (length s - 4) / requestBytes < n
           → Bad 20 (4 + (length s - 4) / requestBytes * requestBytes)
           ≡ sectionAnswer (length s) (requestsSection limits .read s)
-      unfolding sectionAnswer
       requests-cut g =
-          let m : ℕ = (length s - 4) / requestBytes in
           let l : 4 ≤ length s = number-within s 0 c read n f in
-          let k : 4 + m * requestBytes ≤ length s = omega arith in
-          let e : readMany askedField n (drop 4 s) ≡ bad 20 (drop (4 + m * requestBytes) s) =
-          fields-cut fiveNumbers requestBytes askedIn wide-asked n m (drop 4 s) g (omega (arith, length-drop 4 s))
-          (omega (arith, length-drop 4 s))
-          ∙ ap (bad 20) (drop-drop (m * requestBytes) 4 s) in
-          ap (Bad 20) (place s (4 + m * requestBytes) k) ∙ ap (sectionAnswer (length s)) (sym e ∙ records)
+          list-cut fiveNumbers requestBytes askedIn wide-asked 0 mostRequests s 0 c read n b f t h
+          ((length s - 4) / requestBytes) g (omega arith) (omega arith)
 
       pub requests-end : n ≤ (length s - 4) / requestBytes
           → End (4 + n * requestBytes) ≡ sectionAnswer (length s) (requestsSection limits .read s)
-      unfolding sectionAnswer
       requests-end g =
           let l : 4 ≤ length s = number-within s 0 c read n f in
-          let k : 4 + n * requestBytes ≤ length s = omega arith in
-          let e : readMany askedField n (drop 4 s)
-          ≡ got (tab n (λ i. askedIn (drop (i * requestBytes) (drop 4 s)))) (drop (4 + n * requestBytes) s) =
-          fields-there fiveNumbers requestBytes askedIn wide-asked n (drop 4 s) (omega (arith, length-drop 4 s))
-          ∙ ap (got (tab n (λ i. askedIn (drop (i * requestBytes) (drop 4 s))))) (drop-drop (n * requestBytes) 4 s) in
-          ap End (place s (4 + n * requestBytes) k) ∙ ap (sectionAnswer (length s)) (sym e ∙ records)
+          list-end fiveNumbers requestBytes askedIn wide-asked 0 mostRequests s 0 c read n b f t h (omega arith)

@@ -1,75 +1,47 @@
--- The base that a plan gives, held against the terminal's: words are the same exactly when what they say is. And the
--- requests that it gives.
-use Prim.Native.Nat.{ℕ, zero, suc, _+_, _-_, _*_, _/_, _≤_, _<_}
+-- What a plan gives that reads whole: its base, held against the terminal's words, passes exactly if it is the base
+-- that they hold. And its requests.
+use Prim.Native.Nat.{ℕ, _+_, _-_, _*_, _/_, _≤_}
 use native.Mathlib.Omega.{arith}
+use mathlib.Core.Bool.{Bool, true, false, cond}
 use mathlib.Core.List.{List, [], _∷_, _++_, map, map-map, append-assoc}
 use mathlib.Core.Path.{_≡_, refl, sym, ap, ap₂, subst, _∙_}
-use borrow.Author.Tests.{eqb-true, eq-eqb}
 use lib.Dec.{eqb}
 use lib.ListN.{length, getD, take, drop, length-append, length-drop}
 use lib.Seq.{drop-at, drop-drop}
 use Rattle.lists.specs.Bytes.{little}
 use Rattle.lists.specs.Places.{places, tab}
+use Rattle.lists.specs.Tests.{allOf}
 use Rattle.lists.specs.Words.{part}
-use Rattle.lists.proofs.Tests.{same-test, parts, whole}
-use Rattle.formats.specs.Formats.{Out, got, left, All}
+use Rattle.formats.specs.Formats.{Out, got, left}
 use Rattle.formats.proofs.Formats.{Part}
 use Rattle.rules.specs.Applying.{sameList, sameZone, sameConfig}
-use Rattle.rules.specs.Changes.{setAt}
-use Rattle.rules.specs.Configuration.{Configuration}
-use Rattle.rules.specs.Limits.{mostRegions, mostZones, mostInSet, limits}
-use Rattle.rules.specs.Plan.{requestsOf, readPlan, Asked, Marks, Plan}
+use Rattle.rules.specs.Limits.{mostRegions, limits}
+use Rattle.rules.specs.Plan.{regionNumbers, regionsSection, zonesSection, requestsOf, readPlan, Asked, Marks, Plan}
 use Rattle.rules.specs.Regions.{regionEq}
 use Rattle.rules.specs.Requests.{standing}
 use Rattle.rules.specs.Run.{makeRequest, requestBytes, requestFrom, requestsIn}
-use Rattle.rules.specs.Tables.{tableOf, sideOf, noZone, Zone}
+use Rattle.rules.specs.Tables.{tableOf, Zone}
 use Rattle.rules.specs.declared.Region.{Region}
-use Rattle.rules.specs.declared.Side.{Side}
-use Rattle.rules.specs.declared.Side.the-variants.{Cpu, Iommu}
-use Rattle.rules.proofs.Applying.{same-list, list-same, same-zone, zone-same}
 use Rattle.rules.proofs.Plan.{lawful-marks, lawful-regions, lawful-zones}
-use Rattle.rules.proofs.Regions.{equal-same, equal-refl}
-use Rattle.rules.proofs.Sections.{sections as sections-read, few-regions as regions-few, few-zones as zones-few}
-use Rattle.rules.proofs.Sections.{Sections}
+use Rattle.rules.proofs.Sections.{sections as sections-read, Sections}
 use Rattle.rules.proofs.Stored.{stands-well}
-use Rattle.zones.specs.Layout.{configWords, tableWords}
-use Rattle.zones.specs.View.{storedConfig, storedTable, configIn, zonesIn}
-use Rattle.zones.specs.Words.{wordsOfConfig, wordsOf, Within}
-use Rattle.zones.proofs.Focus.{view-words}
-use Rattle.zones.proofs.Stepping.{stands-same, stands-ready}
-use Rattle.plan.proofs.Fields.{askedIn}
-use Rattle.zones.proofs.Comparing.{same-words, words-same}
-use Rattle.zones.proofs.Spelling.{config-in, config-spelled}
-use Rattle.plan.proofs.Storing.{SetsFit}
-use Rattle.plan.proofs.Whole.{requests-read}
+use Rattle.zones.specs.Layout.{configCount, configRecords}
+use Rattle.zones.specs.Records.{recordsAt}
+use Rattle.zones.specs.View.{storedConfig, storedTable, configIn, zonesIn, ConfigPassed}
+use Rattle.zones.proofs.Stepping.{stands-same}
+use Rattle.plan.specs.Fields.{regionBytes}
+use Rattle.plan.specs.Found.{marksBytes}
+use Rattle.plan.specs.Held.{heldAnswer, isHeld, holdsRegions, configHeld, tableHeld}
+use Rattle.plan.specs.declared.comparing.Held.the-variants.{Same, Other}
+use Rattle.plan.proofs.Fields.{askedIn, regionValue, wide-region}
+use Rattle.zones.proofs.ConfigReaders.{count-is, gic-is, regions-in}
+use Rattle.plan.proofs.Locating.{marks-got, requests-read}
+use Rattle.plan.proofs.Passing.{Listed, list-read}
 
 -- ---- the sections of a plan that reads whole, and what each of them leaves
 module _ (b : List ℕ) (p : Plan) (t : List ℕ) (e : readPlan limits b ≡ got p t) where
-  sections : Sections limits b p t e
+  pub sections : Sections limits b p t e
   sections = sections-read limits b p t e
-
-  -- counts within limits
-  pub few-regions : length (p .regions) ≤ mostRegions
-  few-regions = regions-few limits b p t e
-
-  zones-fit : (length (p .zones) ≤ mostZones) × All SetsFit (p .zones)
-  zones-fit = zones-few limits b p t e
-
-  pub zones-within : Within (p .zones)
-  unfolding setAt sideOf
-  zones-within = record {
-    zones = zones-fit .0;
-    sets = λ z s h. side z s (at-index SetsFit (p .zones) noZone (zones-fit .1) z h);
-  }
-    where
-      at-index : (P : Zone → Type 0) (zs : List Zone) (d : Zone) → All P zs → (i : ℕ) → i < length zs → P (getD zs i d)
-      at-index P [] d h i l = absurd (omega arith)
-      at-index P (z ∷ zs) d h zero l = h .0
-      at-index P (z ∷ zs) d h (suc i) l = at-index P zs d (h .1) i (omega arith)
-
-      side : (z : ℕ) (s : Side) → SetsFit (getD (p .zones) z noZone) → length (setAt (p .zones) z s) ≤ mostInSet
-      side z Cpu f = f .0
-      side z Iommu f = f .1
 
   -- what stands before the requests' section
   before-requests : (w : List ℕ) × (b ≡ w ++ sections .afterZones)
@@ -143,39 +115,64 @@ module _ (b : List ℕ) (p : Plan) (t : List ℕ) (e : readPlan limits b ≡ got
       (λ i. askedIn (drop (i * requestBytes) d)) (places 0 n))
       ∙ ap (map (λ (a : Asked). makeRequest (a .kind) (a .zone) (a .region))) (sym asked)
 
--- ---- the configuration: c is the terminal's words
+-- ---- where its sections begin
+module _ (b : List ℕ) (p : Plan) (t : List ℕ) (e : readPlan limits b ≡ got p t) where
+  abbrev pub zonesAt : ℕ
+  zonesAt = marksBytes + (4 + length (p .regions) * regionBytes)
+
+  after-marks : (12 ≤ length b) × (sections b p t e .afterMarks ≡ drop 12 b)
+  after-marks = marks-got b (p .marks) (sections b p t e .afterMarks) (sections b p t e .marks)
+
+  regions-read : Listed regionNumbers regionBytes regionValue wide-region 1 mostRegions (sections b p t e .afterMarks)
+      (p .regions) (sections b p t e .afterRegions)
+  regions-read =
+      list-read regionNumbers regionBytes regionValue wide-region 1 mostRegions (sections b p t e .afterMarks)
+      (p .regions) (sections b p t e .afterRegions) (sections b p t e .regions)
+
+  pub marks-within : 12 ≤ length b
+  marks-within = after-marks .0
+
+  pub zones-there : zonesAt ≤ length b
+  zones-there = omega (arith, after-marks .0, ap length (after-marks .1), length-drop 12 b, regions-read .there)
+
+  pub regions-at : regionsSection limits .read (drop 12 b) ≡ got (p .regions) (sections b p t e .afterRegions)
+  regions-at = ap (λ (l : List ℕ). regionsSection limits .read l) (sym (after-marks .1)) ∙ sections b p t e .regions
+
+  pub zones-at : zonesSection limits .read (drop zonesAt b) ≡ got (p .zones) (sections b p t e .afterZones)
+  zones-at =
+      let q : sections b p t e .afterRegions ≡ drop zonesAt b =
+      regions-read .rest
+      ∙ ap (drop (4 + length (p .regions) * regionBytes)) (after-marks .1)
+      ∙ drop-drop (4 + length (p .regions) * regionBytes) 12 b in
+      ap (λ (l : List ℕ). zonesSection limits .read l) (sym q) ∙ sections b p t e .zones
+
+-- ---- its base, held against the terminal's words c and w
+held-value : {A : Type 0} (n : ℕ) (f : A → Bool) (o : Out A) (x : A) (t : List ℕ) → o ≡ got x t
+    → isHeld (heldAnswer n f o) ≡ f x
+unfolding isHeld heldAnswer
+held-value n f o x t e = ap (λ (y : Out _). isHeld (heldAnswer n f y)) e ∙ by (f x)
+  where
+    by : (v : Bool) → isHeld (cond v (Same (n - length t)) Other) ≡ v
+    by true = refl
+    by false = refl
+
 module _ (b : List ℕ) (p : Plan) (t : List ℕ) (e : readPlan limits b ≡ got p t) (c w : List ℕ)
     (stands : standing limits (storedConfig c) (storedTable w) ≡ 0) where
-  abbrev given : Configuration
-  given = record { regions = p .regions; gic = p .marks .gic }
+  pub config-same : configHeld (drop 12 b) (p .marks .gic) c ≡ sameConfig (configIn c) p
+  unfolding configHeld sameConfig holdsRegions
+  config-same =
+      let ok : ConfigPassed c = stands-well limits (storedConfig c) (storedTable w) stands .0 in
+      let regions : recordsAt c configRecords (getD c configCount 0) ≡ configIn c .regions =
+      ap (recordsAt c configRecords) (count-is c ok .0) ∙ sym (regions-in c ok) in
+      let first : isHeld (heldAnswer (length (drop 12 b)) (holdsRegions c configCount configRecords)
+      (regionsSection limits .read (drop 12 b)))
+      ≡ sameList regionEq (configIn c .regions) (p .regions) =
+      held-value _ (holdsRegions c configCount configRecords) _ (p .regions) _ (regions-at b p t e)
+      ∙ ap (λ (l : List Region). sameList regionEq l (p .regions)) regions in
+      ap₂ (λ (x : Bool) (g : ℕ). allOf (x ∷ eqb g (p .marks .gic) ∷ [])) first (gic-is c ok .0)
 
-  pub config-same : length c ≡ configWords → sameList eqb c (wordsOfConfig given) ≡ sameConfig (configIn c) p
-  unfolding sameConfig
-  config-same l =
-      let spelled : c ≡ wordsOfConfig (configIn c) =
-      config-spelled c l (stands-well limits (storedConfig c) (storedTable w) stands .0) in
-      same-test _ _
-      (λ h. let q : configIn c ≡ given =
-      ap configIn (same-words c (wordsOfConfig given) h) ∙ config-in given (few-regions b p t e) in
-      whole _ (
-        ap (λ (x : Configuration). sameList regionEq (x .regions) (p .regions)) q
-            ∙ list-same regionEq equal-refl (p .regions),
-        (ap (λ (x : Configuration). eqb (x .gic) (p .marks .gic)) q ∙ eq-eqb (p .marks .gic) (p .marks .gic) refl, tt),
-      ))
-      (λ h. let f = parts _ h in
-      let r : configIn c .regions ≡ p .regions = same-list regionEq equal-same _ _ (f .0) in
-      let g : configIn c .gic ≡ p .marks .gic = eqb-true _ _ (f .1 .0) in
-      let q : c ≡ wordsOfConfig given = spelled ∙ (λ i. wordsOfConfig (record { regions = r i; gic = g i })) in
-      ap (λ (x : List ℕ). sameList eqb x (wordsOfConfig given)) q ∙ words-same (wordsOfConfig given))
-
-  pub zones-same : length w ≡ tableWords
-      → sameList eqb w (wordsOf (p .zones)) ≡ sameList sameZone (tableOf (storedTable w)) (p .zones)
-  zones-same l =
-      let spelled : w ≡ wordsOf (zonesIn w) = stands-ready c w 0 (sym stands) refl l .words .words in
-      let seen : zonesIn w ≡ tableOf (storedTable w) = stands-same c w 0 (sym stands) refl in
-      same-test _ _
-      (λ h. let q : tableOf (storedTable w) ≡ p .zones =
-      sym seen ∙ ap zonesIn (same-words w (wordsOf (p .zones)) h) ∙ view-words (p .zones) (zones-within b p t e) in
-      ap (λ (x : List Zone). sameList sameZone x (p .zones)) q ∙ list-same sameZone zone-same (p .zones))
-      (λ h. let q : w ≡ wordsOf (p .zones) = spelled ∙ ap wordsOf (seen ∙ same-list sameZone same-zone _ _ h) in
-      ap (λ (x : List ℕ). sameList eqb x (wordsOf (p .zones))) q ∙ words-same (wordsOf (p .zones)))
+  pub zones-same : tableHeld (drop (zonesAt b p t e) b) w ≡ sameList sameZone (tableOf (storedTable w)) (p .zones)
+  unfolding tableHeld
+  zones-same =
+      held-value _ (sameList sameZone (zonesIn w)) _ (p .zones) _ (zones-at b p t e)
+      ∙ ap (λ (l : List Zone). sameList sameZone l (p .zones)) (stands-same c w 0 (sym stands) refl)

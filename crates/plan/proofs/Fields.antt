@@ -16,6 +16,7 @@ use Rattle.formats.proofs.Widths.{Wide, number-there, number-short, wide-number
 use Rattle.formats.proofs.Widths.{field-short}
 use Rattle.rules.specs.Plan.{short, long, regionTo, regionFrom, regionNumbers, regionField, askedTo, askedFrom, Asked}
 use Rattle.rules.specs.Run.{requestBytes}
+use Rattle.rules.specs.declared.Region.{Region}
 use Rattle.plan.specs.Fields.{regionBytes, numberOut, numberEnd, regionOut, regionEnd, NumberRead, RegionRead}
 use Rattle.plan.specs.declared.field.Number.the-variants.{Is, Missing}
 use Rattle.plan.specs.declared.field.RegionField.the-variants.{Is as IsRegion, Missing as NoRegion}
@@ -27,7 +28,10 @@ threeNumbers b = (little (take 8 b), (little (take 8 (drop 8 b)), little (take 8
 abbrev pub askedIn : List ℕ → Asked
 askedIn b = askedTo (little (take 4 b), (little (take 4 (drop 4 b)), regionTo (threeNumbers (drop 4 (drop 4 b)))))
 
-wide-region : Wide regionNumbers 24 (λ b. regionTo (threeNumbers b))
+abbrev pub regionValue : List ℕ → Region
+regionValue b = regionTo (threeNumbers b)
+
+pub wide-region : Wide regionNumbers 24 regionValue
 wide-region =
     wide-as (both long (both long long)) regionTo regionFrom 24 threeNumbers
     (wide-both long (both long long) 8 16 (λ b. little (take 8 b))
@@ -77,9 +81,7 @@ module _ (s : List ℕ) (at : ℕ) (h : at ≤ length s) where
   pub region-missing : length s - at < regionBytes → RegionRead s at (regionField .read (drop at s)) NoRegion
   unfolding regionOut regionEnd
   region-missing l = record {
-    read =
-        field-short regionNumbers regionBytes (λ b. regionTo (threeNumbers b)) wide-region (drop at s)
-        (omega (arith, length-drop at s));
+    read = field-short regionNumbers regionBytes regionValue wide-region (drop at s) (omega (arith, length-drop at s));
     within = h;
   }
 
@@ -95,8 +97,7 @@ module _ (s : List ℕ) (at : ℕ) (h : at ≤ length s) where
       ap (drop 8) e8 ∙ drop-drop 8 (at + 8) s ∙ ap (λ (j : ℕ). drop j s) k) in
       record {
         read =
-            field-there regionNumbers regionBytes (λ b. regionTo (threeNumbers b)) wide-region (drop at s)
-            (omega (arith, length-drop at s))
+            field-there regionNumbers regionBytes regionValue wide-region (drop at s) (omega (arith, length-drop at s))
             ∙ (λ i. got (record {
               v = record { 0 = sym ev i };
               p = record { 0 = (ap (λ (b : List ℕ). little (take 8 b)) e8 ∙ sym ep) i };

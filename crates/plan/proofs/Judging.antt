@@ -1,90 +1,87 @@
--- Each return of the functions that apply a plan is one rule: 1 and 2 before all, then 23 to 26 by the comparisons of
--- words, then what the run says.
-use Prim.Native.Nat.{ℕ, _+_}
+-- How a plan is judged on words: each return answers one rule of the list, 1 or 2 in front of them all, or the run
+-- after them.
+use Prim.Native.Nat.{ℕ}
 use native.Mathlib.Omega.{arith}
 use mathlib.Core.Bool.{Bool, true, false, cond, not}
 use mathlib.Core.List.{List, [], _∷_}
-use mathlib.Core.Path.{_≡_, refl, sym, ap, ap₂, _∙_}
-use borrow.Author.Tests.{eq-eqb, ne-eqb, eqb-false}
+use mathlib.Core.Path.{_≡_, refl, sym, ap, _∙_}
+use borrow.Author.Tests.{eqb-false, eq-eqb, ne-eqb, not-false}
 use lib.Dec.{eqb}
+use Rattle.lists.specs.First.{all}
 use Rattle.lists.specs.Rules.{_when_, firstRule}
-use Rattle.lists.proofs.Rules.{rule-hit, rule-skip, rule-none}
+use Rattle.lists.proofs.Rules.{rule-hit, rule-skip, rule-none, testOf, aboveZero, silent-number}
 use Rattle.rules.specs.Limits.{limits}
-use Rattle.rules.specs.Applying.{lastEdition, sameList, plain}
+use Rattle.rules.specs.Applying.{lastEdition, plain}
 use Rattle.rules.specs.Requests.{standing}
 use Rattle.rules.specs.declared.Outcome.{Outcome}
-use Rattle.zones.specs.Run.{RanIn}
 use Rattle.zones.specs.View.{storedConfig, storedTable}
-use Rattle.plan.specs.Applying.{turnedAway, baseNumber, ran, ranPlan, applyBase}
-use Rattle.plan.specs.declared.applying.Applied.{Applied}
-use Rattle.plan.specs.declared.applying.State.{State}
-use Rattle.plan.specs.declared.read.Read.{Read}
+use Rattle.plan.specs.Applying.{turnedAway, baseNumber, RanOrUndone, FoundIn}
+use Rattle.plan.specs.Held.{configHeld, tableHeld}
 
--- ---- turned away: n is the number of the terminal's own state
-module _ (s : State) (n k place : ℕ) (e : n ≡ standing limits (storedConfig (s .config .words)) (storedTable (s .table .words))) where
-  pub away-own : (n ≡ 0 → ⊥) → _≡_ {A = Applied} (record { outcome = record { number = n; place = 0; inner = 0 }; state = s }) (turnedAway s k place)
+-- ---- turned away: n is what standing answered
+module _ (c t : List ℕ) (k place n : ℕ) (e : n ≡ standing limits (storedConfig c) (storedTable t)) where
+  pub away-own : (n ≡ 0 → ⊥) → _≡_ {A = Outcome} (record { number = n; place = 0; inner = 0 }) (turnedAway c t k place)
   unfolding turnedAway
-  away-own ne = ap (λ (m : ℕ). record { outcome = plain m 0; state = s }) e ∙ sym (ap (λ (t : Bool). cond t (record { outcome = plain k place; state = s }) (record { outcome = plain (standing limits (storedConfig (s .config .words)) (storedTable (s .table .words))) 0; state = s })) (ne-eqb _ 0 (λ z. ne (e ∙ z))))
+  away-own ne =
+      (λ i. record { number = e i; place = 0; inner = 0 })
+      ∙ sym (ap (λ (x : Bool). cond x (plain k place) (plain (standing limits (storedConfig c) (storedTable t)) 0))
+      (ne-eqb _ 0 (λ z. ne (e ∙ z))))
 
-  pub away-plan : n ≡ 0 → _≡_ {A = Applied} (record { outcome = record { number = k; place = place; inner = 0 }; state = s }) (turnedAway s k place)
+  pub away-plan : n ≡ 0 → _≡_ {A = Outcome} (record { number = k; place = place; inner = 0 }) (turnedAway c t k place)
   unfolding turnedAway
-  away-plan z = sym (ap (λ (t : Bool). cond t (record { outcome = plain k place; state = s }) (record { outcome = plain (standing limits (storedConfig (s .config .words)) (storedTable (s .table .words))) 0; state = s })) (eq-eqb _ 0 (sym e ∙ z)))
+  away-plan z =
+      sym (ap (λ (x : Bool). cond x (plain k place) (plain (standing limits (storedConfig c) (storedTable t)) 0))
+      (eq-eqb _ 0 (sym e ∙ z)))
 
--- ---- the base: t and u are what the comparisons of words answered
-module _ (s : State) (r : Read) (t : Bool) (et : t ≡ sameList eqb (s .config .words) (r .config .words)) where
-  pub base-config : not t ≡ true → 23 ≡ baseNumber s r
+-- ---- the base: a and b are what the comparisons answered
+module _ (c t : List ℕ) (e gic base : ℕ) (rs zs : List ℕ) (a : Bool) (ea : a ≡ configHeld rs gic c) where
+  pub base-config : not a ≡ true → 23 ≡ baseNumber c t e gic base rs zs
   unfolding baseNumber
-  base-config h = rule-hit _ _ _ _ _ (ap not (sym et) ∙ h) refl
+  base-config h = rule-hit _ _ _ _ _ (ap not (sym ea) ∙ h) refl
 
-  module _ (h : not t ≡ false) where
-    pub base-edition : (s .edition ≡ r .edition → ⊥) → 24 ≡ baseNumber s r
+  module _ (h : not a ≡ false) where
+    pub base-edition : (e ≡ base → ⊥) → 24 ≡ baseNumber c t e gic base rs zs
     unfolding baseNumber
-    base-edition ne = rule-skip _ _ _ _ _ (ap not (sym et) ∙ h) (rule-hit _ _ _ _ _ (ap not (ne-eqb _ _ ne)) refl)
+    base-edition ne = rule-skip _ _ _ _ _ (ap not (sym ea) ∙ h) (rule-hit _ _ _ _ _ (ap not (ne-eqb _ _ ne)) refl)
 
-    module _ (same : s .edition ≡ r .edition) where
-      pub base-last : s .edition ≡ lastEdition → 25 ≡ baseNumber s r
+    module _ (same : e ≡ base) where
+      pub base-last : e ≡ lastEdition → 25 ≡ baseNumber c t e gic base rs zs
       unfolding baseNumber
-      base-last e = rule-skip _ _ _ _ _ (ap not (sym et) ∙ h) (rule-skip _ _ _ _ _ (ap not (eq-eqb _ _ same)) (rule-hit _ _ _ _ _ (eq-eqb _ _ e) refl))
+      base-last q =
+          rule-skip _ _ _ _ _ (ap not (sym ea) ∙ h)
+          (rule-skip _ _ _ _ _ (ap not (eq-eqb _ _ same)) (rule-hit _ _ _ _ _ (eq-eqb _ _ q) refl))
 
-      module _ (ne : s .edition ≡ lastEdition → ⊥) (u : Bool) (eu : u ≡ sameList eqb (s .table .words) (r .table .words)) where
-        pub base-zones : not u ≡ true → 26 ≡ baseNumber s r
+      module _ (ne : e ≡ lastEdition → ⊥) (b : Bool) (eb : b ≡ tableHeld zs t) where
+        pub base-zones : not b ≡ true → 26 ≡ baseNumber c t e gic base rs zs
         unfolding baseNumber
-        base-zones g = rule-skip _ _ _ _ _ (ap not (sym et) ∙ h) (rule-skip _ _ _ _ _ (ap not (eq-eqb _ _ same)) (rule-skip _ _ _ _ _ (ne-eqb _ _ ne) (rule-hit _ _ _ _ _ (ap not (sym eu) ∙ g) refl)))
+        base-zones g =
+            rule-skip _ _ _ _ _ (ap not (sym ea) ∙ h)
+            (rule-skip _ _ _ _ _ (ap not (eq-eqb _ _ same))
+            (rule-skip _ _ _ _ _ (ne-eqb _ _ ne) (rule-hit _ _ _ _ _ (ap not (sym eb) ∙ g) refl)))
 
-        pub base-same : not u ≡ false → 0 ≡ baseNumber s r
+        pub base-same : not b ≡ false → 0 ≡ baseNumber c t e gic base rs zs
         unfolding baseNumber
-        base-same g = rule-skip _ _ _ _ _ (ap not (sym et) ∙ h) (rule-skip _ _ _ _ _ (ap not (eq-eqb _ _ same)) (rule-skip _ _ _ _ _ (ne-eqb _ _ ne) (rule-skip _ _ _ _ _ (ap not (sym eu) ∙ g) (rule-none _ _ refl))))
-
--- ---- the run
-module _ (s : State) (b : List ℕ) (o : Outcome) (u : List ℕ) (made : RanIn (s .config .words) (s .table .words) b o u) where
-  as-ran : ran s o u ≡ ranPlan s b
-  as-ran = ap₂ (λ (x : Outcome) (w : List ℕ). ran s x w) (made .answer) (made .table)
-
-  pub run-refused : (o .number ≡ 0 → ⊥) → _≡_ {A = Applied} (record { outcome = o; state = s }) (ranPlan s b)
-  unfolding ran
-  run-refused ne = sym (ap (λ (t : Bool). cond t (record { outcome = o; state = record { config = s .config; table = record { words = u }; edition = s .edition + 1 } }) (record { outcome = o; state = s })) (ne-eqb _ 0 ne)) ∙ as-ran
-
-  pub run-done : o .number ≡ 0 → _≡_ {A = Applied} (record { outcome = o; state = record { config = s .config; table = record { words = u }; edition = s .edition + 1 } }) (ranPlan s b)
-  unfolding ran
-  run-done z = sym (ap (λ (t : Bool). cond t (record { outcome = o; state = record { config = s .config; table = record { words = u }; edition = s .edition + 1 } }) (record { outcome = o; state = s })) (eq-eqb _ 0 z)) ∙ as-ran
+        base-same g =
+            rule-skip _ _ _ _ _ (ap not (sym ea) ∙ h)
+            (rule-skip _ _ _ _ _ (ap not (eq-eqb _ _ same))
+            (rule-skip _ _ _ _ _ (ne-eqb _ _ ne) (rule-skip _ _ _ _ _ (ap not (sym eb) ∙ g) (rule-none _ _ refl))))
 
 -- ---- after the base's number n
-module _ (s : State) (r : Read) (b : List ℕ) (n : ℕ) (v : Applied) (e : n ≡ baseNumber s r) where
-  pub read-away : (n ≡ 0 → ⊥) → v ≡ turnedAway s n 0 → v ≡ applyBase s r b
-  unfolding applyBase
-  read-away ne h = h ∙ ap (λ (k : ℕ). turnedAway s k 0) e ∙ sym (ap (λ (t : Bool). cond t (ranPlan s b) (turnedAway s (baseNumber s r) 0)) (ne-eqb _ 0 (λ z. ne (e ∙ z))))
+module _ (c t : List ℕ) (e gic base : ℕ) (rs zs : List ℕ) (n : ℕ) (en : n ≡ baseNumber c t e gic base rs zs) where
+  -- where it is 0, the zones are the table's
+  pub base-held : n ≡ 0 → tableHeld zs t ≡ true
+  unfolding baseNumber testOf aboveZero all
+  base-held z =
+      not-false _ (silent-number (23 when not (configHeld rs gic c) ∷ 24 when not (eqb e base)
+      ∷ 25 when eqb e lastEdition ∷ 26 when not (tableHeld zs t) ∷ []) refl (sym en
+      ∙ z) 26)
 
-  pub read-run : n ≡ 0 → v ≡ ranPlan s b → v ≡ applyBase s r b
-  unfolding applyBase
-  read-run z h = h ∙ sym (ap (λ (t : Bool). cond t (ranPlan s b) (turnedAway s (baseNumber s r) 0)) (eq-eqb _ 0 (sym e ∙ z)))
+  module _ (b : List ℕ) (v : Outcome) where
+    pub found-away : (n ≡ 0 → ⊥) → v ≡ turnedAway c t n 0 → FoundIn c t e gic base rs zs b v t
+    found-away ne h = record {
+      base-other = λ f. (h ∙ ap (λ (k : ℕ). turnedAway c t k 0) en, refl);
+      base-same = λ f. absurd (ne (en ∙ f));
+    }
 
--- no base number: the edition is not the last
-pub not-last : (s : State) (r : Read) (n : ℕ) → n ≡ baseNumber s r → n ≡ 0 → s .edition ≡ lastEdition → ⊥
-unfolding baseNumber firstRule
-not-last s r n e z = by (not (sameList eqb (s .config .words) (r .config .words))) (not (eqb (s .edition) (r .edition))) (eqb (s .edition) lastEdition) refl (sym e ∙ z)
-  where
-    by : (t u w : Bool) → eqb (s .edition) lastEdition ≡ w → _≡_ {A = ℕ} (firstRule (23 when t ∷ 24 when u ∷ 25 when w ∷ 26 when not (sameList eqb (s .table .words) (r .table .words)) ∷ []) 0) 0 → s .edition ≡ lastEdition → ⊥
-    by true u w q h = absurd (omega arith)
-    by false true w q h = absurd (omega arith)
-    by false false true q h = absurd (omega arith)
-    by false false false q h = eqb-false _ _ q
+    pub found-run : (u : List ℕ) → n ≡ 0 → RanOrUndone c t b v u → FoundIn c t e gic base rs zs b v u
+    found-run u z h = record { base-other = λ f. absurd (f (sym en ∙ z)); base-same = λ f. h }

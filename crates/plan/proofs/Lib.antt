@@ -1,11 +1,15 @@
 -- Laws that the proofs of the functions cite.
 pub mod Fields
 pub mod Into
+pub mod Offsets
+pub mod Passing
+pub mod Locating
+pub mod Holding
 pub mod Agreeing
 pub mod Storing
 pub mod Answers
-pub mod Whole
 pub mod Judging
 pub mod Bases
+pub mod Undoing
 pub mod Outcomes
 pub mod Deliveries

@@ -1,22 +1,25 @@
 -- Applying a plan where the state is words: what the code answers, and the next state.
-use Prim.Native.Nat.{ℕ, _+_}
+use Prim.Native.Nat.{ℕ}
 use mathlib.Core.Bool.{cond, not}
 use mathlib.Core.List.{List, [], _∷_}
+use mathlib.Core.Path.{_≡_}
 use lib.Dec.{eqb}
 use Rattle.lists.specs.Rules.{_when_, firstRule}
 use Rattle.rules.specs.Limits.{limits}
 use Rattle.rules.specs.Applying as rules
-use Rattle.rules.specs.Applying.{lastEdition, sameList, plain, apply, Terminal}
+use Rattle.rules.specs.Applying.{lastEdition, plain, apply, Terminal}
 use Rattle.rules.specs.Requests.{standing}
 use Rattle.rules.specs.Run.{requestsIn, runAnswer}
 use Rattle.rules.specs.Tables.{tableOf}
 use Rattle.rules.specs.declared.Outcome.{Outcome}
 use Rattle.zones.specs.Run.{runWords}
 use Rattle.zones.specs.View.{storedConfig, storedTable}
-use Rattle.zones.specs.Words.{wordsOf}
+use Rattle.zones.specs.Words.{wordsOf, emptied}
 use Rattle.plan.specs.declared.applying.Applied.{Applied}
 use Rattle.plan.specs.declared.applying.State.{State}
-use Rattle.plan.specs.declared.read.Read.{Read}
+use Rattle.plan.specs.Held.{configHeld, tableHeld}
+use Rattle.plan.specs.Into.{zonesInto, Reads}
+use Rattle.plan.specs.declared.words.Section.{Section}
 
 -- the terminal whose state the words are
 abbrev pub terminalIn : State → Terminal
@@ -37,41 +40,44 @@ inWords s a = record { outcome = a .outcome; state = cond (eqb (a .outcome .numb
 unfoldable pub applied : State → List ℕ → Applied
 applied s b = inWords s (apply limits (terminalIn s) b)
 
+-- the state whose words these are
+abbrev pub stateIn : List ℕ → List ℕ → ℕ → State
+stateIn c t e = record { config = record { words = c }; table = record { words = t }; edition = e }
+
+-- the same where configuration and table are lent: r is answered, and u is what the table's words then are
+pub record AppliedIn (c t : List ℕ) (e : ℕ) (b : List ℕ) (r : Outcome) (u : List ℕ) : Type 0 where
+  pub answer : r ≡ applied (stateIn c t e) b .outcome
+  pub table : u ≡ applied (stateIn c t e) b .state .table .words
+
 -- ---- how the code goes about it
 -- 1 or 2, or a number that the plan has earned
-unfoldable pub turnedAway : State → ℕ → ℕ → Applied
-turnedAway s k place =
-    cond (eqb (standing limits (terminalIn s .config) (terminalIn s .table)) 0) (record
-    { outcome = plain k place; state = s }) (record
-    { outcome = plain (standing limits (terminalIn s .config) (terminalIn s .table)) 0; state = s })
+unfoldable pub turnedAway : List ℕ → List ℕ → ℕ → ℕ → Outcome
+turnedAway c t k place =
+    cond (eqb (standing limits (storedConfig c) (storedTable t)) 0) (plain k place)
+    (plain (standing limits (storedConfig c) (storedTable t)) 0)
 
--- 23 to 26 on words, or 0
-unfoldable pub baseNumber : State → Read → ℕ
-baseNumber s r =
+-- 23 to 26, or 0: the plan's marks, and its bytes from the regions on and from the zones on, held against the words
+unfoldable pub baseNumber : List ℕ → List ℕ → ℕ → ℕ → ℕ → List ℕ → List ℕ → ℕ
+baseNumber c t e gic base rs zs =
     firstRule
-    (23 when not (sameList eqb (s .config .words) (r .config .words))
-    ∷ 24 when not (eqb (s .edition) (r .edition))
-    ∷ 25 when eqb (s .edition) lastEdition
-    ∷ 26 when not (sameList eqb (s .table .words) (r .table .words))
+    (23 when not (configHeld rs gic c)
+    ∷ 24 when not (eqb e base)
+    ∷ 25 when eqb e lastEdition
+    ∷ 26 when not (tableHeld zs t)
     ∷ [])
     0
 
--- by what a run of requests answered, and the words that it left
-unfoldable pub ran : State → Outcome → List ℕ → Applied
-ran s o u =
-    cond (eqb (o .number) 0) (record {
-      outcome = o;
-      state = record { config = s .config; table = record { words = u }; edition = s .edition + 1 };
-    }) (record {
-      outcome = o;
-      state = s;
-    })
+-- a run, after which the table is what it was unless the number is 0
+pub record RanOrUndone (c t b : List ℕ) (r : Outcome) (u : List ℕ) : Type 0 where
+  pub answer : r ≡ runAnswer limits (storedConfig c) (storedTable t) (requestsIn b)
+  pub table : u ≡ cond (eqb (r .number) 0) (runWords c t b) t
 
--- the run of the requests in b
-abbrev pub ranPlan : State → List ℕ → Applied
-ranPlan s b =
-    ran s (runAnswer limits (terminalIn s .config) (terminalIn s .table) (requestsIn b))
-    (runWords (s .config .words) (s .table .words) b)
+-- the zones that the bytes give, read into the words of a table without zones
+abbrev pub Refilled : List ℕ → List ℕ → List ℕ → Type 0
+Refilled s w v = (r : Section) × Reads s v r (zonesInto (emptied w) s)
 
-unfoldable pub applyBase : State → Read → List ℕ → Applied
-applyBase s r b = cond (eqb (baseNumber s r) 0) (ranPlan s b) (turnedAway s (baseNumber s r) 0)
+-- a plan that reads whole, by its base's number
+pub record FoundIn (c t : List ℕ) (e gic base : ℕ) (rs zs b : List ℕ) (r : Outcome) (u : List ℕ) : Type 0 where
+  pub base-other : (baseNumber c t e gic base rs zs ≡ 0 → ⊥)
+      → (r ≡ turnedAway c t (baseNumber c t e gic base rs zs) 0) × (u ≡ t)
+  pub base-same : baseNumber c t e gic base rs zs ≡ 0 → RanOrUndone c t b r u

@@ -3,6 +3,8 @@ use Prim.Native.Nat.{ℕ, _+_, _≤_}
 use mathlib.Core.List.{List}
 use mathlib.Core.Path.{_≡_}
 use lib.ListN.{length, drop}
+use Rattle.lists.specs.Bytes.{little}
+use Rattle.lists.specs.Words.{part}
 use Rattle.formats.specs.Formats.{Out, got, bad}
 use Rattle.rules.specs.declared.Region.{Region}
 use Rattle.plan.specs.declared.field.Number.{Number}
@@ -13,6 +15,14 @@ use Rattle.plan.specs.declared.field.RegionField.the-variants.{Is as IsR
 -- bytes of a region
 abbrev pub regionBytes : ℕ
 regionBytes = 24
+
+-- the region whose bytes begin at a place of s
+unfoldable pub regionIn : List ℕ → ℕ → Region
+regionIn s at = record {
+  v = record { 0 = little (part at 8 s) };
+  p = record { 0 = little (part (at + 8) 8 s) };
+  size = little (part (at + 16) 8 s);
+}
 
 -- a number of 4 bytes at a place of s
 unfoldable pub numberOut : List ℕ → ℕ → Number → Out ℕ

@@ -2,6 +2,8 @@
 pub mod Fields
 pub mod Into
 pub mod Sections
+pub mod Found
+pub mod Held
 pub mod Read
 pub mod Applying
 pub mod Deliveries

@@ -1,24 +1,34 @@
-// Applying a plan to a terminal's state, by value.
-use crate::read::Read;
+// Applying a plan to a terminal's state: where its words lie, and by value.
+use crate::comparing::same_config;
+use crate::comparing::same_zones;
+use crate::finding::Found;
+use crate::finding::MARKS_BYTES;
+use crate::finding::find_sections;
 use crate::read::read_plan;
-use crate::read::request_records;
 use crate::words::Section;
+use crate::words::read_table;
 use rules::Outcome;
 use rules::numbers::NO_NEXT_EDITION;
 use rules::numbers::OTHER_CONFIG;
 use rules::numbers::OTHER_EDITION;
 use rules::numbers::OTHER_ZONES;
+use rules::numbers::REQUEST_REFUSED;
+use zones::CONFIG_WORDS;
 use zones::Config;
+use zones::TABLE_WORDS;
 use zones::Table;
+use zones::clear_zones;
+use zones::count_words;
 use zones::run_in;
-use zones::same_words;
 use zones::standing;
+ghost use mathlib.Core.Bool.{true};
 ghost use mathlib.Core.Path.{_≡_};
-ghost use lib.ListN.{length};
 ghost use Rattle.rules.specs.Limits.{limits};
-ghost use Rattle.rules.specs.Applying.{lastEdition, answerAlone};
-ghost use Rattle.zones.specs.Layout.{configWords, tableWords};
-ghost use Rattle.plan.specs.Applying.{turnedAway, ranPlan, baseNumber, applyBase, applied};
+ghost use Rattle.rules.specs.Applying.{answerAlone};
+ghost use Rattle.rules.specs.Run.{requestsIn, runAnswer};
+ghost use Rattle.zones.specs.View.{storedConfig, storedTable};
+ghost use Rattle.plan.specs.Applying.{applied, turnedAway, baseNumber, AppliedIn, FoundIn, RanOrUndone, Refilled};
+ghost use Rattle.plan.specs.Held.{tableHeld};
 
 const LAST_EDITION: u32 = u32::MAX;
 
@@ -36,101 +46,154 @@ pub struct Applied {
     pub state: State,
 }
 
-// 1 and 2 speak of the terminal's own state and come before all others. The state is looked at once, and last: either for a
-// refusal that the plan has earned anyway, or by the run of its requests.
-pub fn apply(state: State, plan: &[u8]) -> Applied
-    ensures { λ r. ⌜ r ≡ applied state (now (plan .entry)) ⌝ }
+// Where the words lie: the table changes only on 0, and the edition is the caller's to raise then. 1 and 2 speak of the
+// terminal's own state and come before all others. The state is looked at once, and last: either for a refusal that the plan has earned
+// anyway, or by the run of its requests.
+pub fn apply_words(
+    config: &[u64; CONFIG_WORDS],
+    table: &mut [u64; TABLE_WORDS],
+    edition: u32,
+    plan: &[u8],
+) -> Outcome
+    ensures { λ r. ⌜ AppliedIn (now (config .entry)) (now (table .entry)) edition (now (plan .entry)) r (now (table .exit)) ⌝ }
 {
-    let read = read_plan(plan);
-    let section = read.requests;
-    match section {
-        Section::Bad { number, at } => turned_away(state, number, at),
-        Section::End(_) => apply_read(state, read, request_records(plan, section)),
+    let found = find_sections(plan);
+    match found {
+        Found::Bad { number, at } => turned_away(config, table, number, at),
+        Found::At {
+            gic,
+            edition: base,
+            zones,
+            requests,
+        } => apply_found(
+            config,
+            table,
+            edition,
+            gic,
+            base,
+            &plan[MARKS_BYTES..],
+            &plan[zones..],
+            &plan[requests..],
+        ),
     }
 }
 
-// A plan that reads whole, and the bytes of its requests.
-fn apply_read(state: State, read: Read, requests: &[u8]) -> Applied
-    ensures { λ r. ⌜ r ≡ applyBase state read (now (requests .entry)) ⌝ }
-    ensures { λ r. ⌜ (length (state .config .words) ≡ configWords) × (length (state .table .words) ≡ tableWords) ⌝ }
+// A plan that reads whole: its marks, and its bytes from the regions' count, from the zones' count and from the first request on.
+fn apply_found(
+    config: &[u64; CONFIG_WORDS],
+    table: &mut [u64; TABLE_WORDS],
+    edition: u32,
+    gic: u32,
+    base: u32,
+    regions: &[u8],
+    zones: &[u8],
+    requests: &[u8],
+) -> Outcome
+    ensures { λ r. ⌜ FoundIn (now (config .entry)) (now (table .entry)) edition gic base (now (regions .entry)) (now (zones .entry)) (now (requests .entry)) r (now (table .exit)) ⌝ }
 {
-    let number = base_number(state, read);
+    let number = base_number(config, table, edition, gic, base, regions, zones);
     if number != 0 {
-        return turned_away(state, number, 0);
+        return turned_away(config, table, number, 0);
     }
-    run_plan(state, requests)
+    run_or_undo(config, table, zones, requests)
 }
 
 // The first of 23 to 26 that applies, or 0.
-fn base_number(state: State, read: Read) -> u32
-    ensures { λ n. ⌜ n ≡ baseNumber state read ⌝ }
-    ensures { λ n. ⌜ (length (state .config .words) ≡ configWords) × (length (state .table .words) ≡ tableWords) ⌝ }
+fn base_number(
+    config: &[u64; CONFIG_WORDS],
+    table: &[u64; TABLE_WORDS],
+    edition: u32,
+    gic: u32,
+    base: u32,
+    regions: &[u8],
+    zones: &[u8],
+) -> u32
+    ensures { λ n. ⌜ n ≡ baseNumber (now (config .entry)) (now (table .entry)) edition gic base (now (regions .entry)) (now (zones .entry)) ⌝ }
 {
-    let config = state.config.words;
-    let base_config = read.config.words;
-    if !same_words(&config, &base_config) {
+    if !same_config(regions, gic, config) {
         return OTHER_CONFIG;
     }
-    if state.edition != read.edition {
+    if edition != base {
         return OTHER_EDITION;
     }
-    if state.edition == LAST_EDITION {
+    if edition == LAST_EDITION {
         return NO_NEXT_EDITION;
     }
-    let table = state.table.words;
-    let base_table = read.table.words;
-    if !same_words(&table, &base_table) {
+    if !same_zones(zones, table) {
         return OTHER_ZONES;
     }
     0
 }
 
 // A number that the plan has earned, unless the terminal's own state is unsound.
-fn turned_away(state: State, number: u32, place: usize) -> Applied
-    ensures { λ r. ⌜ r ≡ turnedAway state number place ⌝ }
+fn turned_away(
+    config: &[u64; CONFIG_WORDS],
+    table: &[u64; TABLE_WORDS],
+    number: u32,
+    place: usize,
+) -> Outcome
+    ensures { λ r. ⌜ r ≡ turnedAway (now (config .entry)) (now (table .entry)) number place ⌝ }
 {
-    let config = state.config.words;
-    let table = state.table.words;
-    let own = standing(&config, &table);
+    let own = standing(config, table);
     if own != 0 {
-        return Applied {
-            outcome: Outcome {
-                number: own,
-                place: 0,
-                inner: 0,
-            },
-            state,
+        return Outcome {
+            number: own,
+            place: 0,
+            inner: 0,
         };
     }
-    Applied {
-        outcome: Outcome {
-            number,
-            place,
-            inner: 0,
-        },
-        state,
+    Outcome {
+        number,
+        place,
+        inner: 0,
     }
 }
 
-// The requests in turn, at a copy of the table; a refused one leaves the state as it was.
-fn run_plan(state: State, requests: &[u8]) -> Applied
-    requires { ⌜ (state .edition ≡ lastEdition → ⊥) ⌝ }
-    ensures { λ r. ⌜ r ≡ ranPlan state (now (requests .entry)) ⌝ }
+// The requests in turn, where the table lies. After a refused one the table is read back from the plan's base zones, which are what
+// lay there before.
+fn run_or_undo(
+    config: &[u64; CONFIG_WORDS],
+    table: &mut [u64; TABLE_WORDS],
+    zones: &[u8],
+    requests: &[u8],
+) -> Outcome
+    requires { ⌜ tableHeld (now zones) (now table) ≡ true ⌝ }
+    ensures { λ r. ⌜ RanOrUndone (now (config .entry)) (now (table .entry)) (now (requests .entry)) r (now (table .exit)) ⌝ }
 {
-    let config_words = state.config.words;
-    let mut words = state.table.words;
-    let outcome = run_in(&config_words, &mut words, requests);
+    let width = count_words(table);
+    let outcome = run_in(config, table, requests);
+    if outcome.number == REQUEST_REFUSED {
+        refill(table, zones);
+    }
+    outcome
+}
+
+// The zones of a section, in the words of a table.
+fn refill(table: &mut [u64; TABLE_WORDS], zones: &[u8])
+    ensures { λ r. ⌜ Refilled (now (zones .entry)) (now (table .entry)) (now (table .exit)) ⌝ }
+{
+    clear_zones(table);
+    let section = read_table(zones, table);
+}
+
+// The same by value.
+pub fn apply(state: State, plan: &[u8]) -> Applied
+    ensures { λ r. ⌜ r ≡ applied state (now (plan .entry)) ⌝ }
+{
+    let words = state.config.words;
+    let mut table = state.table.words;
+    let edition = state.edition;
+    let outcome = apply_words(&words, &mut table, edition, plan);
     if outcome.number != 0 {
         return Applied { outcome, state };
     }
-    let edition = state.edition + 1;
     let config = state.config;
     Applied {
         outcome,
         state: State {
             config,
-            table: Table { words },
-            edition,
+            table: Table { words: table },
+            edition: edition + 1,
         },
     }
 }
@@ -148,16 +211,9 @@ pub fn apply_alone(plan: &[u8]) -> Outcome
             inner: 0,
         },
         Section::End(_) => {
-            let config = read.config;
-            let table = read.table;
-            let own = State {
-                config,
-                table,
-                edition: read.edition,
-            };
-            let applied = apply_read(own, read, request_records(plan, section));
-            let outcome = applied.outcome;
-            outcome
+            let config = read.config.words;
+            let mut table = read.table.words;
+            apply_words(&config, &mut table, read.edition, plan)
         }
     }
 }

@@ -1,6 +1,8 @@
 // Plans: bytes that nobody trusts become requests, or a number and a place.
 mod applying;
+mod comparing;
 mod field;
+mod finding;
 mod read;
 mod sections;
 mod size;
@@ -10,7 +12,10 @@ pub use applying::Applied;
 pub use applying::State;
 pub use applying::apply;
 pub use applying::apply_alone;
+pub use applying::apply_words;
 pub use field::NUMBER_BYTES;
+pub use finding::Found;
+pub use finding::find_sections;
 pub use read::Read;
 pub use read::find_requests;
 pub use read::read_plan;

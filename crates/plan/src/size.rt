@@ -1,7 +1,7 @@
 // The longest plan, from the limits.
 use crate::field::NUMBER_BYTES;
 use crate::field::REGION_BYTES;
-use crate::read::MARKS_BYTES;
+use crate::finding::MARKS_BYTES;
 use rules::limits::MOST_IN_SET;
 use rules::limits::MOST_REGIONS;
 use rules::limits::MOST_REQUESTS;

@@ -41,7 +41,7 @@ lawful-asked =
 
 -- ---- sections
 module _ {A : Type 0} (lo hi : ℕ) (F : Format A) (P : A → Type 0) (f : Lawful F P) where
-  lawful-list : Lawful (listed 4 lo hi F) (ListFits 4 lo hi P)
+  pub lawful-list : Lawful (listed 4 lo hi F) (ListFits 4 lo hi P)
   lawful-list =
       lawful-headed 4 lo hi (many F) length (λ n xs. (length xs ≡ n) × All P xs) (lawful-many F P f)
       (λ c xs a z h. h .0)
@@ -58,7 +58,7 @@ module _ (l : Limits) where
   lawful-set : Lawful (setFormat l) (SetFits l)
   lawful-set = lawful-list 0 (l .inSet) regionField RegionFits lawful-region-field
 
-  lawful-zone : Lawful (zoneFormat l) (ZoneFits l)
+  pub lawful-zone : Lawful (zoneFormat l) (ZoneFits l)
   lawful-zone =
       lawful-as (both short (both (setFormat l) (setFormat l)))
       (λ t. Short (t .0) × (SetFits l (t .1 .0) × SetFits l (t .1 .1)))

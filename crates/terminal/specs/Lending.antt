@@ -2,7 +2,7 @@
 use Rattle.plan.specs.Deliveries.{Calls, Faithful}
 use Rattle.terminal.specs.Terminal.{Applies}
 
--- what `apply_in` and the library's `peatmitten_apply` say of a call
+-- what `apply_in` says of a call, and of the three parts of a state the library's `peatmitten_apply_words`
 abbrev pub Lent : Calls
 Lent s b o u = Applies s b u o
 

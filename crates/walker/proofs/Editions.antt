@@ -13,7 +13,7 @@ use Rattle.lists.specs.Words.{part}
 use Rattle.lists.specs.Tests.{allOf}
 use Rattle.lists.proofs.Tests.{holds-or-fails}
 use Rattle.formats.specs.Formats.{then, when, within, readCount, readBoth, readAs, readHeaded}
-use Rattle.plan.proofs.Answers.{place}
+use Rattle.plan.proofs.Offsets.{place}
 use Rattle.plan.proofs.Fields.{count-low, count-judged}
 use Rattle.walker.specs.Walker.{foundOf, placeBehind, stepAt}
 use Rattle.walker.specs.Edition.{editionAnswer, editionOf, orCut, judged}

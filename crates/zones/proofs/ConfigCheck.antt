@@ -1,28 +1,30 @@
 -- The configuration's check as the code meets it: its tests in order are the rules', and the records at the positions
 -- are those that the rules look at.
-use Prim.Native.Nat.{ℕ, _≤_, _<_}
+use Prim.Native.Nat.{ℕ, _+_, _-_, _*_, _≤_, _<_}
 use native.Mathlib.Omega.{arith}
-use mathlib.Core.Bool.{Bool, true, false, not}
+use mathlib.Core.Bool.{Bool, true, false, not, Bool·not-not}
 use mathlib.Core.List.{List, [], _∷_}
 use mathlib.Core.Path.{_≡_, refl, sym, ap, subst, _∙_}
 use types.Run.{OneOf, miss}
 use denote.Enum.Declared.{tagOf}
 use borrow.Author.Tests.{eqb-false, lt-ltb, le-ltb}
 use lib.ListN.{length, getD, take, drop}
-use Rattle.lists.specs.First.{firstIndex, firstFrom, any}
+use Rattle.lists.specs.First.{firstIndex, any}
 use Rattle.lists.specs.Rules.{_when_, firstRule}
-use Rattle.lists.proofs.First.{any-first, any-from}
+use Rattle.lists.proofs.First.{any-first}
 use Rattle.lists.proofs.Places.{length-tab, getD-tab, take-tab}
 use Rattle.rules.specs.Configuration.{positionRules, check}
 use Rattle.rules.specs.Limits.{mostRegions, limits}
-use Rattle.rules.specs.Regions.{wellFormed, inReach, physOverlap, noRegion}
+use Rattle.rules.specs.Regions.{wellFormed, inReach, physOverlap, noRegion, used}
 use Rattle.rules.specs.declared.Checked.{Checked}
 use Rattle.rules.specs.declared.Checked.the-variants.{Sound, BadCount, BadGic, NotZero, Malformed, OutOfReach, Overlap}
 use Rattle.rules.specs.declared.Region.{Region}
 use Rattle.rules.proofs.Checked.{the-type}
-use Rattle.zones.specs.Layout.{configRecords}
+use Rattle.zones.specs.Layout.{regionWords, configRecords, configWords}
+use Rattle.zones.specs.Packing.{zeros}
 use Rattle.zones.specs.Records.{recordAt, recordsAt}
 use Rattle.zones.specs.View.{allRecords, storedConfig, ConfigPassed}
+use Rattle.zones.proofs.Blocks.{free-zero}
 
 -- ---- whether some record passes, by the first that does
 module _ (w : List ℕ) (b n k : ℕ) (p : Region → Bool) (found : k ≡ firstIndex p (recordsAt w b n)) where
@@ -38,18 +40,20 @@ module _ (w : List ℕ) (b n k : ℕ) (p : Region → Bool) (found : k ≡ first
       any-first p (recordsAt w b n)
       ∙ le-ltb (firstIndex p (recordsAt w b n)) (length (recordsAt w b n)) (omega (arith, length-tab n (recordAt w b)))
 
-module _ (w : List ℕ) (b n i k : ℕ) (p : Region → Bool) (found : k ≡ firstFrom p (recordsAt w b n) i) (h : i ≤ n) where
-  pub some-later : k < n → any p (drop i (recordsAt w b n)) ≡ true
-  unfolding recordsAt
-  some-later l =
-      any-from p (recordsAt w b n) i (omega (arith, length-tab n (recordAt w b)))
-      ∙ lt-ltb (firstFrom p (recordsAt w b n) i) (length (recordsAt w b n)) (omega (arith, length-tab n (recordAt w b)))
+-- ---- whether some record past the count is used, by whether the words of those records are zero
+module _ (w : List ℕ) (n : ℕ) (t : Bool) (h : n ≤ mostRegions)
+    (e : t ≡ zeros w (configRecords + n * regionWords) (configWords - (configRecords + n * regionWords))) where
+  used-told : any used (drop n (allRecords w)) ≡ not t
+  used-told =
+      let f : (mostRegions - n) * regionWords ≡ configWords - (configRecords + n * regionWords) = omega arith in
+      sym (Bool·not-not (any used (drop n (allRecords w))))
+      ∙ ap not (free-zero w configRecords mostRegions n h ∙ ap (zeros w (configRecords + n * regionWords)) f ∙ sym e)
 
-  pub none-later : n ≤ k → any p (drop i (recordsAt w b n)) ≡ false
-  unfolding recordsAt
-  none-later l =
-      any-from p (recordsAt w b n) i (omega (arith, length-tab n (recordAt w b)))
-      ∙ le-ltb (firstFrom p (recordsAt w b n) i) (length (recordsAt w b n)) (omega (arith, length-tab n (recordAt w b)))
+  pub some-used : not t ≡ true → any used (drop n (allRecords w)) ≡ true
+  some-used f = used-told ∙ f
+
+  pub none-used : not t ≡ false → any used (drop n (allRecords w)) ≡ false
+  none-used f = used-told ∙ f
 
 -- ---- the rules at a position, where r is the record that was read there
 pub rules-at : (w : List ℕ) (i : ℕ) (r : Region) (f : Checked) → r ≡ recordAt w configRecords i → i < mostRegions

@@ -1,9 +1,11 @@
 -- Laws that the proofs of the functions cite.
 pub mod Records
+pub mod Blocks
 pub mod ConfigCheck
 pub mod Moves
 pub mod Readers
 pub mod Focus
+pub mod Free
 pub mod Writers
 pub mod Packing
 pub mod ConfigReaders

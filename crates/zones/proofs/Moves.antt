@@ -1,25 +1,13 @@
--- The loops that look for zeros, move words down and clear them: up to a place
--- the work is done, and from there on the words are as they were.
+-- The loops that move words down and clear them: up to a place the work is done, and from there on the words are as
+-- they were.
 use Prim.Native.Nat.{ℕ, _+_, _-_, _≤_, _<_}
 use native.Mathlib.Omega.{arith}
-use mathlib.Core.Bool.{Bool, true, false}
 use mathlib.Core.List.{List}
-use mathlib.Core.Path.{_≡_, refl, sym, ap, _∙_}
-use borrow.Author.Tests.{eq-eqb, ne-eqb}
+use mathlib.Core.Path.{_≡_, ap, _∙_}
 use lib.ListN.{length, getD, drop, set, length-set}
 use lib.Seq.{paste}
-use Rattle.lists.specs.Words.{isZeroAt, closed, cleared}
-use Rattle.lists.proofs.Places.{every-stop, every-on}
+use Rattle.lists.specs.Words.{closed, cleared}
 use Rattle.lists.proofs.Words.{move-on, clear-on, move-clear}
-use Rattle.zones.specs.Packing.{zeros}
-
--- ---- zeros
-module _ (w : List ℕ) (k e : ℕ) (r : Bool) where
-  pub zeros-stop : zeros w k (e - k) ≡ r → k < e → (getD w k 0 ≡ 0 → ⊥) → false ≡ r
-  zeros-stop inv h f = every-stop (isZeroAt w) k e r false inv h (sym (ne-eqb (getD w k 0) 0 f)) refl
-
-  pub zeros-on : zeros w k (e - k) ≡ r → k < e → getD w k 0 ≡ 0 → zeros w (k + 1) (e - (k + 1)) ≡ r
-  zeros-on inv h f = every-on (isZeroAt w) k e r true inv h (sym (eq-eqb (getD w k 0) 0 f)) refl
 
 -- ---- the loops of `move_down` and `clear`; the moved words are as many
 module _ (d t : List ℕ) (at m e k : ℕ) where

@@ -33,11 +33,18 @@ use Rattle.zones.proofs.Writers.{set-in}
 -- ---- the returns
 module _ (w : List ℕ) where
   -- the records that are free, and the zones: as many words as there are up to the end
-  pub free-records : (b : ℕ) (r : Bool) → getD w b 0 ≤ mostInSet → r ≡ zeros w (recordBase b (getD w b 0)) (b + setWords - recordBase b (getD w b 0)) → r ≡ zeros w (recordBase b (getD w b 0)) ((mostInSet - getD w b 0) * regionWords)
-  free-records b r h e = let f : b + setWords - recordBase b (getD w b 0) ≡ (mostInSet - getD w b 0) * regionWords = omega arith in e ∙ ap (zeros w (recordBase b (getD w b 0))) f
+  pub free-records : (b : ℕ) (r : Bool) → getD w b 0 ≤ mostInSet
+      → r ≡ zeros w (recordBase b (getD w b 0)) (b + setWords - recordBase b (getD w b 0))
+      → r ≡ zeros w (recordBase b (getD w b 0)) ((mostInSet - getD w b 0) * regionWords)
+  free-records b r h e =
+      let f : b + setWords - recordBase b (getD w b 0) ≡ (mostInSet - getD w b 0) * regionWords = omega arith in
+      e ∙ ap (zeros w (recordBase b (getD w b 0))) f
 
-  pub free-zones : (b : ℕ) (r : Bool) → b ≡ zoneBase (getD w 0 0) → getD w 0 0 ≤ mostZones → r ≡ zeros w b (tableWords - b) → r ≡ zeros w (zoneBase (getD w 0 0)) ((mostZones - getD w 0 0) * zoneWords)
-  free-zones b r q h e = let f : tableWords - zoneBase (getD w 0 0) ≡ (mostZones - getD w 0 0) * zoneWords = omega arith in e ∙ ap (λ (k : ℕ). zeros w k (tableWords - k)) q ∙ ap (zeros w (zoneBase (getD w 0 0))) f
+  pub free-zones : (b : ℕ) (r : Bool) → b ≡ zoneBase (getD w 0 0) → getD w 0 0 ≤ mostZones
+      → r ≡ zeros w b (tableWords - b) → r ≡ zeros w (zoneBase (getD w 0 0)) ((mostZones - getD w 0 0) * zoneWords)
+  free-zones b r q h e =
+      let f : tableWords - zoneBase (getD w 0 0) ≡ (mostZones - getD w 0 0) * zoneWords = omega arith in
+      e ∙ ap (λ (k : ℕ). zeros w k (tableWords - k)) q ∙ ap (zeros w (zoneBase (getD w 0 0))) f
 
   -- a set that a call looked at, by where it starts
   pub packed-at : (z b : ℕ) (s : Side) (t : Bool) → b ≡ setBase z s → t ≡ setPacked w b → t ≡ setPacked w (setBase z s)
@@ -45,13 +52,16 @@ module _ (w : List ℕ) where
 
 -- ---- words of which the test holds are packed
 module _ (w : List ℕ) (len : length w ≡ tableWords) where
-  set-part : (z : ℕ) (s : Side) → setBase z s + setWords ≤ tableWords → setPacked w (setBase z s) ≡ true → part (setBase z s) setWords w ≡ wordsOfSet (setIn w z s)
+  set-part : (z : ℕ) (s : Side) → setBase z s + setWords ≤ tableWords → setPacked w (setBase z s) ≡ true
+      → part (setBase z s) setWords w ≡ wordsOfSet (setIn w z s)
   unfolding setPacked wordsOfSet setIn recordsAt recordAt
   set-part z s h p =
       let b : ℕ = setBase z s in
       let q = parts _ p in
       let c : getD w b 0 ≤ mostInSet = leb-true _ _ (q .0) in
-      parts-counted wordsOfRegion regionWords w b mostInSet (getD w b 0) noRegion (recordAt w (b + 1)) zero-region refl c (omega arith) (λ i l. region-part w (recordBase b i) (omega (arith, len))) (q .1 .0)
+      parts-counted wordsOfRegion regionWords w b mostInSet (getD w b 0) noRegion
+      (recordAt w (b + 1)) zero-region refl c (omega arith) (λ i l. region-part w (recordBase b i) (omega (arith, len)))
+      (q .1 .0)
 
   base-fits : (z : ℕ) (s : Side) → z < mostZones → setBase z s + setWords ≤ tableWords
   unfolding setBase
@@ -73,10 +83,13 @@ module _ (w : List ℕ) (len : length w ≡ tableWords) where
       part-cons (zoneBase z) (setWords + setWords) w 0 (omega arith)
       ∙ ap (λ (l : List ℕ). getD w (zoneBase z) 0 ∷ l)
       (part-add (zoneBase z + 1) setWords setWords w
-      ∙ ap₂ (λ (x y : List ℕ). x ++ y) (ap (λ (j : ℕ). part j setWords w) (cpu-base z) ∙ set-part z Cpu (base-fits z Cpu h) (q .0)) (ap (λ (j : ℕ). part j setWords w) (iommu-base z) ∙ set-part z Iommu (base-fits z Iommu h) (q .1 .0)))
+      ∙ ap₂ (λ (x y : List ℕ). x ++ y) (ap (λ (j : ℕ). part j setWords w) (cpu-base z)
+      ∙ set-part z Cpu (base-fits z Cpu h) (q .0)) (ap (λ (j : ℕ). part j setWords w) (iommu-base z)
+      ∙ set-part z Iommu (base-fits z Iommu h) (q .1 .0)))
 
   module _ (p : packed w ≡ true) where
-    tests : Holds (leb (getD w 0 0) mostZones ∷ all (zonePacked w) (places 0 (getD w 0 0)) ∷ zeros w (zoneBase (getD w 0 0)) ((mostZones - getD w 0 0) * zoneWords) ∷ [])
+    tests : Holds (leb (getD w 0 0) mostZones ∷ all (zonePacked w) (places 0 (getD w 0 0))
+        ∷ zeros w (zoneBase (getD w 0 0)) ((mostZones - getD w 0 0) * zoneWords) ∷ [])
     unfolding packed
     tests = parts _ p
 
@@ -107,7 +120,8 @@ module _ (w : List ℕ) (len : length w ≡ tableWords) where
     unfolding wordsOf zonesIn
     table-part =
         let c : getD w 0 0 ≤ mostZones = few-zones in
-        parts-counted wordsOfZone zoneWords w 0 mostZones (getD w 0 0) noZone (zoneIn w) zero-zone refl c (omega arith) (λ i l. zone-part i (omega arith) (zone-ok i l)) (tests .1 .1 .0)
+        parts-counted wordsOfZone zoneWords w 0 mostZones (getD w 0 0) noZone (zoneIn w) zero-zone refl c (omega arith)
+        (λ i l. zone-part i (omega arith) (zone-ok i l)) (tests .1 .1 .0)
 
     set-small : (z : ℕ) (s : Side) → z < length (zonesIn w) → length (setAt (zonesIn w) z s) ≤ mostInSet
     set-small z s h =
@@ -117,6 +131,9 @@ module _ (w : List ℕ) (len : length w ≡ tableWords) where
 
     pub packed-words : Packed w
     packed-words = record {
-      within = record { zones = (let c : getD w 0 0 ≤ mostZones = few-zones in omega (arith, table-len)); sets = set-small };
+      within = record {
+        zones = (let c : getD w 0 0 ≤ mostZones = few-zones in omega (arith, table-len));
+        sets = set-small;
+      };
       words = sym (part-all tableWords w len) ∙ table-part;
     }

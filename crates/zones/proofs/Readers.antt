@@ -1,6 +1,7 @@
 -- A reader returns the word at its place, which is what the view has there; a search returns the first index, since
 -- what is left gives the whole answer.
 use Prim.Native.Nat.{ℕ, _+_, _≤_, _<_}
+use native.Mathlib.Decide.{decLt}
 use native.Mathlib.Omega.{arith}
 use mathlib.Core.Bool.{Bool, true, false}
 use mathlib.Core.List.{List}
@@ -40,6 +41,21 @@ start-is z b e h = rw (lt-ltb _ _ h) at e
 pub start-past : (z : ℕ) → mostZones ≤ z → tableWords ≡ zoneStart z
 unfolding zoneStart
 start-past z h = rw (le-ltb _ _ h)
+
+-- it is never past the end; and where there is room for as many zones, it is where the last of them ends
+pub start-fits : (w : List ℕ) (z b : ℕ) → length w ≡ tableWords → b ≡ zoneStart z → b ≤ length w
+start-fits w z b l e =
+    elim (decLt z mostZones) [
+      | yes h ↦ omega (arith, start-is z b e h)
+      | no h ↦ omega (arith, start-past z (omega arith))
+    ]
+
+pub start-used : (z : ℕ) → z ≤ mostZones → zoneStart z ≡ zoneBase z
+start-used z l =
+    elim (decLt z mostZones) [
+      | yes h ↦ start-is z (zoneStart z) refl h
+      | no h ↦ (let e : tableWords ≡ zoneBase z = omega arith in sym (start-past z (omega arith)) ∙ e)
+    ]
 
 module _ (w : List ℕ) where
   pub count-word : getD w 0 0 ≡ length (zonesIn w)

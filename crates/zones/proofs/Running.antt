@@ -1,14 +1,17 @@
 -- A run: at request i the words hold the table that the requests before it
 -- leave, and what is left of the requests gives the whole outcome.
-use Prim.Native.Nat.{ℕ, suc, _+_, _-_, _*_, _/_, _≤_, _<_}
+use Prim.Native.Nat.{ℕ, zero, suc, _+_, _-_, _*_, _/_, _≤_, _<_}
 use native.Mathlib.Omega.{arith}
 use mathlib.Core.Bool.{Bool, true, false, cond}
-use mathlib.Core.List.{List, _∷_, map}
-use mathlib.Core.Path.{_≡_, sym, ap, ap₂, subst, _∙_}
+use mathlib.Core.List.{List, [], _∷_, map}
+use mathlib.Core.Path.{_≡_, refl, sym, ap, ap₂, subst, _∙_}
 use borrow.Author.Tests.{eq-eqb, ne-eqb}
 use lib.Dec.{eqb}
-use lib.ListN.{length}
+use lib.ListN.{length, take, drop}
+use lib.Seq.{take-take, drop-drop}
+use Rattle.lists.specs.Bytes.{little}
 use Rattle.lists.specs.Places.{places, tab}
+use Rattle.lists.specs.Words.{part}
 use Rattle.lists.proofs.Places.{places-step, places-end}
 use Rattle.rules.specs.Limits.{limits}
 use Rattle.rules.specs.Regions.{used}
@@ -50,6 +53,30 @@ pub request-read : (b : List ℕ) (at kind zone v p size : ℕ) (q : Request) �
 unfolding requestFrom
 request-read b at kind zone v p size q ek ez ev ep es e =
     e ∙ (λ i. makeRequest (ek i) (ez i) (record { v = record { 0 = ev i }; p = record { 0 = ep i }; size = es i }))
+
+-- the request among bytes is that of its own bytes
+part-take : (k n m : ℕ) (l : List ℕ) → k + n ≤ m → part k n (take m l) ≡ part k n l
+unfolding part
+part-take zero n m l h = take-take n m l (omega arith)
+part-take (suc k) n zero l h = absurd (omega arith)
+part-take (suc k) n (suc m) [] h = refl
+part-take (suc k) n (suc m) (x ∷ l) h = part-take k n m l (omega arith)
+
+module _ (b : List ℕ) (at e : ℕ) where
+  pub own-number : (k n : ℕ) → k + n ≤ e - at → numberAt n (take (e - at) (drop at b)) k ≡ numberAt n b (at + k)
+  unfolding part
+  own-number k n l = ap little (part-take k n (e - at) (drop at b) l ∙ ap (take n) (drop-drop k at b))
+
+  pub request-within : (q : Request) → at + requestBytes ≤ e → q ≡ requestFrom (take (e - at) (drop at b)) 0 → q ≡ requestFrom b at
+  unfolding requestFrom
+  request-within q h g =
+      let z : at + 0 ≡ at = omega arith in
+      let kind : numberAt 4 (take (e - at) (drop at b)) 0 ≡ numberAt 4 b at = own-number 0 4 (omega arith) ∙ ap (numberAt 4 b) z in
+      let zone : numberAt 4 (take (e - at) (drop at b)) 4 ≡ numberAt 4 b (at + 4) = own-number 4 4 (omega arith) in
+      let v : numberAt 8 (take (e - at) (drop at b)) 8 ≡ numberAt 8 b (at + 8) = own-number 8 8 (omega arith) in
+      let p : numberAt 8 (take (e - at) (drop at b)) 16 ≡ numberAt 8 b (at + 16) = own-number 16 8 (omega arith) in
+      let size : numberAt 8 (take (e - at) (drop at b)) 24 ≡ numberAt 8 b (at + 24) = own-number 24 8 (omega arith) in
+      g ∙ (λ i. makeRequest (kind i) (zone i) (record { v = record { 0 = v i }; p = record { 0 = p i }; size = size i }))
 
 -- ---- a step leaves a table that is ready for the next
 module _ (c w u : List ℕ) (q : Request) (r : Ready c w) (e : u ≡ wordsOf (next limits (configIn c) (zonesIn w) q)) where

@@ -1,8 +1,8 @@
 -- Words as stored: packed words are exactly those that are tidy and within limits, and then the stored table is the one
 -- that readers find.
-use Prim.Native.Nat.{ℕ, suc, _+_, _-_, _*_, _≤_, _<_}
+use Prim.Native.Nat.{ℕ, _+_, _-_, _*_, _≤_, _<_}
 use native.Mathlib.Omega.{arith}
-use mathlib.Core.Bool.{Bool, true, false, not, _&&_, true≢false, and-true, Bool·not-not}
+use mathlib.Core.Bool.{Bool, true, false, not, _&&_, true≢false, and-true}
 use mathlib.Core.List.{List, [], _∷_, map}
 use mathlib.Core.Path.{_≡_, refl, sym, ap, ap₂, _∙_}
 use borrow.Author.Tests.{leb-true, not-true, not-false, le-leb}
@@ -15,70 +15,39 @@ use Rattle.lists.specs.Room.{room}
 use Rattle.lists.specs.Rules.{_when_, firstRule}
 use Rattle.lists.specs.Tests.{allOf}
 use Rattle.lists.specs.Words.{isZeroAt}
-use Rattle.lists.proofs.Every.{all-at, all-both, none-all, all-same, all-map}
-use Rattle.lists.proofs.Places.{getD-any, every-at, one-place, same-at, places-shift, places-add, every-block}
-use Rattle.lists.proofs.Places.{length-tab, getD-tab, take-tab, drop-tab, all-tab}
+use Rattle.lists.proofs.Every.{all-at, all-same, all-map}
+use Rattle.lists.proofs.Places.{getD-any, every-at, one-place, same-at, places-shift, every-block, length-tab, getD-tab}
+use Rattle.lists.proofs.Places.{take-tab, drop-tab, all-tab}
 use Rattle.lists.proofs.Room.{length-room, room-tab, room-take}
 use Rattle.lists.proofs.Rules.{rule-hit, rule-skip, rule-none}
 use Rattle.lists.proofs.Tests.{false-of, Holds, parts, all-miss, all-pass, all-last}
 use Rattle.lists.proofs.Words.{front}
 use Rattle.rules.specs.Configuration.{configOf, check, isSound, Configuration, StoredConfig}
 use Rattle.rules.specs.Limits.{mostZones, mostInSet, limits}
-use Rattle.rules.specs.Regions.{regionEq, noRegion, used}
+use Rattle.rules.specs.Regions.{noRegion, used}
 use Rattle.rules.specs.Requests.{standingRules, standing}
 use Rattle.rules.specs.Tables.{noZone, sideOf, noStored, setOf, zoneOf, tableOf, restZero, zeroSet, tidyZone, zeroZone}
 use Rattle.rules.specs.Tables.{tidy, soundSet, soundZone, sound, checkTable, StoredZone, StoredTable}
 use Rattle.rules.specs.declared.Checked.{Checked}
 use Rattle.rules.specs.declared.Checked.the-variants.{Sound}
-use Rattle.rules.specs.declared.Region.{Region}
 use Rattle.rules.specs.declared.Side.{Side}
 use Rattle.rules.specs.declared.Side.the-variants.{Cpu, Iommu}
 use Rattle.rules.proofs.Configuration.{sound-is, fault-unsound}
 use Rattle.zones.specs.Layout.{regionWords, setWords, zoneWords, zoneBase, setBase, recordBase}
 use Rattle.zones.specs.Packing.{zeros, setPacked, zonePacked, packed}
-use Rattle.zones.specs.Records.{regionAt, recordAt, recordsAt}
+use Rattle.zones.specs.Records.{recordAt, recordsAt}
 use Rattle.zones.specs.View.{storedSet, storedZone, storedTable, setIn, zoneIn, zonesIn}
 use Rattle.zones.specs.Words.{Within}
+use Rattle.zones.proofs.Blocks.{zeros-parts, free-zero}
 use Rattle.zones.proofs.Checking.{set-count}
 use Rattle.zones.proofs.Writers.{set-in}
 
 -- ---- zeros, record by record
-zero-record : (w : List ℕ) (k : ℕ) → zeros w k regionWords ≡ not (used (regionAt w k))
-unfolding all places regionEq regionAt allOf
-zero-record w k =
-    let e1 : suc k ≡ k + 1 = omega arith in
-    let e2 : suc (suc k) ≡ k + 2 = omega arith in
-    ap₂ (λ (i j : ℕ). isZeroAt w k && (isZeroAt w i && (isZeroAt w j && true))) e1 e2
-    ∙ sym (Bool·not-not (allOf (isZeroAt w k ∷ isZeroAt w (k + 1) ∷ isZeroAt w (k + 2) ∷ [])))
-
 module _ (w : List ℕ) (b : ℕ) where
-  -- the records from c on are zero exactly when their words are
-  free-zero : (c : ℕ) → c ≤ mostInSet
-      → not (any used (drop c (recordsAt w (b + 1) mostInSet)))
-      ≡ zeros w (recordBase b c) ((mostInSet - c) * regionWords)
-  unfolding recordsAt recordAt
-  free-zero c h =
-      let f : ℕ → Region = recordAt w (b + 1) in
-      let n : ℕ = mostInSet - c in
-      none-all used (drop c (tab mostInSet f))
-      ∙ ap (all (λ (r : Region). not (used r))) (drop-tab mostInSet c f h)
-      ∙ all-map f (λ (r : Region). not (used r)) (places c n)
-      ∙ places-shift (λ i. not (used (f i))) c n
-      ∙ all-same (λ i. not (used (f (c + i)))) (λ i. zeros w (recordBase b c + i * regionWords) regionWords) each
-      (places 0 n)
-      ∙ sym (every-block (isZeroAt w) regionWords (recordBase b c) n)
-    where
-      each : (i : ℕ)
-          → not (used (regionAt w (b + 1 + (c + i) * regionWords)))
-          ≡ zeros w (recordBase b c + i * regionWords) regionWords
-      each i =
-          let e : b + 1 + (c + i) * regionWords ≡ recordBase b c + i * regionWords = omega arith in
-          sym (zero-record w (b + 1 + (c + i) * regionWords)) ∙ ap (λ (k : ℕ). zeros w k regionWords) e
-
   rest-free : getD w b 0 ≤ mostInSet
       → restZero (storedSet w b) ≡ zeros w (recordBase b (getD w b 0)) ((mostInSet - getD w b 0) * regionWords)
   unfolding restZero storedSet
-  rest-free h = free-zero (getD w b 0) h
+  rest-free h = free-zero w (b + 1) mostInSet (getD w b 0) h
 
   -- a set that is all zero
   zero-set : zeroSet (storedSet w b) ≡ zeros w b setWords
@@ -86,10 +55,9 @@ module _ (w : List ℕ) (b : ℕ) where
   zero-set =
       let none : not (any used (recordsAt w (b + 1) mostInSet)) ≡ zeros w (b + 1) (mostInSet * regionWords) =
       (let z : recordBase b 0 ≡ b + 1 = omega arith in
-      free-zero 0 (omega arith) ∙ ap (λ (k : ℕ). zeros w k (mostInSet * regionWords)) z) in
+      free-zero w (b + 1) mostInSet 0 (omega arith) ∙ ap (λ (k : ℕ). zeros w k (mostInSet * regionWords)) z) in
       let one : zeros w b setWords ≡ (zeros w b 1 && zeros w (b + 1) (mostInSet * regionWords)) =
-      ap (all (isZeroAt w)) (places-add b 1 (mostInSet * regionWords))
-      ∙ all-both (isZeroAt w) (places b 1) (places (b + 1) (mostInSet * regionWords)) in
+      zeros-parts w b 1 (mostInSet * regionWords) in
       ap (λ (t : Bool). isZeroAt w b && (t && true)) none
       ∙ by (isZeroAt w b) (zeros w (b + 1) (mostInSet * regionWords))
       ∙ sym (one ∙ ap (λ (t : Bool). t && zeros w (b + 1) (mostInSet * regionWords)) first)
@@ -118,10 +86,8 @@ module _ (w : List ℕ) (z : ℕ) where
       let b : ℕ = zoneBase z in
       let split : zeros w b zoneWords ≡ (zeros w b 1
       && (zeros w (b + 1) setWords && zeros w (b + 1 + setWords) setWords)) =
-      ap (all (isZeroAt w)) (places-add b 1 (setWords + setWords))
-      ∙ all-both (isZeroAt w) (places b 1) (places (b + 1) (setWords + setWords))
-      ∙ ap (λ (t : Bool). zeros w b 1 && t) (ap (all (isZeroAt w)) (places-add (b + 1) setWords setWords)
-      ∙ all-both (isZeroAt w) (places (b + 1) setWords) (places (b + 1 + setWords) setWords)) in
+      zeros-parts w b 1 (setWords + setWords)
+      ∙ ap (λ (t : Bool). zeros w b 1 && t) (zeros-parts w (b + 1) setWords setWords) in
       ap₂ (λ (x y : Bool). isZeroAt w b && (x && (y && true)))
       (zero-set w (setBase z Cpu) ∙ ap (λ (k : ℕ). zeros w k setWords) cpu-base)
       (zero-set w (setBase z Iommu) ∙ ap (λ (k : ℕ). zeros w k setWords) iommu-base)

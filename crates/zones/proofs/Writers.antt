@@ -17,11 +17,12 @@ use Rattle.rules.specs.Tables.{noZone, sideOf, Zone}
 use Rattle.rules.specs.declared.Region.{Region}
 use Rattle.rules.specs.declared.Side.{Side}
 use Rattle.rules.specs.declared.Side.the-variants.{Cpu, Iommu}
-use Rattle.zones.specs.Layout.{regionWords, setWords, zoneWords, zoneBase, tableWords, setBase}
+use Rattle.zones.specs.Layout.{regionWords, zoneWords, zoneBase, tableWords, setBase}
 use Rattle.zones.specs.Records.{wordsOfRegion}
 use Rattle.zones.specs.View.{setIn, zoneIn, zonesIn}
 use Rattle.zones.specs.Words.{wordsOfSet, wordsOfZone, wordsOf, Packed}
 use Rattle.zones.proofs.Focus.{zone-wide, table-wide, zero-zone, pre, post, pre-long, focus, focus-same}
+use Rattle.zones.proofs.Free.{closed-used}
 use Rattle.zones.proofs.Records.{region-wide, zero-region}
 
 pub packed-long : (w : List ℕ) → Packed w → length w ≡ tableWords
@@ -66,14 +67,17 @@ module _ (w u : List ℕ) (p : Packed w) (z : ℕ) (h : z < length (zonesIn w)) 
       (setAt m z s) r (omega (arith, count))
       ∙ sym (focus m z s h (p .within .zones) (setAt m z s ++ r ∷ []))
 
-  pub cut-words : (i : ℕ) → i < length (setIn w z s) → u ≡ closed w (b + 1 + i * regionWords) regionWords (b + setWords)
+  pub cut-words : (i : ℕ) → i < length (setIn w z s)
+      → u ≡ closed w (b + 1 + i * regionWords) regionWords (b + 1 + n * regionWords)
       → set u b (n - 1) ≡ wordsOf (cut z s i (zonesIn w))
   unfolding m cut wordsOfSet
   cut-words i k e =
-      let f : b + setWords ≡ b + 1 + mostInSet * regionWords = omega arith in
-      ap (λ (l : List ℕ). set l b (n - 1)) (e ∙ ap (closed w (b + 1 + i * regionWords) regionWords) f)
-      ∙ ap₂ (λ (l : List ℕ) (c : ℕ). set (closed l (b + 1 + i * regionWords) regionWords
-      (b + 1 + mostInSet * regionWords)) b (c - 1)) around count
+      ap (λ (l : List ℕ). set l b (n - 1)) e
+      ∙ ap₂ (λ (l : List ℕ) (c : ℕ). set (closed l (b + 1 + i * regionWords) regionWords (b + 1 + c * regionWords)) b
+      (c - 1)) around count
+      ∙ ap (λ (l : List ℕ). set l b (length (setAt m z s) - 1))
+      (closed-used mostInSet noRegion wordsOfRegion regionWords region-wide zero-region (setAt m z s)
+      (p .within .sets z s h) (pre m z s) (post m z s) b long (b + 1 + i * regionWords) (omega (arith, count)))
       ∙ cut-counted mostInSet noRegion wordsOfRegion regionWords region-wide (pre m z s) (post m z s) b long
       (setAt m z s) i (omega (arith, count)) (p .within .sets z s h) zero-region
       ∙ sym (focus m z s h (p .within .zones) (removeAt i (setAt m z s)))
@@ -90,14 +94,17 @@ unfolding wordsOf
 whole m = sym (append-nil (counted mostZones noZone wordsOfZone m))
 
 module _ (w u : List ℕ) (p : Packed w) (n : ℕ) (en : n ≡ length (zonesIn w)) where
-  pub remove-words : (z b : ℕ) → b ≡ zoneBase z → z < length (zonesIn w) → u ≡ closed w b zoneWords tableWords
+  pub remove-words : (z b k : ℕ) → b ≡ zoneBase z → k ≡ zoneBase n → z < length (zonesIn w) → u ≡ closed w b zoneWords k
       → set u 0 (n - 1) ≡ wordsOf (dropped z (zonesIn w))
   unfolding dropped
-  remove-words z b q h e =
+  remove-words z b k q r h e =
       let m : List Zone = zonesIn w in
-      ap (λ (l : List ℕ). set l 0 (n - 1)) (e ∙ ap (λ (k : ℕ). closed w k zoneWords tableWords) q)
-      ∙ ap₂ (λ (l : List ℕ) (c : ℕ). set (closed l (1 + z * zoneWords) zoneWords tableWords) 0 (c - 1))
+      ap (λ (l : List ℕ). set l 0 (n - 1)) (e ∙ ap₂ (λ (i j : ℕ). closed w i zoneWords j) q r)
+      ∙ ap₂ (λ (l : List ℕ) (c : ℕ). set (closed l (zoneBase z) zoneWords (zoneBase c)) 0 (c - 1))
       (p .words ∙ whole m) en
+      ∙ ap (λ (l : List ℕ). set l 0 (length m - 1))
+      (closed-used mostZones noZone wordsOfZone zoneWords zone-wide zero-zone m (p .within .zones) [] [] 0 refl
+      (zoneBase z) (omega arith))
       ∙ cut-counted mostZones noZone wordsOfZone zoneWords zone-wide [] [] 0 refl m z h (p .within .zones) zero-zone
       ∙ sym (whole (removeAt z m))
 
@@ -119,9 +126,9 @@ module _ (w u : List ℕ) (p : Packed w) (n : ℕ) (en : n ≡ length (zonesIn w
       ∙ fill-free mostZones noZone wordsOfZone zoneWords zone-wide [] [] 0 refl m y h
       ∙ sym (whole (m ++ y ∷ []))
 
--- a set of a zone that is there is within limits
-pub set-within : (w : List ℕ) (z i : ℕ) (s : Side) → Packed w → z < length (zonesIn w) → i < length (setIn w z s)
-    → i < mostInSet
-set-within w z i s p h k =
-    let q : length (setIn w z s) ≤ mostInSet = rw (set-in w z s h) at (p .within .sets z s h) in
-    omega arith
+-- the zones that are there end within the words; a set of one of them is within limits
+pub zones-fit : (w : List ℕ) (n k : ℕ) → Packed w → n ≡ length (zonesIn w) → k ≡ zoneBase n → k ≤ length w
+zones-fit w n k p en ek = let few : length (zonesIn w) ≤ mostZones = p .within .zones in omega (arith, packed-long w p)
+
+pub set-few : (w : List ℕ) (z : ℕ) (s : Side) → Packed w → z < length (zonesIn w) → length (setIn w z s) ≤ mostInSet
+set-few w z s p h = rw (set-in w z s h) at (p .within .sets z s h)

@@ -2,9 +2,9 @@
 use Prim.Native.Nat.{ℕ, _≤_, _<_}
 use mathlib.Core.List.{List, _∷_, _++_, flatMap}
 use mathlib.Core.Path.{_≡_}
-use lib.ListN.{length}
+use lib.ListN.{length, getD}
 use Rattle.lists.specs.Room.{room}
-use Rattle.lists.specs.Words.{counted}
+use Rattle.lists.specs.Words.{counted, cleared}
 use Rattle.rules.specs.declared.Region.{Region}
 use Rattle.rules.specs.declared.Side.{Side}
 use Rattle.rules.specs.Configuration.{Configuration}
@@ -12,6 +12,7 @@ use Rattle.rules.specs.Limits.{mostRegions, mostZones, mostInSet}
 use Rattle.rules.specs.Regions.{noRegion}
 use Rattle.rules.specs.Tables.{Zone, noZone}
 use Rattle.rules.specs.Changes.{setAt}
+use Rattle.zones.specs.Layout.{zoneStart}
 use Rattle.zones.specs.Records.{wordsOfRegion}
 use Rattle.zones.specs.View.{zonesIn}
 
@@ -37,3 +38,7 @@ pub record Within (t : List Zone) : Type 0 where
 pub record Packed (w : List ℕ) : Type 0 where
   pub within : Within (zonesIn w)
   pub words : w ≡ wordsOf (zonesIn w)
+
+-- the words with zeros up to where the unused zones begin
+unfoldable pub emptied : List ℕ → List ℕ
+emptied w = cleared w 0 (zoneStart (getD w 0 0))

@@ -8,6 +8,7 @@ use crate::words::By;
 use crate::words::find_record;
 use crate::words::is_used;
 use crate::words::read_region;
+use crate::words::zeros_in;
 use region::in_reach;
 use region::well_formed;
 use rules::Checked;
@@ -107,9 +108,8 @@ pub fn check_words(c: &[u64; CONFIG_WORDS]) -> Checked
     if c[CONFIG_COUNT] <= c[CONFIG_GIC] {
         return Checked::BadGic;
     }
-    let k = first_used(c, count);
-    if k < MOST_REGIONS {
-        return Checked::NotZero(k);
+    if !zeros_in(c, CONFIG_RECORDS + count * REGION_WORDS, CONFIG_WORDS) {
+        return Checked::NotZero(first_used(c, count));
     }
     check_positions(c, count)
 }

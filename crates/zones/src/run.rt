@@ -2,8 +2,8 @@
 use crate::layout::CONFIG_WORDS;
 use crate::layout::TABLE_WORDS;
 use crate::sound::standing;
-use crate::steps::count_words;
 use crate::steps::step_ready;
+use crate::words::count_words;
 use crate::words::is_used;
 use fields::u32_at;
 use fields::u64_at;
@@ -77,11 +77,20 @@ fn request_at(s: &[u8], i: usize) -> Request
     ensures { λ q. ⌜ q ≡ requestFrom (now (s .entry)) (i * requestBytes) ⌝ }
 {
     let at = i * REQUEST_BYTES;
-    let kind = u32_at(s, at);
-    let zone = u32_at(s, at + 4);
-    let v = u64_at(s, at + 8);
-    let p = u64_at(s, at + 16);
-    let size = u64_at(s, at + 24);
+    let end = at + REQUEST_BYTES;
+    read_request(&s[at..end])
+}
+
+// The request that the first bytes are. It is lent a request's own bytes, whose number the compiler then knows: no field is asked
+// whether it is there.
+fn read_request(s: &[u8]) -> Request
+    ensures { λ q. ⌜ q ≡ requestFrom (now (s .entry)) 0 ⌝ }
+{
+    let kind = u32_at(s, 0);
+    let zone = u32_at(s, 4);
+    let v = u64_at(s, 8);
+    let p = u64_at(s, 16);
+    let size = u64_at(s, 24);
     let region = Region {
         v: Guest(v),
         p: Phys(p),

@@ -7,9 +7,9 @@ use crate::layout::CONFIG_WORDS;
 use crate::layout::TABLE_WORDS;
 use crate::sound::standing;
 use crate::table::Table;
+use crate::words::count_words;
 use rules::Request;
 ghost use mathlib.Core.Path.{_≡_};
-ghost use lib.ListN.{length};
 ghost use Rattle.rules.specs.Limits.{limits};
 ghost use Rattle.rules.specs.Requests.{refusal, next};
 ghost use Rattle.zones.specs.Decide.{Ready};
@@ -45,14 +45,6 @@ pub fn step_in(c: &[u64; CONFIG_WORDS], t: &mut [u64; TABLE_WORDS], q: Request) 
     }
     let width = count_words(t);
     step_ready(c, t, q)
-}
-
-// The number of lent words. An array behind `&mut` does not tell the proof its length, and one that is lent as a slice does; so who goes
-// on to write asks once. The compiler knows the answer, so nothing is counted.
-pub fn count_words(s: &[u64]) -> usize
-    ensures { λ n. ⌜ n ≡ length (now (s .entry)) ⌝ }
-{
-    s.len()
 }
 
 // One request at a sound table, whose soundness is known and not looked for again.

@@ -4,7 +4,9 @@ use crate::layout::SET_WORDS;
 use crate::layout::TABLE_WORDS;
 use crate::layout::ZONE_WORDS;
 use crate::words::By;
+use crate::words::clear;
 use crate::words::close_gap;
+use crate::words::count_words;
 use crate::words::find_record;
 use crate::words::read_region;
 use crate::words::write_region;
@@ -25,7 +27,7 @@ ghost use Rattle.zones.specs.Layout.{setWords, tableWords, zoneBase, zon
 ghost use Rattle.zones.specs.Alike.{alikeBy};
 ghost use Rattle.zones.specs.Packing.{setPacked, zonePacked, packed};
 ghost use Rattle.zones.specs.View.{recordIn, setIn, zoneIn, zonesIn};
-ghost use Rattle.zones.specs.Words.{wordsOf, Packed};
+ghost use Rattle.zones.specs.Words.{wordsOf, emptied, Packed};
 
 #[repr(C)]
 pub struct Table {
@@ -138,7 +140,12 @@ pub fn cut_region(t: &mut [u64; TABLE_WORDS], z: usize, side: Side, i: usize)
 {
     let b = set_base(z, side);
     let n = set_len(t, z, side);
-    close_gap(t, b + 1 + i * REGION_WORDS, REGION_WORDS, b + SET_WORDS);
+    close_gap(
+        t,
+        b + 1 + i * REGION_WORDS,
+        REGION_WORDS,
+        b + 1 + n * REGION_WORDS,
+    );
     t[b] = n as u64 - 1;
 }
 
@@ -156,8 +163,17 @@ pub fn remove_zone(t: &mut [u64; TABLE_WORDS], z: usize)
     ensures { λ r. ⌜ now (t .exit) ≡ wordsOf (dropped z (zonesIn (now (t .entry)))) ⌝ }
 {
     let n = zone_count(t);
-    close_gap(t, zone_base(z), ZONE_WORDS, TABLE_WORDS);
+    close_gap(t, zone_base(z), ZONE_WORDS, zone_base(n));
     t[0] = n as u64 - 1;
+}
+
+// The words of the zones that are there, with their count, are zero: packed words become those of a table without zones.
+pub fn clear_zones(t: &mut [u64; TABLE_WORDS])
+    ensures { λ r. ⌜ now (t .exit) ≡ emptied (now (t .entry)) ⌝ }
+{
+    let width = count_words(t);
+    let n = zone_count(t);
+    clear(t, 0, zone_start(n));
 }
 
 // ---- the check of the words

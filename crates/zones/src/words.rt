@@ -99,19 +99,44 @@ pub fn put_region(s: &mut [u64], k: usize, r: Region)
     write_region(s, k, r);
 }
 
-// Whether the words from a up to e are zero.
+// The number of lent words. An array behind `&mut` does not tell the proof its length, and one that is lent as a slice does; so who goes
+// on to write asks once. The compiler knows the answer, so nothing is counted.
+pub fn count_words(s: &[u64]) -> usize
+    ensures { λ n. ⌜ n ≡ length (now (s .entry)) ⌝ }
+{
+    s.len()
+}
+
+// The words that are looked at together: enough that the compiler reads several at once and goes on without a branch for each.
+const BLOCK: usize = 16;
+
+// Whether the words from a up to e are zero: block by block, then those that are left.
 pub fn zeros_in(s: &[u64], a: usize, e: usize) -> bool
     requires { ⌜ (a ≤ e) × (e ≤ length (now s)) ⌝ }
     ensures { λ r. ⌜ r ≡ zeros (now (s .entry)) a (e - a) ⌝ }
 {
     let mut k = a;
-    while k < e {
-        if s[k] != 0 {
+    while BLOCK <= e - k {
+        if bits_in(s, k, BLOCK) != 0 {
             return false;
         }
-        k += 1;
+        k += BLOCK;
     }
-    true
+    bits_in(s, k, e - k) == 0
+}
+
+// The bits that are set in any of the n words from k on.
+fn bits_in(s: &[u64], k: usize, n: usize) -> u64
+    requires { ⌜ k + n ≤ length (now s) ⌝ }
+    ensures { λ x. ⌜ eqb x 0 ≡ zeros (now (s .entry)) k n ⌝ }
+{
+    let mut x: u64 = 0;
+    let mut i = 0;
+    while i < n {
+        x = x | s[k + i];
+        i += 1;
+    }
+    x
 }
 
 // Whether two stretches of words are the same, word by word.
@@ -147,7 +172,7 @@ fn move_down(s: &mut [u64], at: usize, width: usize, end: usize)
 }
 
 // The words from at up to end are zero.
-fn clear(s: &mut [u64], at: usize, end: usize)
+pub fn clear(s: &mut [u64], at: usize, end: usize)
     requires { ⌜ (at ≤ end) × (end ≤ length (now s)) ⌝ }
     ensures { λ r. ⌜ now (s .exit) ≡ cleared (now (s .entry)) at end ⌝ }
 {

@@ -4,172 +4,352 @@
 use std::hint::black_box;
 
 use ordinary::limits::{MAX_REGIONS, MAX_REQUESTS, MAX_ZONES, PAGE};
-use ordinary::{encode, Record, Zone};
+use ordinary::{encode, Guest, PlanRefusal, Record, Region, Side, Zone};
+use peatmitten::raw;
 
-/// One job, done by the library and by the ordinary implementation. Both stop the program if the answer is not the expected one.
-pub struct Job {
-    pub name: String,
-    pub library: Box<dyn FnMut()>,
-    pub ordinary: Box<dyn FnMut()>,
+use crate::fixed::{self, Answer};
+
+/// Who does a job.
+#[derive(Clone, Copy, Debug, PartialEq, Eq)]
+pub enum Worker {
+    Library,
+    /// `rust/ordinary`, whose vectors grow.
+    Vectors,
+    /// `fixed`, on the library's own memory.
+    Fixed,
 }
 
-/// A terminal in both forms.
+impl Worker {
+    pub const ALL: [Worker; 3] = [Worker::Library, Worker::Vectors, Worker::Fixed];
+}
+
+type Work = Box<dyn FnMut() -> Answer>;
+
+/// One job as each worker does it once, and what each must answer.
+pub struct Job {
+    pub name: String,
+    answer: Answer,
+    library: Work,
+    vectors: Work,
+    fixed: Work,
+}
+
+impl Job {
+    /// Does the job so often. Stops the program if an answer is not the expected one.
+    pub fn work(&mut self, worker: Worker, times: u32) {
+        let work = match worker {
+            Worker::Library => &mut self.library,
+            Worker::Vectors => &mut self.vectors,
+            Worker::Fixed => &mut self.fixed,
+        };
+        for _ in 0..times {
+            assert_eq!(work(), self.answer, "{worker:?}: {}", self.name);
+        }
+    }
+}
+
+/// A terminal as each worker keeps it.
+#[derive(Clone)]
 struct Terminal {
-    library: peatmitten::State,
-    ordinary: ordinary::State,
+    library: Box<peatmitten::State>,
+    vectors: Box<ordinary::State>,
+    fixed: Box<fixed::State>,
 }
 
 impl Terminal {
-    /// So many configured regions of a page, the last of them the GIC's, dealt out to so many zones: each region in both sets of
-    /// its zone, and the GIC in every IOMMU set.
+    /// So many configured regions of a page, the last of them the GIC's, dealt out to so many zones.
     fn new(regions: usize, zones: usize) -> Terminal {
-        let config = pages(regions);
+        Terminal::with(pages(regions), zones)
+    }
+
+    /// Each region in both sets of its zone, and the GIC's first in every IOMMU set.
+    fn with(config: ordinary::Config, zones: usize) -> Terminal {
         let gic = config.regions[config.gic];
-        let share = (regions - 1).div_ceil(zones);
-        let zones = config.regions[..regions - 1].chunks(share).zip(0..);
-        let zones = zones.map(|(own, id)| Zone { id, cpu: own.to_vec(), iommu: [own, &[gic]].concat() }).collect();
+        let own: Vec<Region> = config.regions.iter().copied().filter(|region| *region != gic).collect();
+        let shares = own.chunks(own.len().div_ceil(zones)).zip(0..);
+        let zones = shares.map(|(own, id)| Zone { id, cpu: own.to_vec(), iommu: [&[gic], own].concat() }).collect();
         Terminal::from(ordinary::State { config, table: ordinary::Table { zones }, edition: 0 })
     }
 
     fn from(state: ordinary::State) -> Terminal {
-        let config = peatmitten::Config::from_words(state.config.to_words());
-        let table = peatmitten::Table::from_words(state.table.to_words());
-        Terminal { library: peatmitten::State { config, table, edition: state.edition }, ordinary: state }
+        let (config, table) = (state.config.to_words(), state.table.to_words());
+        let fixed = fixed::State::from_words(&config, &table, state.edition);
+        let library = peatmitten::State {
+            config: peatmitten::Config::from_words(config),
+            table: peatmitten::Table::from_words(table),
+            edition: state.edition,
+        };
+        Terminal { library: Box::new(library), vectors: Box::new(state), fixed }
     }
 
-    /// The region that stands last in the last zone's CPU set: taken away and given back it stands there again.
-    fn last_held(&self) -> (u32, ordinary::Region) {
-        let zone = self.ordinary.table.zones.last().expect("a zone");
-        (zone.id, *zone.cpu.last().expect("a region"))
+    fn zones(&self) -> &[Zone] {
+        &self.vectors.table.zones
     }
 }
 
 fn pages(count: usize) -> ordinary::Config {
-    let page = |number: u64| ordinary::Region::new(number * PAGE, number * PAGE, PAGE);
+    let page = |number: u64| Region::new(number * PAGE, number * PAGE, PAGE);
     ordinary::Config { regions: (1..=count as u64).map(page).collect(), gic: count - 1 }
 }
 
-/// The region taken away and given back, over and over.
-fn removals_and_inserts(terminal: &Terminal, count: usize) -> Vec<Record> {
-    let (zone, region) = terminal.last_held();
-    [4, 3].into_iter().cycle().take(count).map(|kind| Record { kind, zone, region }).collect()
+/// The same pages in no order: the steps have no common divisor with the count, which is a power of two.
+fn scattered_pages(count: usize) -> ordinary::Config {
+    let config = pages(count);
+    let regions = (0..count).map(|place| config.regions[place * 37 % count]).collect();
+    ordinary::Config { regions, ..config }
 }
 
-fn library_request(record: &Record) -> peatmitten::Request {
-    let ordinary::Region { v, p, size } = record.region;
-    peatmitten::Request::from_numbers(record.kind, record.zone, peatmitten::Region::new(v.0, p.0, size))
+/// The region that stands last in a set of a zone: taken away and given back it stands there again.
+fn last(zone: &Zone, side: Side) -> Region {
+    let set = match side {
+        Side::Cpu => &zone.cpu,
+        Side::Iommu => &zone.iommu,
+    };
+    *set.last().expect("a region")
+}
+
+/// The last region of the last zone taken away and given back, over and over.
+fn one_region(terminal: &Terminal, count: usize) -> Vec<Record> {
+    let zone = terminal.zones().last().expect("a zone");
+    let region = last(zone, Side::Cpu);
+    [4, 3].into_iter().cycle().take(count).map(|kind| Record { kind, zone: zone.id, region }).collect()
+}
+
+/// In one zone after another, the last region of each set taken away and given back.
+fn all_zones(terminal: &Terminal, count: usize) -> Vec<Record> {
+    let of_zone = |zone: &Zone| {
+        let record = |kind: u32, side: Side| Record { kind, zone: zone.id, region: last(zone, side) };
+        [record(4, Side::Cpu), record(6, Side::Iommu), record(3, Side::Cpu), record(5, Side::Iommu)]
+    };
+    terminal.zones().iter().flat_map(of_zone).cycle().take(count).collect()
+}
+
+fn plan_answer(applied: Result<usize, PlanRefusal>) -> Answer {
+    match applied {
+        Ok(count) => (0, [count as u64, 0]),
+        Err(refusal) => {
+            let (place, inner) = refusal.found();
+            (refusal.number(), [place as u64, inner.into()])
+        }
+    }
 }
 
 /// The whole job of a terminal that a plan comes to: its own state checked, the plan read and compared, its requests run.
-fn apply(name: &str, regions: usize, zones: usize, requests: usize) -> Job {
-    let Terminal { mut library, mut ordinary } = Terminal::new(regions, zones);
-    let plan = encode(&ordinary, &removals_and_inserts(&Terminal::new(regions, zones), requests));
-    let other_plan = plan.clone();
+fn apply(name: &str, terminal: Terminal, plan: Vec<u8>, answer: Answer) -> Job {
+    let name = format!("{name} ({} bytes)", plan.len());
+    let Terminal { mut library, mut vectors, mut fixed } = terminal;
+    let edition = vectors.edition;
+    let plans = [plan.clone(), plan.clone(), plan];
+    let [to_library, to_vectors, to_fixed] = plans;
     Job {
-        name: format!("{name} ({} bytes, {requests} requests)", plan.len()),
+        name,
+        answer,
         library: Box::new(move || {
-            library.edition = 0;
-            assert_eq!(library.apply(black_box(&plan)), Ok(requests as u64));
+            library.edition = edition;
+            raw::apply(black_box(&mut library), black_box(&to_library))
         }),
-        ordinary: Box::new(move || {
-            ordinary.edition = 0;
-            assert_eq!(ordinary.apply(black_box(&other_plan)), Ok(requests));
+        vectors: Box::new(move || {
+            vectors.edition = edition;
+            plan_answer(black_box(&mut vectors).apply(black_box(&to_vectors)))
+        }),
+        fixed: Box::new(move || {
+            fixed.edition = edition;
+            black_box(&mut fixed).apply(black_box(&to_fixed))
         }),
     }
+}
+
+fn accepted(name: &str, terminal: Terminal, requests: &[Record]) -> Job {
+    let plan = encode(&terminal.vectors, requests);
+    apply(&format!("{name}: {} requests", requests.len()), terminal, plan, (0, [requests.len() as u64, 0]))
+}
+
+/// A plan whose last request is none: all others are undone.
+fn refused_at_last(name: &str, terminal: Terminal, mut requests: Vec<Record>) -> Job {
+    let index = requests.len() - 1;
+    requests[index].kind = 9;
+    let plan = encode(&terminal.vectors, &requests);
+    apply(&format!("27 at the last request, {name}: {} requests", requests.len()), terminal, plan, (27, [index as u64, 3]))
 }
 
 /// A plan that came before: refused by its edition.
-fn repeated(regions: usize, zones: usize, requests: usize) -> Job {
-    let terminal = Terminal::new(regions, zones);
-    let plan = encode(&terminal.ordinary, &removals_and_inserts(&terminal, requests));
-    let other_plan = plan.clone();
-    let Terminal { mut library, mut ordinary } = terminal;
-    library.edition = 1;
-    ordinary.edition = 1;
-    Job {
-        name: format!("a repeated plan ({} bytes)", plan.len()),
-        library: Box::new(move || {
-            assert_eq!(library.apply(black_box(&plan)), Err(peatmitten::PlanRefusal::OtherEdition));
-        }),
-        ordinary: Box::new(move || {
-            assert_eq!(ordinary.apply(black_box(&other_plan)), Err(ordinary::PlanRefusal::OtherEdition));
-        }),
-    }
+fn repeated(name: &str, mut terminal: Terminal, requests: &[Record]) -> Job {
+    let plan = encode(&terminal.vectors, requests);
+    terminal.vectors.edition = 1;
+    apply(&format!("24, a repeated plan, {name}"), Terminal::from(*terminal.vectors), plan, (24, [0, 0]))
+}
+
+/// A plan whose base has one region more, in the set that stands last.
+fn for_other_zones(name: &str, mut terminal: Terminal, requests: &[Record]) -> Job {
+    let plan = encode(&terminal.vectors, requests);
+    terminal.vectors.table.zones.last_mut().expect("a zone").iommu.pop();
+    apply(&format!("26, a plan for other zones, {name}"), Terminal::from(*terminal.vectors), plan, (26, [0, 0]))
 }
 
 /// Two requests from outside, each of which checks the configuration and the table.
-fn two_requests(regions: usize, zones: usize) -> Job {
-    let terminal = Terminal::new(regions, zones);
-    let records = removals_and_inserts(&terminal, 2);
-    let requests: Vec<peatmitten::Request> = records.iter().map(library_request).collect();
-    let Terminal { mut library, mut ordinary } = terminal;
+fn two_requests(name: &str, terminal: Terminal) -> Job {
+    let records = one_region(&terminal, 2);
+    let numbers: Vec<_> = records.iter().map(|record| (record.kind, record.zone, numbers_of(&record.region))).collect();
+    let requests: Vec<_> = records.iter().map(fixed_request).collect();
+    let Terminal { mut library, mut vectors, mut fixed } = terminal;
     Job {
-        name: format!("two requests from outside, {regions} regions"),
+        name: format!("two requests from outside, {name}"),
+        answer: (0, [0, 0]),
         library: Box::new(move || {
-            for request in &requests {
-                assert_eq!(library.table.request(&library.config, *black_box(request)), Ok(()));
+            let state = black_box(&mut *library);
+            let answers = black_box(&numbers)
+                .iter()
+                .map(|&(kind, zone, region)| raw::request(&state.config, &mut state.table, kind, zone, region));
+            (answers.sum(), [0, 0])
+        }),
+        vectors: Box::new(move || {
+            let state = black_box(&mut *vectors);
+            let answers = black_box(&records).iter().map(|record| match state.table.request(&state.config, record) {
+                Ok(()) => 0,
+                Err(refusal) => refusal.number(),
+            });
+            (answers.sum(), [0, 0])
+        }),
+        fixed: Box::new(move || {
+            let state = black_box(&mut *fixed);
+            let answers = black_box(&requests).iter().map(|request| state.table.request(&state.config, request).err().unwrap_or(0));
+            (answers.sum(), [0, 0])
+        }),
+    }
+}
+
+fn numbers_of(region: &Region) -> [u64; 3] {
+    [region.v.0, region.p.0, region.size]
+}
+
+fn fixed_request(record: &Record) -> fixed::Request {
+    let [v, p, size] = numbers_of(&record.region);
+    fixed::Request { kind: record.kind, zone: record.zone, region: fixed::Region { v, p, size } }
+}
+
+fn check_config(name: &str, config: ordinary::Config) -> Job {
+    let Terminal { library, vectors, fixed } = Terminal::with(config, 1);
+    Job {
+        name: format!("configuration check, {name}"),
+        answer: (0, [0, 0]),
+        library: Box::new(move || raw::check_config(&black_box(&library).config)),
+        vectors: Box::new(move || match black_box(&vectors).config.check() {
+            Ok(()) => (0, [0, 0]),
+            Err(fault) => (fault.number(), fault.places().map(|place| place as u64)),
+        }),
+        fixed: Box::new(move || black_box(&fixed).config.check().err().unwrap_or((0, [0, 0]))),
+    }
+}
+
+/// Configuration and table, as the library's table check has it.
+fn check_table(name: &str, terminal: Terminal) -> Job {
+    let Terminal { library, vectors, fixed } = terminal;
+    Job {
+        name: format!("table check, {name}"),
+        answer: (1, [0, 0]),
+        library: Box::new(move || {
+            let state = black_box(&*library);
+            (raw::check_table(&state.config, &state.table), [0, 0])
+        }),
+        vectors: Box::new(move || {
+            let state = black_box(&*vectors);
+            (state.table.is_sound(&state.config).into(), [0, 0])
+        }),
+        fixed: Box::new(move || {
+            let state = black_box(&*fixed);
+            (state.table.check(&state.config).is_ok().into(), [0, 0])
+        }),
+    }
+}
+
+fn translate(name: &str, terminal: Terminal) -> Job {
+    let zone = terminal.zones().last().expect("a zone");
+    let (id, region) = (zone.id, last(zone, Side::Cpu));
+    let address = region.v.0 + 5;
+    let Terminal { library, vectors, fixed } = terminal;
+    Job {
+        name: format!("translation, {name}"),
+        answer: (0, [region.p.0 + 5, 0]),
+        library: Box::new(move || {
+            let state = black_box(&*library);
+            let (number, physical) = raw::translate(&state.config, &state.table, id, 0, black_box(address));
+            (number, [physical, 0])
+        }),
+        vectors: Box::new(move || {
+            let state = black_box(&*vectors);
+            match state.table.translate(&state.config, id, Side::Cpu, Guest(black_box(address))) {
+                Ok(physical) => (0, [physical.0, 0]),
+                Err(refusal) => (refusal.number(), [0, 0]),
             }
         }),
-        ordinary: Box::new(move || {
-            for record in &records {
-                assert_eq!(ordinary.table.request(&ordinary.config, black_box(record)), Ok(()));
+        fixed: Box::new(move || {
+            let state = black_box(&*fixed);
+            match state.table.translate(&state.config, id, fixed::Side::Cpu, black_box(address)) {
+                Ok(physical) => (0, [physical, 0]),
+                Err(number) => (number, [0, 0]),
             }
         }),
     }
 }
 
-fn check_config(regions: usize) -> Job {
-    let Terminal { library, ordinary } = Terminal::new(regions, MAX_ZONES);
+/// A plan read and not applied.
+fn read(name: &str, terminal: Terminal, requests: &[Record]) -> Job {
+    let plan = encode(&terminal.vectors, requests);
+    let requests_at = plan.len() - requests.len() * ordinary::layout::REQUEST_BYTES;
+    let plans = [plan.clone(), plan.clone(), plan];
+    let [to_library, to_vectors, to_fixed] = plans;
     Job {
-        name: format!("configuration check, {regions} regions"),
-        library: Box::new(move || assert_eq!(black_box(&library.config).check(), Ok(()))),
-        ordinary: Box::new(move || assert_eq!(black_box(&ordinary.config).check(), Ok(()))),
-    }
-}
-
-fn check_table(regions: usize, zones: usize) -> Job {
-    let Terminal { library, ordinary } = Terminal::new(regions, zones);
-    Job {
-        name: format!("table check, {regions} regions, {zones} zones"),
-        library: Box::new(move || assert!(black_box(&library.table).is_sound(&library.config))),
-        ordinary: Box::new(move || assert!(black_box(&ordinary.table).is_sound(&ordinary.config))),
-    }
-}
-
-fn translate(regions: usize, zones: usize) -> Job {
-    let terminal = Terminal::new(regions, zones);
-    let (zone, region) = terminal.last_held();
-    let (address, physical) = (region.v.0 + 5, region.p.0 + 5);
-    let Terminal { library, ordinary } = terminal;
-    Job {
-        name: format!("translation, {regions} regions"),
+        name: format!("a plan read, {name} ({} bytes)", to_library.len()),
+        answer: (0, [requests_at as u64, 0]),
         library: Box::new(move || {
-            let guest = peatmitten::Guest(black_box(address));
-            let answer = library.table.translate(&library.config, zone, peatmitten::Side::Cpu, guest);
-            assert_eq!(answer, Ok(peatmitten::Physical(physical)));
+            let (number, place) = raw::read(black_box(&to_library));
+            (number, [place, 0])
         }),
-        ordinary: Box::new(move || {
-            let guest = ordinary::Guest(black_box(address));
-            let answer = ordinary.table.translate(&ordinary.config, zone, ordinary::Side::Cpu, guest);
-            assert_eq!(answer, Ok(ordinary::Phys(physical)));
+        vectors: Box::new(move || match ordinary::Plan::read(black_box(&to_vectors)) {
+            Ok(plan) => (0, [plan.requests_at as u64, 0]),
+            Err(fault) => (fault.number(), [fault.offset() as u64, 0]),
+        }),
+        fixed: Box::new(move || match fixed::Plan::read(black_box(&to_fixed)) {
+            Ok(plan) => (0, [plan.requests_at as u64, 0]),
+            Err((number, at)) => (number, [at as u64, 0]),
         }),
     }
 }
 
-/// Every job, the greatest first. The longest accepted plan has all that a sound table can have, which is less than the format can.
+/// Every job. A full terminal has all that a sound table can have, which is less than the format can.
 pub fn all() -> Vec<Job> {
+    let full = Terminal::new(MAX_REGIONS, MAX_ZONES);
+    let large = Terminal::new(64, 8);
+    let typical = Terminal::new(16, 4);
+    let small = Terminal::new(4, 2);
+    let full_name = format!("{MAX_REGIONS} regions, {MAX_ZONES} zones");
     vec![
-        apply("longest accepted plan", MAX_REGIONS, MAX_ZONES, MAX_REQUESTS),
-        apply("large plan", 64, 8, 64),
-        apply("typical plan", 16, 4, 16),
-        apply("small plan", 4, 2, 2),
-        repeated(16, 4, 16),
-        two_requests(MAX_REGIONS, MAX_ZONES),
-        two_requests(4, 2),
-        check_config(MAX_REGIONS),
-        check_table(MAX_REGIONS, MAX_ZONES),
-        translate(MAX_REGIONS, MAX_ZONES),
-        translate(4, 2),
+        accepted(&format!("request 14's plan, {full_name}"), full.clone(), &all_zones(&full, 512)),
+        accepted(&format!("longest accepted plan, {full_name}"), full.clone(), &one_region(&full, MAX_REQUESTS)),
+        accepted("large plan, 64 regions, 8 zones", large.clone(), &one_region(&large, 64)),
+        accepted("typical plan, 16 regions, 4 zones", typical.clone(), &one_region(&typical, 16)),
+        accepted("small plan, 4 regions, 2 zones", small.clone(), &one_region(&small, 2)),
+        refused_at_last(&full_name, full.clone(), all_zones(&full, 512)),
+        refused_at_last("64 regions, 8 zones", large.clone(), one_region(&large, 64)),
+        refused_at_last("4 regions, 2 zones", small.clone(), one_region(&small, 2)),
+        repeated(&full_name, full.clone(), &all_zones(&full, 512)),
+        repeated("16 regions, 4 zones", typical.clone(), &one_region(&typical, 16)),
+        repeated("4 regions, 2 zones", small.clone(), &one_region(&small, 2)),
+        for_other_zones(&full_name, full.clone(), &all_zones(&full, 512)),
+        for_other_zones("16 regions, 4 zones", typical.clone(), &one_region(&typical, 16)),
+        for_other_zones("4 regions, 2 zones", small.clone(), &one_region(&small, 2)),
+        two_requests(&full_name, full.clone()),
+        two_requests("4 regions, 2 zones", small.clone()),
+        check_config(&format!("{MAX_REGIONS} regions in order"), pages(MAX_REGIONS)),
+        check_config(&format!("{MAX_REGIONS} regions scattered"), scattered_pages(MAX_REGIONS)),
+        check_config("4 regions", pages(4)),
+        check_table(&full_name, full.clone()),
+        check_table("4 regions, 2 zones", small.clone()),
+        translate(&full_name, full.clone()),
+        translate("4 regions, 2 zones", small.clone()),
+        read(&full_name, full.clone(), &all_zones(&full, 512)),
+        read("16 regions, 4 zones", typical.clone(), &one_region(&typical, 16)),
+        read("4 regions, 2 zones", small.clone(), &one_region(&small, 2)),
     ]
 }
 
@@ -177,21 +357,34 @@ pub fn all() -> Vec<Job> {
 mod tests {
     use super::*;
 
-    /// Each job stops the program where an answer is not the expected one, and leaves its terminal ready for the next time.
+    /// Each worker answers as the job expects, and so all three the same, and leaves its terminal ready for the next time.
     #[test]
-    fn every_job_can_be_done_twice() {
+    fn all_workers_agree_and_every_job_can_be_done_twice() {
         for mut job in all() {
-            for _ in 0..2 {
-                (job.library)();
-                (job.ordinary)();
+            for worker in Worker::ALL {
+                job.work(worker, 2);
             }
         }
     }
 
     #[test]
-    fn the_longest_accepted_plan_is_as_long_as_a_sound_table_allows() {
-        let terminal = Terminal::new(MAX_REGIONS, MAX_ZONES);
-        let held: usize = terminal.ordinary.table.zones.iter().map(|zone| zone.cpu.len() + zone.iommu.len()).sum();
-        assert_eq!((terminal.ordinary.table.zones.len(), held), (MAX_ZONES, 2 * (MAX_REGIONS - 1) + MAX_ZONES));
+    fn names_differ() {
+        let names: std::collections::BTreeSet<String> = all().into_iter().map(|job| job.name).collect();
+        assert_eq!(names.len(), all().len());
+    }
+
+    #[test]
+    fn a_full_terminal_has_as_much_as_a_sound_table_allows() {
+        let full = Terminal::new(MAX_REGIONS, MAX_ZONES);
+        let held: usize = full.zones().iter().map(|zone| zone.cpu.len() + zone.iommu.len()).sum();
+        assert_eq!((full.zones().len(), held), (MAX_ZONES, 2 * (MAX_REGIONS - 1) + MAX_ZONES));
+    }
+
+    #[test]
+    fn scattered_pages_are_all_pages() {
+        let mut scattered = scattered_pages(MAX_REGIONS).regions;
+        assert_ne!(scattered, pages(MAX_REGIONS).regions);
+        scattered.sort_by_key(|region| region.p.0);
+        assert_eq!(scattered, pages(MAX_REGIONS).regions);
     }
 }

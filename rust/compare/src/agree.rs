@@ -1,6 +1,7 @@
 //! What the library answers to a case, and whether the ordinary implementation answers the same.
 
 use std::fmt;
+use std::hint::black_box;
 
 use cases::{Answer, Case, Named, Outcome, PlanFile, Question};
 use ordinary::Record;
@@ -25,16 +26,44 @@ impl Trouble {
     }
 }
 
-/// What the library answers.
-fn library(case: &Case) -> Answer {
-    let config = peatmitten::Config::from_words(case.config);
-    let table = peatmitten::Table::from_words(case.table);
-    let mut state = peatmitten::State { config, table, edition: case.edition() };
-    let (number, places) = ask_library(case, &mut state);
-    Answer { number, places, config: *state.config.words(), table: *state.table.words(), edition: state.edition }
+/// What lies beside a state before a call, and after it.
+const BESIDE: u64 = 0xa5a5_a5a5_a5a5_a5a5;
+const PADDING: u32 = BESIDE as u32;
+
+/// A state as the library's header has it, with a name for its padding, and a word on either side.
+#[repr(C)]
+struct Lent {
+    before: u64,
+    config: peatmitten::Config,
+    table: peatmitten::Table,
+    edition: u32,
+    padding: u32,
+    behind: u64,
 }
 
-fn ask_library(case: &Case, state: &mut peatmitten::State) -> (u32, [u64; 2]) {
+impl Lent {
+    fn new(case: &Case) -> Lent {
+        let config = peatmitten::Config::from_words(case.config);
+        let table = peatmitten::Table::from_words(case.table);
+        Lent { before: BESIDE, config, table, edition: case.edition(), padding: PADDING, behind: BESIDE }
+    }
+
+    fn is_kept_beside(&self) -> bool {
+        (self.before, self.padding, self.behind) == (BESIDE, PADDING, BESIDE)
+    }
+}
+
+/// What the library answers; none where it wrote beside what it was lent.
+fn library(case: &Case) -> Option<Answer> {
+    let mut lent = Lent::new(case);
+    // Only parts are lent, by which a compiler may take the rest for unchanged without a look.
+    let (number, places) = ask_library(case, black_box(&mut lent));
+    let lent = black_box(&lent);
+    let answer = Answer { number, places, config: *lent.config.words(), table: *lent.table.words(), edition: lent.edition };
+    lent.is_kept_beside().then_some(answer)
+}
+
+fn ask_library(case: &Case, state: &mut Lent) -> (u32, [u64; 2]) {
     match case.question {
         Question::Config => raw::check_config(&state.config),
         Question::Table => (raw::check_table(&state.config, &state.table), [0, 0]),
@@ -54,21 +83,25 @@ fn ask_library(case: &Case, state: &mut peatmitten::State) -> (u32, [u64; 2]) {
             let (number, place) = raw::read(&case.plan);
             (number, [place, 0])
         }
-        Question::Apply => raw::apply(state, &case.plan),
+        Question::Apply => raw::apply_words(&state.config, &mut state.table, &mut state.edition, &case.plan),
     }
 }
 
 fn differ(case: &Case) -> bool {
-    library(case) != case.ordinary()
+    library(case) != Some(case.ordinary())
+}
+
+fn writes_beside(case: &Case) -> bool {
+    library(case).is_none()
 }
 
 /// The answer of both or, if they differ, the smallest case like this one in which they do.
 pub fn agreed(case: &Case) -> Result<Answer, Trouble> {
-    let answer = library(case);
-    if answer == case.ordinary() {
-        return Ok(answer);
+    match library(case) {
+        None => Err(Trouble::new("the library wrote beside the state", shrink(case, writes_beside))),
+        Some(answer) if answer == case.ordinary() => Ok(answer),
+        Some(_) => Err(Trouble::new("the library and the ordinary implementation differ", shrink(case, differ))),
     }
-    Err(Trouble::new("the library and the ordinary implementation differ", shrink(case, differ)))
 }
 
 /// The answer of both to a named case, which is the one worked out by hand where there is one.
@@ -97,7 +130,9 @@ impl fmt::Display for Trouble {
     fn fmt(&self, f: &mut fmt::Formatter) -> fmt::Result {
         writeln!(f, "DIFFERENCE: {}", self.text)?;
         write!(f, "{}", self.case)?;
-        write!(f, "library answers: {}", library(&self.case))?;
+        if let Some(answer) = library(&self.case) {
+            write!(f, "library answers: {answer}")?;
+        }
         write!(f, "ordinary answers: {}", self.case.ordinary())
     }
 }

@@ -7,14 +7,7 @@ use crate::plan::State;
 use crate::table::Table;
 
 mod library {
-    use super::{Config, State, Table};
-
-    #[repr(C)]
-    pub struct Outcome {
-        pub number: u32,
-        pub place: usize,
-        pub inner: u32,
-    }
+    use super::{Config, Table};
 
     extern "C" {
         pub fn peatmitten_layout_256_32_16_1024_3(which: u32) -> u64;
@@ -32,13 +25,20 @@ mod library {
         ) -> u32;
         pub fn peatmitten_edition(plan: *const u8, length: usize, answer: *mut [u64; 1]) -> u32;
         pub fn peatmitten_read(plan: *const u8, length: usize, place: *mut [u64; 1]) -> u32;
-        pub fn peatmitten_apply(state: *mut State, plan: *const u8, length: usize) -> Outcome;
+        pub fn peatmitten_apply_words(
+            config: *const Config,
+            table: *mut Table,
+            edition: *mut u32,
+            plan: *const u8,
+            length: usize,
+            places: *mut [u64; 2],
+        ) -> u32;
     }
 }
 
 // SAFETY, of every call below: the library asks for pointers that are valid, aligned, not null and, where it writes, not shared. Each
-// comes from a reference or a slice that is held until the call returns. `Config` and `Table` are transparent over their words and
-// `State` and `Outcome` are `repr(C)`, so their memory is what the library's header says.
+// comes from a reference or a slice that is held until the call returns. `Config` and `Table` are transparent over their words, so
+// their memory is what the library's header says.
 
 /// The limits and sizes that the library and this crate must share, in the order of the header; 0 past the last. They are in the name of
 /// the library's function, so that this crate does not link with another library.
@@ -90,8 +90,14 @@ pub fn read(plan: &[u8]) -> (u32, u64) {
     (number, place[0])
 }
 
-/// The number of a plan's refusal, or 0, its place and its inner number.
+/// The number of a plan's refusal, or 0, its place and its inner number. Table and edition change only where the number is 0.
+pub fn apply_words(config: &Config, table: &mut Table, edition: &mut u32, plan: &[u8]) -> (u32, [u64; 2]) {
+    let mut places = [UNWRITTEN; 2];
+    let number = unsafe { library::peatmitten_apply_words(config, table, edition, plan.as_ptr(), plan.len(), &mut places) };
+    (number, places)
+}
+
+/// The same of a whole state.
 pub fn apply(state: &mut State, plan: &[u8]) -> (u32, [u64; 2]) {
-    let outcome = unsafe { library::peatmitten_apply(state, plan.as_ptr(), plan.len()) };
-    (outcome.number, [outcome.place as u64, u64::from(outcome.inner)])
+    apply_words(&state.config, &mut state.table, &mut state.edition, plan)
 }

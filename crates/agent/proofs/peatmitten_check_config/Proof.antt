@@ -1,11 +1,11 @@
--- The core's finding, told as its number and its two places.
+-- The finding of the check, told as its number and its two places.
 use Rattle.agent.proofs.Answers.{number-told, places-told}
 use borrow.Author.Needs.{needs}
 use Rattle.agent.proofs.peatmitten_check_config.Statement.{statement}
 use Rattle.agent.proofs.peatmitten_check_config.Tie as tie
 
-check-config-requires : tie.Need-check-config-requires
-check-config-requires c κs = search needs
+check-words-requires : tie.Need-check-words-requires
+check-words-requires c κs = search needs
 
 check-place-requires : tie.Need-check-place-requires
 check-place-requires c κs = search needs
@@ -26,7 +26,7 @@ pub peatmitten-check-config-spec : {M : Type 1} → statement M
 peatmitten-check-config-spec =
     tie.close
     (tie.spec
-    check-config-requires
+    check-words-requires
     check-place-requires
     check-earlier-requires
     put-two-requires

@@ -1,20 +1,20 @@
--- By what reading answered: the refusal and its offset, or 0 and where the requests begin.
+-- By what was found: the refusal and its offset, or 0 and where the requests begin.
 use Rattle.agent.proofs.Answers.{read-bad, read-bad-place, read-end, read-end-place}
 use borrow.Author.Needs.{needs}
 use Rattle.agent.proofs.peatmitten_read.Statement.{statement}
 use Rattle.agent.proofs.peatmitten_read.Tie as tie
 
-read-plan-requires : tie.Need-read-plan-requires
-read-plan-requires c κs = search needs
+find-sections-requires : tie.Need-find-sections-requires
+find-sections-requires c κs = search needs
 
-enum-known-section : tie.Need-enum-known-section
-enum-known-section c = search needs
+enum-known-found : tie.Need-enum-known-found
+enum-known-found c = search needs
 
 put-one-requires : tie.Need-put-one-requires
 put-one-requires c κs = search needs
 
-enum-known-section-2 : tie.Need-enum-known-section-2
-enum-known-section-2 c = search needs
+enum-known-found-2 : tie.Need-enum-known-found-2
+enum-known-found-2 c = search needs
 
 put-one-requires-2 : tie.Need-put-one-requires-2
 put-one-requires-2 c κs = search needs
@@ -29,10 +29,10 @@ pub peatmitten-read-spec : {M : Type 1} → statement M
 peatmitten-read-spec =
     tie.close
     (tie.spec
-    read-plan-requires
-    enum-known-section
+    find-sections-requires
+    enum-known-found
     put-one-requires
-    enum-known-section-2
+    enum-known-found-2
     put-one-requires-2
     returns
     returns-2)

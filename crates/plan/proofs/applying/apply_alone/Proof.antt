@@ -1,4 +1,4 @@
--- A plan that reads whole is applied to the state that it says itself.
+-- By what reading answered: a refusal of the bytes, or the plan at its own base.
 use Rattle.plan.proofs.Outcomes.{alone-away, alone-reads}
 use borrow.Author.Needs.{needs}
 use Rattle.plan.proofs.applying.apply_alone.Statement.{statement}
@@ -13,11 +13,8 @@ enum-known-section c = search needs
 enum-told : tie.Need-enum-told
 enum-told c = search needs
 
-request-records-requires : tie.Need-request-records-requires
-request-records-requires c κs = search needs
-
-apply-read-requires : tie.Need-apply-read-requires
-apply-read-requires c κs = search needs
+apply-words-requires : tie.Need-apply-words-requires
+apply-words-requires c κs = search needs
 
 returns : tie.Need-returns
 returns c = search (alone-away, needs)
@@ -32,7 +29,6 @@ apply-alone-spec =
     read-plan-requires
     enum-known-section
     enum-told
-    request-records-requires
-    apply-read-requires
+    apply-words-requires
     returns
     returns-2)

@@ -1,4 +1,4 @@
--- Each return is one rule: 1 or 2 of the own state, then the number given.
+-- Two cases: the state does not stand, or the plan has earned the number.
 use Rattle.plan.proofs.Judging.{away-own, away-plan}
 use borrow.Author.Needs.{needs}
 use Rattle.plan.proofs.applying.turned_away.Statement.{statement}

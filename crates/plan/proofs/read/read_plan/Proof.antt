@@ -1,50 +1,66 @@
--- By what the marks' reader answered: a refusal, or the rest of the plan after them.
-use Rattle.plan.proofs.Whole.{marks-refused, marks-there, regions-follow, marks-lead}
+-- By what was found: a refusal of the bytes, or the sections, which are read where they begin.
+use Rattle.plan.proofs.Outcomes.{read-away, plan-read, regions-fit, zones-fit}
 use borrow.Author.Needs.{needs}
 use Rattle.plan.proofs.read.read_plan.Statement.{statement}
 use Rattle.plan.proofs.read.read_plan.Tie as tie
 
-read-marks-requires : tie.Need-read-marks-requires
-read-marks-requires c κs = search needs
+find-sections-requires : tie.Need-find-sections-requires
+find-sections-requires c κs = search needs
 
-enum-known-marks : tie.Need-enum-known-marks
-enum-known-marks c = search needs
+enum-known-found : tie.Need-enum-known-found
+enum-known-found c = search needs
 
 refused-requires : tie.Need-refused-requires
 refused-requires c κs = search needs
 
-enum-known-marks-2 : tie.Need-enum-known-marks-2
-enum-known-marks-2 c = search needs
+enum-known-found-2 : tie.Need-enum-known-found-2
+enum-known-found-2 c = search needs
 
-sub-from-regions : tie.Need-sub-from-regions
-sub-from-regions c = search (marks-there, needs)
+sub-read-regions : tie.Need-sub-read-regions
+sub-read-regions c = search (regions-fit, needs)
 
-part-from-regions-start : tie.Need-part-from-regions-start
-part-from-regions-start c = search (marks-there, needs)
+part-read-regions-start : tie.Need-part-read-regions-start
+part-read-regions-start c = search (regions-fit, needs)
 
-part-from-regions-end : tie.Need-part-from-regions-end
-part-from-regions-end c = search needs
+part-read-regions-end : tie.Need-part-read-regions-end
+part-read-regions-end c = search needs
 
-from-regions-requires : tie.Need-from-regions-requires
-from-regions-requires c κs = search (regions-follow, needs)
+read-regions-requires : tie.Need-read-regions-requires
+read-regions-requires c κs = search needs
+
+sub-read-zones : tie.Need-sub-read-zones
+sub-read-zones c = search (zones-fit, needs)
+
+part-read-zones-start : tie.Need-part-read-zones-start
+part-read-zones-start c = search (zones-fit, needs)
+
+part-read-zones-end : tie.Need-part-read-zones-end
+part-read-zones-end c = search needs
+
+read-zones-requires : tie.Need-read-zones-requires
+read-zones-requires c κs = search needs
 
 returns : tie.Need-returns
-returns c = search (marks-refused, needs)
+returns c = search (read-away, needs)
 
 returns-2 : tie.Need-returns-2
-returns-2 c = search (marks-lead, needs)
+returns-2 c = search (plan-read, needs)
 
 pub read-plan-spec : {M : Type 1} → statement M
 read-plan-spec =
     tie.close
     (tie.spec
-    read-marks-requires
-    enum-known-marks
+    find-sections-requires
+    enum-known-found
     refused-requires
-    enum-known-marks-2
-    sub-from-regions
-    part-from-regions-start
-    part-from-regions-end
-    from-regions-requires
+    enum-known-found-2
+    sub-read-regions
+    part-read-regions-start
+    part-read-regions-end
+    read-regions-requires
+    sub-read-zones
+    part-read-zones-start
+    part-read-zones-end
+    read-zones-requires
     returns
     returns-2)

@@ -17,7 +17,10 @@ use Rattle.zones.proofs.config.check_positions.Statement.{statement}
 use Rattle.zones.proofs.config.check_positions.Tie as tie
 
 abbrev Inv-loop : tie.InvT-loop
-Inv-loop c n i₀ i = (i ≤ n) × (firstRule (flatMap (positionRules limits (allRecords c)) (places i (n - i))) Sound ≡ firstRule (flatMap (positionRules limits (allRecords c)) (places 0 n)) Sound)
+Inv-loop c n i₀ i =
+    (i ≤ n)
+    × (firstRule (flatMap (positionRules limits (allRecords c)) (places i (n - i))) Sound
+    ≡ firstRule (flatMap (positionRules limits (allRecords c)) (places 0 n)) Sound)
 
 abbrev μ-loop : tie.MeasureT-loop
 μ-loop c n i₀ i = n - i

@@ -1,7 +1,7 @@
--- The gap in the set is closed over its own words, and its count is one less.
+-- The gap is closed over the regions that the set holds, and its count is one less.
 use native.Mathlib.Omega.{arith}
 use borrow.Author.Needs.{needs}
-use Rattle.zones.proofs.Writers.{packed-long, cut-words, set-within}
+use Rattle.zones.proofs.Writers.{packed-long, cut-words, set-few}
 use Rattle.zones.proofs.table.cut_region.Statement.{statement}
 use Rattle.zones.proofs.table.cut_region.Tie as tie
 
@@ -17,23 +17,36 @@ add-close-gap c = search needs
 mul-close-gap : tie.Need-mul-close-gap
 mul-close-gap c =
     let st = c .before .before .before .before in
-    let q = set-within _ _ _ _ (st .pre .0 .0) (st .pre .0 .1) (st .pre .1) in
+    let q = set-few _ _ (st .args .side) (st .pre .0 .0) (st .pre .0 .1) in
     omega arith
 
 add-close-gap-2 : tie.Need-add-close-gap-2
 add-close-gap-2 c =
     let st = c .before .before .before .before in
-    let q = set-within _ _ _ _ (st .pre .0 .0) (st .pre .0 .1) (st .pre .1) in
+    let q = set-few _ _ (st .args .side) (st .pre .0 .0) (st .pre .0 .1) in
     omega arith
 
 add-close-gap-3 : tie.Need-add-close-gap-3
 add-close-gap-3 c = search needs
 
+mul-close-gap-2 : tie.Need-mul-close-gap-2
+mul-close-gap-2 c =
+    let st = c .before .before .before .before in
+    let q = set-few _ _ (st .args .side) (st .pre .0 .0) (st .pre .0 .1) in
+    omega arith
+
+add-close-gap-4 : tie.Need-add-close-gap-4
+add-close-gap-4 c =
+    let st = c .before .before .before .before in
+    let q = set-few _ _ (st .args .side) (st .pre .0 .0) (st .pre .0 .1) in
+    omega arith
+
 close-gap-requires : tie.Need-close-gap-requires
 close-gap-requires c κs =
     let st = c .before .before .before .before in
-    let q = set-within _ _ _ _ (st .pre .0 .0) (st .pre .0 .1) (st .pre .1) in
-    (omega arith, search (packed-long, needs))
+    let q = set-few _ _ (st .args .side) (st .pre .0 .0) (st .pre .0 .1) in
+    let l = packed-long _ (st .pre .0 .0) in
+    (omega arith, omega arith)
 
 sub-t : tie.Need-sub-t
 sub-t c = search needs
@@ -57,6 +70,8 @@ cut-region-spec =
     mul-close-gap
     add-close-gap-2
     add-close-gap-3
+    mul-close-gap-2
+    add-close-gap-4
     close-gap-requires
     sub-t
     mul-t

@@ -1,6 +1,6 @@
--- The gap is closed over whole zones, and zeros come in at the end.
+-- The gap is closed over the zones that are there, and zeros come in at their end.
 use borrow.Author.Needs.{needs}
-use Rattle.zones.proofs.Writers.{packed-long, remove-words}
+use Rattle.zones.proofs.Writers.{zones-fit, remove-words}
 use Rattle.zones.proofs.table.remove_zone.Statement.{statement}
 use Rattle.zones.proofs.table.remove_zone.Tie as tie
 
@@ -10,8 +10,11 @@ zone-count-requires c κs = search needs
 zone-base-requires : tie.Need-zone-base-requires
 zone-base-requires c κs = search needs
 
+zone-base-requires-2 : tie.Need-zone-base-requires-2
+zone-base-requires-2 c κs = search needs
+
 close-gap-requires : tie.Need-close-gap-requires
-close-gap-requires c κs = (search needs, search (packed-long, needs))
+close-gap-requires c κs = (search needs, search (zones-fit, needs))
 
 sub-t : tie.Need-sub-t
 sub-t c = search needs
@@ -28,6 +31,7 @@ remove-zone-spec =
     (tie.spec
     zone-count-requires
     zone-base-requires
+    zone-base-requires-2
     close-gap-requires
     sub-t
     element-write-t

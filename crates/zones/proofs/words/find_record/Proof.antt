@@ -11,7 +11,8 @@ use Rattle.zones.proofs.words.find_record.Statement.{statement}
 use Rattle.zones.proofs.words.find_record.Tie as tie
 
 abbrev Inv-loop : tie.InvT-loop
-Inv-loop s b n by r i₀ i = (i ≤ n) × (firstFrom (alikeBy by r) (recordsAt s b n) i ≡ firstIndex (alikeBy by r) (recordsAt s b n))
+Inv-loop s b n by r i₀ i =
+    (i ≤ n) × (firstFrom (alikeBy by r) (recordsAt s b n) i ≡ firstIndex (alikeBy by r) (recordsAt s b n))
 
 abbrev μ-loop : tie.MeasureT-loop
 μ-loop s b n by r i₀ i = n - i

@@ -10,7 +10,8 @@ use Rattle.zones.proofs.words.move_down.Statement.{statement}
 use Rattle.zones.proofs.words.move_down.Tie as tie
 
 abbrev Inv-loop : tie.InvT-loop
-Inv-loop s₀ at width end last k₀ s k = (((at ≤ k) × (k ≤ last)) × (length s ≡ length s₀)) × (s ≡ paste s₀ at (drop (at + width) s₀) (k - at))
+Inv-loop s₀ at width end last k₀ s k =
+    (((at ≤ k) × (k ≤ last)) × (length s ≡ length s₀)) × (s ≡ paste s₀ at (drop (at + width) s₀) (k - at))
 
 abbrev μ-loop : tie.MeasureT-loop
 μ-loop s₀ at width end last k₀ s k = last - k

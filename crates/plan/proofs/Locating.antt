@@ -1,0 +1,480 @@
+-- The sections of a plan, one after another: what a section leaves is lent to the next, and an offset in a part is one
+-- in the plan when the part's own offset is added.
+use Prim.Native.Nat.{ℕ, suc, _+_, _-_, _*_, _/_, _^_, _≤_, _<_}
+use native.Mathlib.Omega.{arith}
+use mathlib.Core.Bool.{Bool, true, false, not}
+use mathlib.Core.List.{List, [], _∷_}
+use mathlib.Core.Path.{_≡_, refl, sym, ap, ap₂, _∙_}
+use lib.ListN.{length, take, drop, length-drop}
+use lib.Seq.{drop-drop}
+use Rattle.lists.specs.Bytes.{little}
+use Rattle.lists.specs.Places.{tab}
+use Rattle.formats.specs.Formats.{Out, got, bad, left, then, Format, readNumber, within, readMany, readCount}
+use Rattle.formats.specs.Formats.{readHeaded, readBoth, readAs, atEnd, readFile, number, both, as-type, listed}
+use Rattle.formats.proofs.Formats.{Part, then-got, count-got}
+use Rattle.formats.proofs.Widths.{number-there, number-short, wide-number, wide-both, wide-as, wide-got}
+use Rattle.rules.specs.Limits.{mostRegions, mostZones, mostInSet, mostRequests, limits}
+use Rattle.rules.specs.Plan.{short, regionNumbers, regionField, marksTo, marksFrom, setFormat, zoneTo, zoneFormat}
+use Rattle.rules.specs.Plan.{planTo, marksSection, regionsSection, zonesSection, requestsSection, readPlan, Asked}
+use Rattle.rules.specs.Plan.{Marks, RegionFits}
+use Rattle.rules.specs.Run.{requestBytes}
+use Rattle.rules.specs.Tables.{Zone}
+use Rattle.rules.specs.declared.Region.{Region}
+use Rattle.rules.proofs.Plan.{lawful-region-field, lawful-list, lawful-zone, lawful-regions, lawful-zones}
+use Rattle.rules.proofs.Plan.{lawful-requests}
+use Rattle.plan.specs.Fields.{regionBytes, numberOut, NumberRead}
+use Rattle.plan.specs.Found.{marksBytes, foundIn, leading, afterRequests, requestsFound, afterZones, zonesFound}
+use Rattle.plan.specs.Found.{afterRegions, regionsFound, afterMarks, marksFound}
+use Rattle.plan.specs.Sections.{marksAnswer, sectionAnswer}
+use Rattle.plan.specs.declared.field.Number.{Number}
+use Rattle.plan.specs.declared.field.Number.the-variants.{Is, Missing}
+use Rattle.plan.specs.declared.finding.Found.{Found}
+use Rattle.plan.specs.declared.finding.Found.the-variants.{At, Bad as BadFound}
+use Rattle.plan.specs.declared.sections.Marks.{Marks as MarksAre}
+use Rattle.plan.specs.declared.sections.Marks.the-variants.{Are, Bad as BadMarks}
+use Rattle.plan.specs.declared.words.Section.{Section}
+use Rattle.plan.specs.declared.words.Section.the-variants.{End, Bad}
+use Rattle.plan.proofs.Fields.{askedIn, fiveNumbers, wide-asked, regionValue, wide-region}
+use Rattle.plan.proofs.Into.{number-within, count-missing, count-out, count-in}
+use Rattle.plan.proofs.Offsets.{place, rest-of, part-in, left-within, end-within, bad-within, ends-with}
+use Rattle.plan.proofs.Passing.{Listed, list-read}
+
+-- ---- where something ends that is put together: o, and then what f says
+section-as : {A B : Type 0} (n : ℕ) (o : Out A) (to : A → B)
+    → sectionAnswer n o ≡ sectionAnswer n (then o (λ x t. got (to x) t))
+unfolding sectionAnswer then
+section-as n (got x t) to = refl
+section-as n (bad k t) to = refl
+
+section-stops : {A B : Type 0} (n : ℕ) (o : Out A) (f : A → List ℕ → Out B) (r : Section) (k p : ℕ)
+    → r ≡ sectionAnswer n o → r ≡ Bad k p → r ≡ sectionAnswer n (then o f)
+unfolding sectionAnswer then
+section-stops n (got x t) f r k p er e =
+    absurd (let q : End (n - length t) ≡ Bad k p = sym er ∙ e in
+    let z : _≡_ {A = ℕ} 0 1 = cc in
+    omega arith)
+section-stops n (bad j t) f r k p er e = er
+
+-- ---- a zone: its id, then two sets
+abbrev twoSets : Format (List Region × List Region)
+twoSets = both (setFormat limits) (setFormat limits)
+
+set-part : (s : List ℕ) (at : ℕ) → Part (left (setFormat limits .read (drop at s))) s
+set-part s at =
+    part-in s (left (setFormat limits .read (drop at s))) at
+    (lawful-list 0 mostInSet regionField RegionFits lawful-region-field .part (drop at s))
+
+module _ (s : List ℕ) (start : ℕ) where
+  pub zone-none : start ≤ length s → length s - start < 4
+      → Bad 20 start ≡ sectionAnswer (length s) (zoneFormat limits .read (drop start s))
+  unfolding sectionAnswer readAs readBoth then
+  zone-none h l =
+      rw (number-short 4 (drop start s) (omega (arith, length-drop start s))) (ap (Bad 20) (place s start h))
+
+  module _ (h : start ≤ length s) (l : 4 ≤ length s - start) where
+    abbrev id : ℕ
+    id = little (take 4 (drop start s))
+
+    zone-as : sectionAnswer (length s) (twoSets .read (drop (start + 4) s))
+        ≡ sectionAnswer (length s) (zoneFormat limits .read (drop start s))
+    unfolding readAs readBoth then
+    zone-as =
+        section-as (length s) (twoSets .read (drop (start + 4) s)) withId
+        ∙ section-as (length s) (then (twoSets .read (drop (start + 4) s)) (λ y t. got (withId y) t)) zoneTo
+        ∙ sym (ap (λ (o : Out ℕ). sectionAnswer (length s)
+        (then (then o (λ x u. then (twoSets .read u) (λ y t. got (pair x y) t))) (λ x t. got (zoneTo x) t))) read)
+      where
+        pair : ℕ → List Region × List Region → ℕ × (List Region × List Region)
+        pair x y = (x, y)
+
+        withId : List Region × List Region → ℕ × (List Region × List Region)
+        withId y = (id, y)
+
+        read : readNumber 4 (drop start s) ≡ got id (drop (start + 4) s)
+        read = number-there 4 (drop start s) (omega (arith, length-drop start s)) ∙ ap (got id) (drop-drop 4 start s)
+
+    module _ (r : Section) (er : r ≡ sectionAnswer (length s) (setFormat limits .read (drop (start + 4) s))) where
+      pub zone-stops : (k p : ℕ) → r ≡ Bad k p → r ≡ sectionAnswer (length s) (zoneFormat limits .read (drop start s))
+      unfolding readBoth
+      zone-stops k p f =
+          section-stops (length s) (setFormat limits .read (drop (start + 4) s))
+          (λ x u. then (setFormat limits .read u) (λ y t. got (pair x y) t)) r k p er f
+          ∙ zone-as
+        where
+          pair : List Region → List Region → List Region × List Region
+          pair x y = (x, y)
+
+      module _ (a : ℕ) (f : r ≡ End a) where
+        pub second-there : a ≤ length s
+        second-there = end-within s _ (set-part s (start + 4)) r er a f
+
+        pub zone-ends : (v : Section) → v ≡ sectionAnswer (length s) (setFormat limits .read (drop a s))
+            → v ≡ sectionAnswer (length s) (zoneFormat limits .read (drop start s))
+        unfolding readBoth then
+        zone-ends v h =
+            let (xs, o) = ends-with s _ (set-part s (start + 4)) r er a f in
+            h
+            ∙ section-as (length s) (setFormat limits .read (drop a s)) (pair xs)
+            ∙ sym (ap (λ (x : Out (List Region)). sectionAnswer (length s)
+            (then x (λ x u. then (setFormat limits .read u) (λ y t. got (pair x y) t)))) o)
+            ∙ zone-as
+          where
+            pair : List Region → List Region → List Region × List Region
+            pair x y = (x, y)
+
+-- ---- zones one after another: where those from i on end is where all of them end
+zone-part : (s : List ℕ) (at : ℕ) → Part (left (zoneFormat limits .read (drop at s))) s
+zone-part s at = part-in s (left (zoneFormat limits .read (drop at s))) at (lawful-zone limits .part (drop at s))
+
+abbrev pub zonesEnd : List ℕ → ℕ → ℕ → Section
+zonesEnd s n at = sectionAnswer (length s) (readMany (zoneFormat limits) n (drop at s))
+
+module _ (s : List ℕ) (n i at : ℕ) (R : Section) (inv : zonesEnd s (n - i) at ≡ R) where
+  pub list-over : n ≤ i → at ≤ length s → End at ≡ R
+  unfolding sectionAnswer readMany
+  list-over h l =
+      let e : n - i ≡ 0 = omega arith in
+      ap End (place s at l) ∙ sym (ap (λ (m : ℕ). zonesEnd s m at) e) ∙ inv
+
+  module _ (h : i < n) (r : Section) (er : r ≡ sectionAnswer (length s) (zoneFormat limits .read (drop at s))) where
+    turn : sectionAnswer (length s) (then (zoneFormat limits .read (drop at s))
+        (λ x u. then (readMany (zoneFormat limits) (n - (i + 1)) u) (λ xs t. got (x ∷ xs) t)))
+        ≡ R
+    unfolding readMany
+    turn = let e : n - i ≡ suc (n - (i + 1)) = omega arith in sym (ap (λ (m : ℕ). zonesEnd s m at) e) ∙ inv
+
+    pub list-stops : (k p : ℕ) → r ≡ Bad k p → r ≡ R
+    list-stops k p f =
+        section-stops (length s) (zoneFormat limits .read (drop at s))
+        (λ x u. then (readMany (zoneFormat limits) (n - (i + 1)) u) (λ xs t. got (x ∷ xs) t)) r k p er f
+        ∙ turn
+
+    module _ (a : ℕ) (f : r ≡ End a) where
+      pub list-within : a ≤ length s
+      list-within = end-within s _ (zone-part s at) r er a f
+
+      pub list-goes : zonesEnd s (n - (i + 1)) a ≡ R
+      unfolding then
+      list-goes =
+          let (x, o) = ends-with s _ (zone-part s at) r er a f in
+          section-as (length s) (readMany (zoneFormat limits) (n - (i + 1)) (drop a s)) (λ xs. x ∷ xs)
+          ∙ sym (ap (λ (y : Out Zone). sectionAnswer (length s)
+          (then y (λ x u. then (readMany (zoneFormat limits) (n - (i + 1)) u) (λ xs t. got (x ∷ xs) t)))) o)
+          ∙ turn
+
+pub list-begins : (s : List ℕ) (n at : ℕ) → zonesEnd s (n - 0) at ≡ zonesEnd s n at
+list-begins s n at = let e : n - 0 ≡ n = omega arith in ap (λ (m : ℕ). zonesEnd s m at) e
+
+-- the zones' section, after its count
+module _ (s : List ℕ) (c : Number) (read : NumberRead s 0 (readNumber 4 (drop 0 s)) c) where
+  pub zones-none : c ≡ Missing → Bad 20 0 ≡ sectionAnswer (length s) (zonesSection limits .read s)
+  unfolding sectionAnswer readHeaded then
+  zones-none e = rw (count-missing s 0 c read 0 mostZones e) (ap (Bad 20) (place s 0 (omega arith)))
+
+  module _ (n : ℕ) (b : Bool) (e : c ≡ Is n) (t : b ≡ within 0 mostZones n) where
+    pub zones-out : not b ≡ true → Bad 21 0 ≡ sectionAnswer (length s) (zonesSection limits .read s)
+    unfolding sectionAnswer readHeaded then
+    zones-out h = rw (count-out s 0 c read 0 mostZones n b e t h) (ap (Bad 21) (place s 0 (omega arith)))
+
+    pub zones-pass : (v : Section) → not b ≡ false → v ≡ zonesEnd s n 4
+        → v ≡ sectionAnswer (length s) (zonesSection limits .read s)
+    unfolding readHeaded then
+    zones-pass v h g =
+        g ∙ sym (ap (λ (o : Out ℕ). sectionAnswer (length s) (then o (λ c u. readMany (zoneFormat limits) c u)))
+        (count-in s 0 c read 0 mostZones n b e t h))
+
+-- ---- a section that reads o, in a part of the plan that begins at byte base
+module _ {A : Type 0} (s : List ℕ) (o : Out A) (part : Part (left o) s) (r : Section)
+    (er : r ≡ sectionAnswer (length s) o) (f : A → List ℕ → Found) (base : ℕ) where
+  -- a refusal is the plan's
+  leads-bad : (k a : ℕ) → r ≡ Bad k a → BadFound k (base + a) ≡ leading f (base + length s) o
+  unfolding sectionAnswer leading left
+  leads-bad k a g = by o er (left-within s o part r er)
+    where
+      by : (o : Out A) → r ≡ sectionAnswer (length s) o → length (left o) ≤ length s
+          → BadFound k (base + a) ≡ leading f (base + length s) o
+      by (got x t) d l =
+          absurd (let q : End (length s - length t) ≡ Bad k a = sym d ∙ g in
+          let z : _≡_ {A = ℕ} 0 1 = cc in
+          omega arith)
+      by (bad j t) d l =
+          let q : Bad j (length s - length t) ≡ Bad k a = sym d ∙ g in
+          let m : k ≡ j = cc in
+          let n : length s - length t ≡ a = cc in
+          let place : base + a ≡ base + length s - length t = omega arith in
+          ap₂ (λ (i p : ℕ). BadFound i p) m place
+
+  leads-on : (e : ℕ) (x : A) → o ≡ got x (drop e s) → f x (drop e s) ≡ leading f (base + length s) o
+  unfolding leading
+  leads-on e x h = sym (ap (leading f (base + length s)) h)
+
+-- the offset of what follows a section
+next-base : (s : List ℕ) (e base : ℕ) → e ≤ length s → base + e + length (drop e s) ≡ base + length s
+next-base s e base h = omega (arith, length-drop e s)
+
+-- ---- the regions
+module _ (s : List ℕ) (gic edition base : ℕ) (r : Section)
+    (er : r ≡ sectionAnswer (length s) (listed 4 1 mostRegions regionField .read (drop 0 s))) where
+  regions-part : Part (left (regionsSection limits .read s)) s
+  regions-part = lawful-regions limits .part s
+
+  module _ (k a : ℕ) (g : r ≡ Bad k a) where
+    pub regions-place : base + length s < 2 ^ 64 → base + a < 2 ^ 64
+    regions-place h = let l : a ≤ length s = bad-within s _ regions-part r er k a g in omega arith
+
+    pub regions-refused : BadFound k (base + a) ≡ regionsFound gic edition base (base + length s) s
+    regions-refused = leads-bad s _ regions-part r er (afterRegions gic edition base (base + length s)) base k a g
+
+  module _ (e : ℕ) (g : r ≡ End e) where
+    pub regions-end : e ≤ length s
+    regions-end = end-within s _ regions-part r er e g
+
+    pub zones-place : base + length s < 2 ^ 64 → base + e < 2 ^ 64
+    zones-place h = let l : e ≤ length s = regions-end in omega arith
+
+    pub zones-follow : base + length s < 2 ^ 64 → base + e + length (take (length s - e) (drop e s)) < 2 ^ 64
+    zones-follow h = let l : e ≤ length s = regions-end in omega (arith, ap length (rest-of s e), next-base s e base l)
+
+    pub regions-lead : (v : Found)
+        → v ≡ zonesFound gic edition (base + e) (base + e + length (take (length s - e) (drop e s)))
+        (take (length s - e) (drop e s))
+        → v ≡ regionsFound gic edition base (base + length s) s
+    unfolding afterRegions
+    regions-lead v h =
+        let (rs, o) = ends-with s _ regions-part r er e g in
+        let read = list-read regionNumbers regionBytes regionValue wide-region 1 mostRegions s rs (drop e s) o in
+        let l : e ≤ length s = regions-end in
+        let at : base + e ≡ base + (4 + length rs * regionBytes) =
+        omega (
+          arith,
+          read .there,
+          ap length (read .rest),
+          length-drop e s,
+          length-drop (4 + length rs * regionBytes) s,
+        ) in
+        h ∙ ap (λ (b : List ℕ). zonesFound gic edition (base + e) (base + e + length b) b) (rest-of s e)
+        ∙ ap₂ (λ (z n : ℕ). zonesFound gic edition z n (drop e s)) at (next-base s e base l)
+        ∙ leads-on s _ regions-part r er (afterRegions gic edition base (base + length s)) base e rs o
+
+-- ---- the zones
+module _ (s : List ℕ) (gic edition base : ℕ) (r : Section)
+    (er : r ≡ sectionAnswer (length s) (zonesSection limits .read s)) where
+  zones-part : Part (left (zonesSection limits .read s)) s
+  zones-part = lawful-zones limits .part s
+
+  module _ (k a : ℕ) (g : r ≡ Bad k a) where
+    pub bad-zones-place : base + length s < 2 ^ 64 → base + a < 2 ^ 64
+    bad-zones-place h = let l : a ≤ length s = bad-within s _ zones-part r er k a g in omega arith
+
+    pub zones-refused : BadFound k (base + a) ≡ zonesFound gic edition base (base + length s) s
+    zones-refused = leads-bad s _ zones-part r er (afterZones gic edition base (base + length s)) base k a g
+
+  module _ (e : ℕ) (g : r ≡ End e) where
+    pub zones-end : e ≤ length s
+    zones-end = end-within s _ zones-part r er e g
+
+    pub requests-place : base + length s < 2 ^ 64 → base + e < 2 ^ 64
+    requests-place h = let l : e ≤ length s = zones-end in omega arith
+
+    pub requests-follow : base + length s < 2 ^ 64 → base + e + length (take (length s - e) (drop e s)) < 2 ^ 64
+    requests-follow h = let l : e ≤ length s = zones-end in omega (arith, ap length (rest-of s e), next-base s e base l)
+
+    pub zones-lead : (v : Found)
+        → v ≡ requestsFound gic edition base (base + e + length (take (length s - e) (drop e s)))
+        (take (length s - e) (drop e s))
+        → v ≡ zonesFound gic edition base (base + length s) s
+    unfolding afterZones
+    zones-lead v h =
+        let (zs, o) = ends-with s _ zones-part r er e g in
+        h ∙ ap (λ (b : List ℕ). requestsFound gic edition base (base + e + length b) b) (rest-of s e)
+        ∙ ap (λ (n : ℕ). requestsFound gic edition base n (drop e s)) (next-base s e base zones-end)
+        ∙ leads-on s _ zones-part r er (afterZones gic edition base (base + length s)) base e zs o
+
+-- ---- the requests: so many of one width
+pub requests-read : (s : List ℕ) (qs : List Asked) (t : List ℕ) → requestsSection limits .read s ≡ got qs t
+    → (4 + length qs * requestBytes + length t ≡ length s)
+    × (qs ≡ tab (length qs) (λ i. askedIn (drop (i * requestBytes) (drop 4 s))))
+requests-read s qs t e =
+    let read = list-read fiveNumbers requestBytes askedIn wide-asked 0 mostRequests s qs t e in
+    (omega (arith, read .there, ap length (read .rest), length-drop (4 + length qs * requestBytes) s), read .each)
+
+module _ (s : List ℕ) (base gic edition zones : ℕ) (r : Section)
+    (er : r ≡ sectionAnswer (length s) (requestsSection limits .read s)) where
+  requests-part : Part (left (requestsSection limits .read s)) s
+  requests-part = lawful-requests limits .part s
+
+  module _ (k a : ℕ) (g : r ≡ Bad k a) where
+    pub bad-requests-place : base + length s < 2 ^ 64 → base + a < 2 ^ 64
+    bad-requests-place h = let l : a ≤ length s = bad-within s _ requests-part r er k a g in omega arith
+
+    pub requests-refused : BadFound k (base + a) ≡ requestsFound gic edition zones (base + length s) s
+    unfolding readFile then leading sectionAnswer
+    requests-refused =
+        leads-bad s _ requests-part r er (afterRequests gic edition zones (base + length s)) base k a g
+        ∙ by (requestsSection limits .read s) er
+      where
+        by : (o : Out (List Asked)) → r ≡ sectionAnswer (length s) o
+            → leading (afterRequests gic edition zones (base + length s)) (base + length s) o
+            ≡ leading (afterRequests gic edition zones (base + length s)) (base + length s) (then o atEnd)
+        by (got qs u) e =
+            absurd (let q : End (length s - length u) ≡ Bad k a = sym e ∙ g in
+            let z : _≡_ {A = ℕ} 0 1 = cc in
+            omega arith)
+        by (bad j u) e = refl
+
+  module _ (e : ℕ) (g : r ≡ End e) where
+    found : (qs : List Asked) × (requestsSection limits .read s ≡ got qs (drop e s))
+        × (4 + length qs * requestBytes + length (drop e s) ≡ length s)
+    found = let (qs, o) = ends-with s _ requests-part r er e g in (qs, o, requests-read s qs (drop e s) o .0)
+
+    pub requests-start : base + length s < 2 ^ 64 → base + 4 < 2 ^ 64
+    requests-start h = let (qs, o, l) = found in omega arith
+
+    pub more-place : base + length s < 2 ^ 64 → e < length s → base + e < 2 ^ 64
+    more-place h l = omega arith
+
+    pub requests-more : e < length s → BadFound 22 (base + e) ≡ requestsFound gic edition zones (base + length s) s
+    unfolding readFile then atEnd leading
+    requests-more h =
+        let (qs, o, l) = found in
+        by qs (drop e s) (length-drop e s)
+        ∙ sym (ap (λ (x : Out (List Asked)). leading (afterRequests gic edition zones (base + length s))
+        (base + length s) (then x atEnd)) o)
+      where
+        by : (qs : List Asked) (u : List ℕ) → length u ≡ length s - e
+            → BadFound 22 (base + e) ≡ leading (afterRequests gic edition zones (base + length s)) (base + length s)
+            (atEnd qs u)
+        by qs [] m = absurd (omega arith)
+        by qs (x ∷ u) m =
+            let place : base + e ≡ base + length s - length (x ∷ u) = omega arith in
+            ap (BadFound 22) place
+
+    pub requests-whole : length s ≤ e
+        → At gic edition zones (base + 4) ≡ requestsFound gic edition zones (base + length s) s
+    unfolding readFile then atEnd leading afterRequests
+    requests-whole h =
+        let (qs, o, l) = found in
+        by qs (drop e s) (length-drop e s) l
+        ∙ sym (ap (λ (x : Out (List Asked)). leading (afterRequests gic edition zones (base + length s))
+        (base + length s) (then x atEnd)) o)
+      where
+        by : (qs : List Asked) (u : List ℕ) → length u ≡ length s - e
+            → 4 + length qs * requestBytes + length u ≡ length s
+            → At gic edition zones (base + 4) ≡ leading (afterRequests gic edition zones (base + length s))
+            (base + length s) (atEnd qs u)
+        by qs [] m l =
+            let place : base + 4 ≡ base + length s - length qs * requestBytes = omega arith in
+            ap (At gic edition zones) place
+        by qs (x ∷ u) m l = absurd (omega arith)
+
+-- ---- the marks, and the whole
+pub marks-got : (s : List ℕ) (m : Marks) (t : List ℕ) → marksSection .read s ≡ got m t
+    → (12 ≤ length s) × (t ≡ drop 12 s)
+unfolding readHeaded
+marks-got s m t e =
+    let (n, u, ec, e') =
+    then-got (readCount 4 2 2 s) (λ c s. as-type (both short short) marksTo marksFrom .read s) m t e in
+    let (l, eu) = wide-got (number 4) 4 (λ b. little (take 4 b)) (wide-number 4) s n u (count-got 4 2 2 s n u ec .0) in
+    let (k, et) =
+    wide-got (as-type (both short short) marksTo marksFrom) 8 _
+    (wide-as (both short short) marksTo marksFrom 8 _ (wide-both short short 4 4 _ _ (wide-number 4) (wide-number 4))) u
+    m t e' in
+    (omega (arith, ap length eu, length-drop 4 s), et ∙ ap (drop 8) eu ∙ drop-drop 8 4 s)
+
+-- a plan is its sections, one after another
+module _ (n : ℕ) where
+  with-requests : (m : Marks) (rs : List Region) (zs : List Zone) (o : Out (List Asked))
+      → leading (afterRequests (m .gic) (m .edition) (marksBytes + (4 + length rs * regionBytes)) n) n (then o atEnd)
+      ≡ foundIn n (then (then (then (then (then o (λ qs t. got (zs, qs) t)) (λ y t. got (rs, y) t))
+      (λ y t. got (m, y) t)) (λ x t. got (planTo x) t)) atEnd)
+  unfolding then leading atEnd afterRequests foundIn
+  with-requests m rs zs (got qs []) = refl
+  with-requests m rs zs (got qs (x ∷ u)) = refl
+  with-requests m rs zs (bad k u) = refl
+
+  with-zones : (m : Marks) (rs : List Region) (o : Out (List Zone))
+      → leading (afterZones (m .gic) (m .edition) (marksBytes + (4 + length rs * regionBytes)) n) n o
+      ≡ foundIn n (then (then (then (then (then o
+      (λ zs s. then (requestsSection limits .read s) (λ qs t. got (zs, qs) t))) (λ y t. got (rs, y) t))
+      (λ y t. got (m, y) t)) (λ x t. got (planTo x) t)) atEnd)
+  unfolding then leading afterZones readFile foundIn
+  with-zones m rs (got zs u) = with-requests m rs zs (requestsSection limits .read u)
+  with-zones m rs (bad k u) = refl
+
+  with-regions : (m : Marks) (o : Out (List Region)) → leading (afterRegions (m .gic) (m .edition) marksBytes n) n o
+      ≡ foundIn n (then (then (then (then o (λ rs s. then (both (zonesSection limits) (requestsSection limits) .read s)
+      (λ y t. got (rs, y) t))) (λ y t. got (
+        m,
+        y,
+      ) t)) (λ x t. got (planTo x) t)) atEnd)
+  unfolding then leading afterRegions readBoth foundIn
+  with-regions m (got rs u) = with-zones m rs (zonesSection limits .read u)
+  with-regions m (bad k u) = refl
+
+  with-marks : (o : Out Marks) → leading (afterMarks n) n o
+      ≡ foundIn n (then (then (then o (λ m s. then
+      (both (regionsSection limits) (both (zonesSection limits) (requestsSection limits)) .read s)
+      (λ y t. got (m, y) t))) (λ x t. got (planTo x) t)) atEnd)
+  unfolding then leading afterMarks readBoth foundIn
+  with-marks (got m u) = with-regions m (regionsSection limits .read u)
+  with-marks (bad k u) = refl
+
+  whole-plan : (b : List ℕ) → marksFound n b ≡ foundIn n (readPlan limits b)
+  unfolding readPlan readFile readAs readBoth
+  whole-plan b = with-marks (marksSection .read b)
+
+-- m is what the marks' reader answered
+module _ (s : List ℕ) (m : MarksAre) (em : m ≡ marksAnswer (length s) (marksSection .read s)) where
+  pub marks-refused : (k a : ℕ) → m ≡ BadMarks k a → BadFound k a ≡ foundIn (length s) (readPlan limits s)
+  unfolding marksAnswer leading
+  marks-refused k a f = by (marksSection .read s) refl em
+    where
+      by : (o : Out Marks) → marksSection .read s ≡ o → m ≡ marksAnswer (length s) o
+          → BadFound k a ≡ foundIn (length s) (readPlan limits s)
+      by (got x t) e g =
+          absurd (let q : Are (x .gic) (x .edition) ≡ BadMarks k a = sym g ∙ f in
+          let z : _≡_ {A = ℕ} 0 1 = cc in
+          omega arith)
+      by (bad j t) e g =
+          let q : BadMarks j (length s - length t) ≡ BadMarks k a = sym g ∙ f in
+          let i : k ≡ j = cc in
+          let p : a ≡ length s - length t = cc in
+          ap₂ (λ (x y : ℕ). BadFound x y) i p
+          ∙ sym (ap (leading (afterMarks (length s)) (length s)) e)
+          ∙ whole-plan (length s) s
+
+  module _ (gic edition : ℕ) (f : m ≡ Are gic edition) where
+    marks-are : marksSection .read s ≡ got (record { gic = gic; edition = edition }) (drop 12 s)
+    unfolding marksAnswer
+    marks-are = by (marksSection .read s) refl em
+      where
+        by : (o : Out Marks) → marksSection .read s ≡ o → m ≡ marksAnswer (length s) o
+            → marksSection .read s ≡ got (record { gic = gic; edition = edition }) (drop 12 s)
+        by (got x t) e g =
+            let q : Are (x .gic) (x .edition) ≡ Are gic edition = sym g ∙ f in
+            let i : x .gic ≡ gic = cc in
+            let j : x .edition ≡ edition = cc in
+            e ∙ ap₂ (λ (y z : ℕ). got (record { gic = y; edition = z }) t) i j
+            ∙ ap (got (record { gic = gic; edition = edition })) (marks-got s x t e .1)
+        by (bad k t) e g =
+            absurd (let q : BadMarks k (length s - length t) ≡ Are gic edition = sym g ∙ f in
+            let z : _≡_ {A = ℕ} 0 1 = cc in
+            omega arith)
+
+    pub marks-there : 12 ≤ length s
+    marks-there = marks-got s (record { gic = gic; edition = edition }) (drop 12 s) marks-are .0
+
+    pub regions-follow : length s < 2 ^ 64 → 12 + length (take (length s - 12) (drop 12 s)) < 2 ^ 64
+    regions-follow h = let l : 12 ≤ length s = marks-there in omega (arith, ap length (rest-of s 12), length-drop 12 s)
+
+    pub marks-lead : (v : Found)
+        → v ≡ regionsFound gic edition marksBytes (12 + length (take (length s - 12) (drop 12 s)))
+        (take (length s - 12) (drop 12 s))
+        → v ≡ foundIn (length s) (readPlan limits s)
+    unfolding leading afterMarks
+    marks-lead v h =
+        let l : 12 ≤ length s = marks-there in
+        let n : 12 + length (drop 12 s) ≡ length s = omega (arith, length-drop 12 s) in
+        h ∙ ap (λ (b : List ℕ). regionsFound gic edition marksBytes (12 + length b) b) (rest-of s 12)
+        ∙ ap (λ (k : ℕ). regionsFound gic edition marksBytes k (drop 12 s)) n
+        ∙ sym (ap (leading (afterMarks (length s)) (length s)) marks-are) ∙ whole-plan (length s) s

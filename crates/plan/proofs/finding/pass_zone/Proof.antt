@@ -1,0 +1,54 @@
+-- The id is there or not; then two sets, of which the first says where the second begins.
+use Rattle.plan.proofs.Locating.{zone-none, zone-stops, second-there, zone-ends}
+use borrow.Author.Needs.{needs}
+use Rattle.plan.proofs.finding.pass_zone.Statement.{statement}
+use Rattle.plan.proofs.finding.pass_zone.Tie as tie
+
+sub-if1 : tie.Need-sub-if1
+sub-if1 c = search needs
+
+returns : tie.Need-returns
+returns c = search (zone-none, needs)
+
+add-pass-regions : tie.Need-add-pass-regions
+add-pass-regions c = search needs
+
+cast-pass-regions : tie.Need-cast-pass-regions
+cast-pass-regions c = search needs
+
+pass-regions-requires : tie.Need-pass-regions-requires
+pass-regions-requires c κs = search needs
+
+enum-known-cpu : tie.Need-enum-known-cpu
+enum-known-cpu c = search needs
+
+enum-told : tie.Need-enum-told
+enum-told c = search needs
+
+returns-2 : tie.Need-returns-2
+returns-2 c = search (zone-stops, needs)
+
+cast-pass-regions-2 : tie.Need-cast-pass-regions-2
+cast-pass-regions-2 c = search needs
+
+pass-regions-requires-2 : tie.Need-pass-regions-requires-2
+pass-regions-requires-2 c κs = search (second-there, needs)
+
+returns-3 : tie.Need-returns-3
+returns-3 c = search (zone-ends, needs)
+
+pub pass-zone-spec : {M : Type 1} → statement M
+pass-zone-spec =
+    tie.close
+    (tie.spec
+    sub-if1
+    returns
+    add-pass-regions
+    cast-pass-regions
+    pass-regions-requires
+    enum-known-cpu
+    enum-told
+    returns-2
+    cast-pass-regions-2
+    pass-regions-requires-2
+    returns-3)

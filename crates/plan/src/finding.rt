@@ -1,0 +1,197 @@
+// Where the sections of a plan begin: every field is passed over once, and nothing is stored.
+use crate::field::NUMBER_BYTES;
+use crate::field::Number;
+use crate::field::REGION_BYTES;
+use crate::field::is_within;
+use crate::field::number_at;
+use crate::sections::Marks;
+use crate::sections::read_marks;
+use crate::sections::read_requests;
+use crate::words::Section;
+use rules::limits::MOST_IN_SET;
+use rules::limits::MOST_REGIONS;
+use rules::limits::MOST_ZONES;
+use rules::numbers::COUNT;
+use rules::numbers::CUT;
+use rules::numbers::TRAILING;
+ghost use Prim.Native.Nat.{_+_, _^_, _≤_, _<_};
+ghost use mathlib.Core.Path.{_≡_};
+ghost use lib.ListN.{length, drop};
+ghost use Rattle.formats.specs.Formats.{listed, readMany};
+ghost use Rattle.rules.specs.Limits.{limits};
+ghost use Rattle.rules.specs.Plan.{regionField, zoneFormat, zonesSection, readPlan};
+ghost use Rattle.plan.specs.Sections.{sectionAnswer};
+ghost use Rattle.plan.specs.Found.{foundIn, regionsFound, zonesFound, requestsFound};
+
+// The marks' count and the two marks.
+pub const MARKS_BYTES: usize = 12;
+
+// The marks, and where the base zones (at their count) and the first request begin; or a refusal and its offset.
+pub enum Found {
+    At {
+        gic: u32,
+        edition: u32,
+        zones: usize,
+        requests: usize,
+    },
+    Bad {
+        number: u32,
+        at: usize,
+    },
+}
+
+// 20 or 21 in the order of the file, then 22.
+pub fn find_sections(plan: &[u8]) -> Found
+    ensures { λ r. ⌜ r ≡ foundIn (length (now (plan .entry))) (readPlan limits (now (plan .entry))) ⌝ }
+{
+    let marks = read_marks(plan);
+    match marks {
+        Marks::Bad { number, at } => Found::Bad { number, at },
+        Marks::Are { gic, edition } => find_regions(
+            &plan[MARKS_BYTES..],
+            MARKS_BYTES,
+            gic,
+            edition,
+        ),
+    }
+}
+
+// The bytes from the regions on, which begin at byte `base` of the plan.
+fn find_regions(s: &[u8], base: usize, gic: u32, edition: u32) -> Found
+    requires { ⌜ base + length (now s) < 2 ^ 64 ⌝ }
+    ensures { λ r. ⌜ r ≡ regionsFound gic edition base (base + length (now (s .entry))) (now (s .entry)) ⌝ }
+{
+    let section = pass_regions(s, 0, 1, MOST_REGIONS as u32);
+    match section {
+        Section::Bad { number, at } => Found::Bad {
+            number,
+            at: base + at,
+        },
+        Section::End(end) => find_zones(&s[end..], base + end, gic, edition),
+    }
+}
+
+fn find_zones(s: &[u8], base: usize, gic: u32, edition: u32) -> Found
+    requires { ⌜ base + length (now s) < 2 ^ 64 ⌝ }
+    ensures { λ r. ⌜ r ≡ zonesFound gic edition base (base + length (now (s .entry))) (now (s .entry)) ⌝ }
+{
+    let section = pass_zones(s);
+    match section {
+        Section::Bad { number, at } => Found::Bad {
+            number,
+            at: base + at,
+        },
+        Section::End(end) => find_last(&s[end..], base + end, gic, edition, base),
+    }
+}
+
+// The requests, and nothing after them.
+fn find_last(s: &[u8], base: usize, gic: u32, edition: u32, zones: usize) -> Found
+    requires { ⌜ base + length (now s) < 2 ^ 64 ⌝ }
+    ensures { λ r. ⌜ r ≡ requestsFound gic edition zones (base + length (now (s .entry))) (now (s .entry)) ⌝ }
+{
+    let section = read_requests(s);
+    match section {
+        Section::Bad { number, at } => Found::Bad {
+            number,
+            at: base + at,
+        },
+        Section::End(end) => {
+            if end < s.len() {
+                return Found::Bad {
+                    number: TRAILING,
+                    at: base + end,
+                };
+            }
+            Found::At {
+                gic,
+                edition,
+                zones,
+                requests: base + NUMBER_BYTES,
+            }
+        }
+    }
+}
+
+// ---- sections and their parts
+
+// A count from lo to hi at byte `start`, and as many regions.
+pub fn pass_regions(s: &[u8], start: usize, lo: u32, hi: u32) -> Section
+    requires { ⌜ start ≤ length (now s) ⌝ }
+    ensures { λ r. ⌜ r ≡ sectionAnswer (length (now (s .entry))) (listed 4 lo hi regionField .read (drop start (now (s .entry)))) ⌝ }
+{
+    let Number::Is(n) = number_at(s, start) else {
+        return Section::Bad {
+            number: CUT,
+            at: start,
+        };
+    };
+    if !is_within(lo, hi, n) {
+        return Section::Bad {
+            number: COUNT,
+            at: start,
+        };
+    }
+    let first = start + NUMBER_BYTES;
+    let bytes = n as usize * REGION_BYTES;
+    let there = s.len() - first;
+    if there < bytes {
+        return Section::Bad {
+            number: CUT,
+            at: first + there / REGION_BYTES * REGION_BYTES,
+        };
+    }
+    Section::End(first + bytes)
+}
+
+// The zone at byte `start`: its id is only passed over.
+fn pass_zone(s: &[u8], start: usize) -> Section
+    requires { ⌜ start ≤ length (now s) ⌝ }
+    ensures { λ r. ⌜ r ≡ sectionAnswer (length (now (s .entry))) (zoneFormat limits .read (drop start (now (s .entry)))) ⌝ }
+{
+    if s.len() - start < NUMBER_BYTES {
+        return Section::Bad {
+            number: CUT,
+            at: start,
+        };
+    }
+    let cpu = pass_regions(s, start + NUMBER_BYTES, 0, MOST_IN_SET as u32);
+    let Section::End(at) = cpu else {
+        return cpu;
+    };
+    pass_regions(s, at, 0, MOST_IN_SET as u32)
+}
+
+// The n zones from byte `start` on.
+fn pass_zone_list(s: &[u8], start: usize, n: usize) -> Section
+    requires { ⌜ start ≤ length (now s) ⌝ }
+    ensures { λ r. ⌜ r ≡ sectionAnswer (length (now (s .entry))) (readMany (zoneFormat limits) n (drop start (now (s .entry)))) ⌝ }
+{
+    let mut at = start;
+    let mut i = 0;
+    while i < n {
+        let zone = pass_zone(s, at);
+        let Section::End(next) = zone else {
+            return zone;
+        };
+        at = next;
+        i += 1;
+    }
+    Section::End(at)
+}
+
+// The zones' section from its count on.
+fn pass_zones(s: &[u8]) -> Section
+    ensures { λ r. ⌜ r ≡ sectionAnswer (length (now (s .entry))) (zonesSection limits .read (now (s .entry))) ⌝ }
+{
+    let Number::Is(n) = number_at(s, 0) else {
+        return Section::Bad { number: CUT, at: 0 };
+    };
+    if !is_within(0, MOST_ZONES as u32, n) {
+        return Section::Bad {
+            number: COUNT,
+            at: 0,
+        };
+    }
+    pass_zone_list(s, NUMBER_BYTES, n as usize)
+}

@@ -12,7 +12,7 @@ use Rattle.rules.specs.Configuration.{check, checkNumber, checkPlace, ch
 use Rattle.rules.specs.Desk.{regionOf, deskZones, addZone, dropZone, insert}
 use Rattle.rules.specs.Limits.{limits, Limits}
 use Rattle.rules.specs.Regions.{noRegion}
-use Rattle.rules.specs.RequestExamples.{_gives_, block, theGic, twin, blocks, oneBlockMore, model, allZones, crowdBeside, held, cpuOnly, iommuOnly, oddAndFar, far, unknown, justInReach, outOfReach, goesTo, goesNowhere, Shows}
+use Rattle.rules.specs.RequestExamples.{_gives_, block, theGic, twin, blocks, oneBlockMore, model, allZones, crowdBeside, held, cpuOnly, iommuOnly, oddAndFar, far, unknown, justInReach, outOfReach, _lasts_, goesNowhere, Shows}
 use Rattle.rules.specs.Requests.{answer}
 use Rattle.rules.specs.Run.{makeRequest, runAnswer}
 use Rattle.rules.specs.Tables.{emptyZone, unusedSet, unusedZone, checkTable, Zone, StoredSet, StoredZone, StoredTable}
@@ -276,8 +276,8 @@ translationsOutside =
     ∷ (holds held, (256, 0x40212345)) gives goesNowhere 4
     ∷ (holds held, (7, 0x40212345)) gives goesNowhere 6
     ∷ (holds held, (5, 0x40012345)) gives goesNowhere 18
-    ∷ (holds held, (5, 0x40212345)) gives goesTo 0x80212345
-    ∷ (holds held, (6, 0x40012345)) gives goesTo 0x60012345
+    ∷ (holds held, (5, 0x40212345)) gives 0x80212345 lasts 0x1edcbb
+    ∷ (holds held, (6, 0x40012345)) gives 0x60012345 lasts 0x1edcbb
     ∷ []
 
 -- a run: 27 with the place and the number of the first that is refused, or 0 with how many there were

@@ -23,6 +23,15 @@ pub struct Zone {
     pub iommu: Vec<Region>,
 }
 
+/// Where a guest address comes out.
+#[derive(Clone, Copy, Debug, PartialEq, Eq)]
+pub struct Translated {
+    /// The physical address.
+    pub physical: Phys,
+    /// How many bytes of the covering region there are from the address on, itself among them.
+    pub remaining: u64,
+}
+
 /// The zones, in their order.
 #[derive(Clone, Debug, Default, PartialEq, Eq)]
 pub struct Table {
@@ -95,18 +104,16 @@ impl Table {
         self.zones.iter().position(|zone| zone.id == id)
     }
 
-    /// Where a guest address of a zone comes out.
-    pub fn translate(&self, config: &Config, zone: u32, side: Side, address: Guest) -> Result<Phys, Refusal> {
+    /// Where a guest address of a zone comes out, and how far that goes on.
+    pub fn translate(&self, config: &Config, zone: u32, side: Side, address: Guest) -> Result<Translated, Refusal> {
         self.check(config)?;
         if zone > MAX_ID {
             return Err(Refusal::ZoneId);
         }
         let position = self.position(zone).ok_or(Refusal::NoZone)?;
-        self.zones[position]
-            .set(side)
-            .iter()
-            .find_map(|region| region.offset_of(address).map(|offset| Phys(region.p.0 + offset)))
-            .ok_or(Refusal::NotCovered)
+        let covering = self.zones[position].set(side).iter().find(|region| region.covers(address)).ok_or(Refusal::NotCovered)?;
+        let end = covering.v.0 + covering.size;
+        Ok(Translated { physical: Phys(covering.p.0 + (address.0 - covering.v.0)), remaining: end - address.0 })
     }
 }
 

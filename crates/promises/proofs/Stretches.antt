@@ -5,7 +5,7 @@ use native.Mathlib.Omega.{arith}
 use mathlib.Core.Bool.{Bool, true, false, cond}
 use mathlib.Core.List.{List, _++_}
 use mathlib.Core.Path.{_≡_, refl, sym, ap, _∙_}
-use borrow.Author.Tests.{ltb-true, leb-true, lt-ltb, eqb-true, ne-eqb, not-false}
+use borrow.Author.Tests.{ltb-true, leb-true, lt-ltb, eqb-true, not-false}
 use lib.Dec.{eqb}
 use lib.ListN.{length, getD}
 use Rattle.lists.specs.First.{firstIndex, all}
@@ -29,7 +29,7 @@ use Rattle.rules.specs.declared.Translated.{Translated}
 use Rattle.rules.proofs.Configuration.{sound-answer}
 use Rattle.rules.proofs.Keeps.{SoundTable}
 use Rattle.rules.proofs.Translation.{covers-parts, parts-cover, same-distance, remains-to-end, covers-on, goes-on}
-use Rattle.rules.proofs.Translation.{remains-less}
+use Rattle.rules.proofs.Translation.{remains-less, none-told}
 use Rattle.promises.specs.Answers.{Stands}
 use Rattle.promises.specs.Stretches.{further, RemainingIs, StretchGoesOn, StretchIsConsecutive, NothingRemains}
 use Rattle.promises.specs.Stretches.{StretchInReach}
@@ -182,7 +182,7 @@ module _ (lim : Limits) where
 
     none-refused : (translated lim c t id side g .number ≡ 0 → ⊥) → translated lim c t id side g .remaining ≡ 0
     unfolding translated translatedAs rules region
-    none-refused ne = ap (λ (b : Bool). cond b (remainingIn (g .0) region) 0) (ne-eqb _ 0 ne)
+    none-refused ne = sym (ap (λ (o : Translated). o .remaining) (none-told (firstRule rules 0) (g .0) region ne))
 
     some-accepted : translated lim c t id side g .number ≡ 0 → translated lim c t id side g .remaining ≡ 0 → ⊥
     unfolding translated translatedAs rules xs

@@ -1,13 +1,13 @@
 -- Translation: what it is for a region to cover an address, where the address comes out, and how far that goes on.
 use Prim.Native.Nat.{ℕ, _+_, _-_, _<_}
 use native.Mathlib.Omega.{arith}
-use mathlib.Core.Bool.{true}
-use mathlib.Core.Path.{_≡_}
-use borrow.Author.Tests.{ltb-true, leb-true, lt-ltb, le-leb}
+use mathlib.Core.Bool.{Bool, true, cond}
+use mathlib.Core.Path.{_≡_, sym, ap}
+use borrow.Author.Tests.{ltb-true, leb-true, lt-ltb, le-leb, ne-eqb}
 use lib.Dec.{ltb}
 use Rattle.lists.proofs.Tests.{same-test, parts, whole}
 use Rattle.rules.specs.Addresses.{Covers}
-use Rattle.rules.specs.Translation.{coversGuest, physIn, remainingIn}
+use Rattle.rules.specs.Translation.{coversGuest, physIn, remainingIn, translatedAs}
 use Rattle.rules.specs.declared.Region.{Region}
 
 -- the region covers the address: it starts at or before it, and ends after it
@@ -50,3 +50,14 @@ goes-on a i r e = let (l, u) = covers-parts a r e in omega arith
 pub remains-less : (a i : ℕ) (r : Region) → coversGuest a r ≡ true → remainingIn (a + i) r ≡ remainingIn a r - i
 unfolding remainingIn
 remains-less a i r e = let (l, u) = covers-parts a r e in omega arith
+
+-- on refusal neither the address nor what remains hangs on a region
+pub none-told : (n a : ℕ) (r : Region) → (n ≡ 0 → ⊥)
+    → record { number = n; phys = record { 0 = 0 }; remaining = 0 } ≡ translatedAs n a r
+unfolding translatedAs
+none-told n a r ne =
+    ap (λ (b : Bool). record {
+      number = n;
+      phys = record { 0 = cond b (physIn a r) 0 };
+      remaining = cond b (remainingIn a r) 0;
+    }) (sym (ne-eqb n 0 ne))

@@ -2,10 +2,10 @@
 -- the covering one; in reach, no sum wraps.
 use Prim.Native.Nat.{ℕ, _+_, _-_, _^_, _≤_, _<_}
 use native.Mathlib.Omega.{arith}
-use mathlib.Core.Bool.{Bool, true, false, cond, not}
+use mathlib.Core.Bool.{Bool, true, false, not}
 use mathlib.Core.List.{List, [], _∷_}
 use mathlib.Core.Path.{_≡_, refl, sym, ap, ap₂, _∙_, fun-ext}
-use borrow.Author.Tests.{ltb-true, leb-true, lt-ltb, le-ltb, le-leb, ne-eqb}
+use borrow.Author.Tests.{ltb-true, leb-true, lt-ltb, le-ltb, le-leb}
 use lib.Dec.{ltb}
 use lib.ListN.{length, getD}
 use Rattle.lists.specs.First.{firstIndex, any, all}
@@ -31,7 +31,7 @@ use Rattle.rules.proofs.Addresses.{overlap-shared}
 use Rattle.rules.proofs.Configuration.{SoundConfiguration}
 use Rattle.rules.proofs.Keeps.{sound-parts, set-sound}
 use Rattle.rules.proofs.Tables.{configured-at}
-use Rattle.rules.proofs.Translation.{covers-parts}
+use Rattle.rules.proofs.Translation.{covers-parts, none-told}
 use Rattle.zones.specs.Alike.{alikeBy}
 use Rattle.zones.specs.Decide.{Ready}
 use Rattle.zones.specs.Layout.{tableWords, setBase}
@@ -62,24 +62,13 @@ pub covering-found : (a k : ℕ) (xs : List Region)
 covering-found a k xs e = e ∙ ap (λ (p : Region → Bool). firstIndex p xs) (fun-ext (byte-covers a))
 
 -- ---- what is answered
--- on refusal neither the address nor what remains hangs on a region
-none-as : (n a : ℕ) (r : Region) → (n ≡ 0 → ⊥)
-    → record { number = n; phys = record { 0 = 0 }; remaining = 0 } ≡ translatedAs n a r
-unfolding translatedAs
-none-as n a r ne =
-    ap (λ (b : Bool). record {
-      number = n;
-      phys = record { 0 = cond b (physIn a r) 0 };
-      remaining = cond b (remainingIn a r) 0;
-    }) (sym (ne-eqb n 0 ne))
-
 module _ (w : List ℕ) (id : ℕ) (s : Side) (a : ℕ) where
   refused-as : (n : ℕ) → (n ≡ 0 → ⊥) → n ≡ firstRule (translationRules (zonesIn w) id s a) 0 → (r : Translated)
       → r ≡ record { number = n; phys = record { 0 = 0 }; remaining = 0 } → r ≡ translation (zonesIn w) id s a
   unfolding translation
   refused-as n ne e r h =
       let y : Region = coveringIn a (setAt (zonesIn w) (find id (zonesIn w)) s) in
-      h ∙ none-as n a y ne ∙ ap (λ (m : ℕ). translatedAs m a y) e
+      h ∙ none-told n a y ne ∙ ap (λ (m : ℕ). translatedAs m a y) e
 
   pub high-id : highestId < id → (r : Translated) → r ≡ record { number = 4; phys = record { 0 = 0 }; remaining = 0 }
       → r ≡ translation (zonesIn w) id s a
@@ -205,7 +194,7 @@ module _ (c t : List ℕ) (n : ℕ) (e : n ≡ standing limits (storedConfig c) 
   none-translated ne r h =
       let rs : List (Rule ℕ) = translationRules (tableOf (storedTable t)) id s (a .0) in
       let y : Region = coveringIn (a .0) (setAt (tableOf (storedTable t)) (find id (tableOf (storedTable t))) s) in
-      h ∙ none-as n (a .0) y ne ∙ ap (λ (m : ℕ). translatedAs m (a .0) y)
+      h ∙ none-told n (a .0) y ne ∙ ap (λ (m : ℕ). translatedAs m (a .0) y)
       (stage-hit (standingRules limits (storedConfig c) (storedTable t)) rs n 0 e ne)
 
   pub now-translated : n ≡ 0 → (r : Translated) → r ≡ translation (zonesIn t) id s (a .0)

@@ -49,9 +49,9 @@ impl Region {
         overlap(self.v.0, self.size, other.v.0, other.size)
     }
 
-    /// Whether the region covers the address.
-    pub fn covers(&self, address: Guest) -> bool {
-        self.v.0 <= address.0 && address.0 - self.v.0 < self.size
+    /// How far into the region the address is, if the region covers it.
+    pub fn offset_of(&self, address: Guest) -> Option<u64> {
+        address.0.checked_sub(self.v.0).filter(|&offset| offset < self.size)
     }
 }
 
@@ -125,11 +125,11 @@ mod tests {
     }
 
     #[test]
-    fn covered_addresses() {
+    fn offsets() {
         let region = Region::new(0x1000, 0, 0x1000);
-        assert!(!region.covers(Guest(0xfff)));
-        assert!(region.covers(Guest(0x1000)));
-        assert!(region.covers(Guest(0x1fff)));
-        assert!(!region.covers(Guest(0x2000)));
+        assert_eq!(region.offset_of(Guest(0xfff)), None);
+        assert_eq!(region.offset_of(Guest(0x1000)), Some(0));
+        assert_eq!(region.offset_of(Guest(0x1fff)), Some(0xfff));
+        assert_eq!(region.offset_of(Guest(0x2000)), None);
     }
 }

@@ -111,10 +111,17 @@ impl Table {
             return Err(Refusal::ZoneId);
         }
         let position = self.position(zone).ok_or(Refusal::NoZone)?;
-        let covering = self.zones[position].set(side).iter().find(|region| region.covers(address)).ok_or(Refusal::NotCovered)?;
-        let end = covering.v.0 + covering.size;
-        Ok(Translated { physical: Phys(covering.p.0 + (address.0 - covering.v.0)), remaining: end - address.0 })
+        self.zones[position]
+            .set(side)
+            .iter()
+            .find_map(|region| region.offset_of(address).map(|offset| goes_on(region, offset)))
+            .ok_or(Refusal::NotCovered)
     }
+}
+
+/// What is answered for the address that is so far into the region.
+fn goes_on(region: &Region, offset: u64) -> Translated {
+    Translated { physical: Phys(region.p.0 + offset), remaining: region.size - offset }
 }
 
 fn is_sound_set(config: &Config, set: &[Region]) -> bool {

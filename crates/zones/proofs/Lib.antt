@@ -2,6 +2,9 @@
 pub mod Records
 pub mod Blocks
 pub mod ConfigCheck
+pub mod Spans
+pub mod QuickCheck
+pub mod Merging
 pub mod Moves
 pub mod Readers
 pub mod Focus

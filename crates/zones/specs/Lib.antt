@@ -3,6 +3,7 @@ pub mod Layout
 pub mod Records
 pub mod Alike
 pub mod View
+pub mod Spans
 pub mod Words
 pub mod Packing
 pub mod Holding

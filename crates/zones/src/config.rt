@@ -1,4 +1,6 @@
 // The configuration's check.
+use crate::apart::clear_below;
+use crate::apart::in_turn;
 use crate::layout::CONFIG_COUNT;
 use crate::layout::CONFIG_GIC;
 use crate::layout::CONFIG_RECORDS;
@@ -20,7 +22,7 @@ use rules::numbers::C3_NOT_ZERO;
 use rules::numbers::C4_FORM;
 use rules::numbers::C5_REACH;
 use rules::numbers::C6_OVERLAP;
-ghost use Prim.Native.Nat.{_<_, _≤_};
+ghost use Prim.Native.Nat.{_-_, _<_, _≤_};
 ghost use mathlib.Core.List.{flatMap};
 ghost use mathlib.Core.Path.{_≡_};
 ghost use lib.ListN.{length, getD};
@@ -114,7 +116,7 @@ pub fn check_words(c: &[u64; CONFIG_WORDS]) -> Checked
     check_positions(c, count)
 }
 
-fn region_at(c: &[u64; CONFIG_WORDS], i: usize) -> Region
+pub fn region_at(c: &[u64; CONFIG_WORDS], i: usize) -> Region
     requires { ⌜ i < mostRegions ⌝ }
     ensures { λ r. ⌜ r ≡ recordAt (now (c .entry)) configRecords i ⌝ }
 {
@@ -136,12 +138,24 @@ fn first_used(c: &[u64; CONFIG_WORDS], n: usize) -> usize
     i
 }
 
-// The first fault at the positions below n.
+// The first fault at the positions below n: at most from the first on where a quick look finds none before it.
 fn check_positions(c: &[u64; CONFIG_WORDS], n: usize) -> Checked
     requires { ⌜ n ≤ mostRegions ⌝ }
     ensures { λ f. ⌜ f ≡ firstRule (flatMap (positionRules limits (allRecords (now (c .entry)))) (places 0 n)) Checked.Sound ⌝ }
 {
-    let mut i = 0;
+    if in_turn(c, n) {
+        return Checked::Sound;
+    }
+    let clear = clear_below(c, n);
+    check_from(c, clear, n)
+}
+
+// The first fault at the positions from k up to n.
+fn check_from(c: &[u64; CONFIG_WORDS], k: usize, n: usize) -> Checked
+    requires { ⌜ (k ≤ n) × (n ≤ mostRegions) ⌝ }
+    ensures { λ f. ⌜ f ≡ firstRule (flatMap (positionRules limits (allRecords (now (c .entry)))) (places k (n - k))) Checked.Sound ⌝ }
+{
+    let mut i = k;
     while i < n {
         let f = check_at(c, i);
         let Checked::Sound = f else {

@@ -1,9 +1,11 @@
 // The configuration and the zone table as words of memory, and what is checked and done there.
+mod apart;
 mod commit;
 mod config;
 mod decide;
 mod layout;
 mod run;
+mod sort;
 mod sound;
 mod steps;
 mod table;

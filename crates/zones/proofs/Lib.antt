@@ -14,6 +14,7 @@ pub mod Packing
 pub mod ConfigReaders
 pub mod Holding
 pub mod Checking
+pub mod Owning
 pub mod Stored
 pub mod Forbidden
 pub mod Deciding

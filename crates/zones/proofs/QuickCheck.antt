@@ -27,11 +27,12 @@ use Rattle.lists.proofs.Rules.{rules-past}
 use Rattle.lists.proofs.Tests.{parts, not-fails}
 use Rattle.rules.specs.Configuration.{positionRules}
 use Rattle.rules.specs.Limits.{page, physReach, mostRegions, limits}
-use Rattle.rules.specs.Regions.{wellFormed, inReach, physOverlap, noRegion}
+use Rattle.rules.specs.Regions.{wellFormed, inReach, physOverlap, regionEq, noRegion}
 use Rattle.rules.specs.declared.Checked.{Checked}
 use Rattle.rules.specs.declared.Checked.the-variants.{Sound}
 use Rattle.rules.specs.declared.Region.{Region}
 use Rattle.rules.proofs.Configuration.{telling-at, gives-none}
+use Rattle.rules.proofs.Regions.{equal-same}
 use Rattle.zones.specs.Layout.{configRecords}
 use Rattle.zones.specs.Records.{recordAt, recordsAt}
 use Rattle.zones.specs.Spans.{Span, spaced, filled, spansApart, spanAt, fits, FitBelow, ClearBelow}
@@ -45,8 +46,10 @@ pub end-within : (r : Region) → fits r ≡ true → r .p .0 + r .size ≤ phys
 unfolding fits inReach
 end-within r e = leb-true _ _ (parts _ (parts _ e .1 .0) .1 .0)
 
-pub end-fits : (r : Region) (t : Bool) → t ≡ fits r → not t ≡ false → Fits w64 (r .p .0 + r .size)
-end-fits r t e f = let h : r .p .0 + r .size ≤ physReach = end-within r (sym e ∙ not-false t f) in omega arith
+pub key-fits : (r : Region) (t : Bool) (i n : ℕ) → n ≤ mostRegions → i < n → t ≡ fits r → not t ≡ false
+    → Fits w64 (r .p .0 + i)
+key-fits r t i n l h e f =
+    let m : r .p .0 + r .size ≤ physReach = end-within r (sym e ∙ not-false t f) in omega arith
 
 module _ (w : List ℕ) where
   pub fit-none : FitBelow w 0
@@ -64,7 +67,7 @@ module _ (w : List ℕ) where
             ap (λ (k : ℕ). fits (recordAt w configRecords k)) q ∙ ap fits (sym g) ∙ sym e ∙ not-false t f)
       ]
 
-  pub fit-fewer : (m n : ℕ) → FitBelow w n → m ≤ n → FitBelow w m
+  fit-fewer : (m n : ℕ) → FitBelow w n → m ≤ n → FitBelow w m
   unfolding FitBelow
   fit-fewer m n fit h i l = fit i (omega arith)
 
@@ -77,10 +80,6 @@ module _ (w : List ℕ) where
   pub end-fits-below : (n i : ℕ) (r : Region) → FitBelow w n → i < n → r ≡ recordAt w configRecords i
       → Fits w64 (r .p .0 + r .size)
   end-fits-below n i r fit h g = let e : r .p .0 + r .size ≤ physReach = end-below n i r fit h g in omega arith
-
-  pub key-fits : (n i : ℕ) (r : Region) → n ≤ mostRegions → FitBelow w n → i < n → r ≡ recordAt w configRecords i
-      → Fits w64 (r .p .0 + i)
-  key-fits n i r l fit h g = let e : r .p .0 + r .size ≤ physReach = end-below n i r fit h g in omega arith
 
   filled-at : (n : ℕ) → FitBelow w n → (i : ℕ) → i < n → filled (spanAt w i) ≡ true
   unfolding FitBelow fits wellFormed filled spanAt
@@ -127,11 +126,11 @@ pub row-start : (w : List ℕ) (n : ℕ)
     → spaced 0 (map (spanAt w) (places 0 (n - 0))) ≡ spaced 0 (map (spanAt w) (places 0 n))
 row-start w n = rw sub-zero
 
-pub clear-row : (w : List ℕ) (i n end : ℕ) → n ≤ mostRegions → i ≤ n → FitBelow w i
+pub clear-row : (w : List ℕ) (i n end : ℕ) → n ≤ mostRegions → FitBelow w n
     → spaced end (map (spanAt w) (places i (n - i))) ≡ spaced 0 (map (spanAt w) (places 0 n)) → n ≤ i → ClearBelow w n
 unfolding spaced
-clear-row w i n end h a fit inv b =
-    clear-among w n (places 0 n) h (fit-fewer w n i fit b) (row-there n)
+clear-row w i n end h fit inv b =
+    clear-among w n (places 0 n) h fit (row-there n)
     (spaced-pairs 0 (map (spanAt w) (places 0 n))
     (sym inv ∙ ap (λ (l : List ℕ). spaced end (map (spanAt w) l)) (places-end i n b)))
 
@@ -146,28 +145,28 @@ module _ (w keys : List ℕ) (m n j i : ℕ) where
   unfolding named
   named-step h = ap (λ (l : List ℕ). keep (isBelow m) (map (positionOf keys) l)) (places-step j n h)
 
-  named-hit : j < n → i ≡ getD keys j 0 % page → i < m → named keys m j (n - j) ≡ i ∷ rest
-  unfolding named positionOf isBelow
+  named-hit : j < n → i ≡ positionOf keys j → i < m → named keys m j (n - j) ≡ i ∷ rest
+  unfolding named isBelow
   named-hit h e l =
-      named-step h ∙ keep-hit (isBelow m) (positionOf keys j) _ (lt-ltb (getD keys j 0 % page) m (omega arith))
+      named-step h ∙ keep-hit (isBelow m) (positionOf keys j) _ (lt-ltb (positionOf keys j) m (omega arith))
       ∙ ap (λ (k : ℕ). k ∷ rest) (sym e)
 
-  named-pass : j < n → i ≡ getD keys j 0 % page → m ≤ i → named keys m j (n - j) ≡ rest
-  unfolding named positionOf isBelow
+  named-pass : j < n → i ≡ positionOf keys j → m ≤ i → named keys m j (n - j) ≡ rest
+  unfolding named isBelow
   named-pass h e l =
-      named-step h ∙ keep-pass (isBelow m) (positionOf keys j) _ (le-ltb (getD keys j 0 % page) m (omega arith))
+      named-step h ∙ keep-pass (isBelow m) (positionOf keys j) _ (le-ltb (positionOf keys j) m (omega arith))
 
-  pub met-hit : (met total : ℕ) → met + length (named keys m j (n - j)) ≡ total → j < n → i ≡ getD keys j 0 % page
+  pub met-hit : (met total : ℕ) → met + length (named keys m j (n - j)) ≡ total → j < n → i ≡ positionOf keys j
       → i < m → met + 1 + length rest ≡ total
   met-hit met total inv h e l = omega (arith, ap length (named-hit h e l))
 
-  pub met-pass : (met total : ℕ) → met + length (named keys m j (n - j)) ≡ total → j < n → i ≡ getD keys j 0 % page
+  pub met-pass : (met total : ℕ) → met + length (named keys m j (n - j)) ≡ total → j < n → i ≡ positionOf keys j
       → m ≤ i → met + length rest ≡ total
   met-pass met total inv h e l = omega (arith, ap length (named-pass h e l))
 
   module _ (end : ℕ) (whole : Bool) where
     pub key-on : (r : Region) → spaced end (map (spanAt w) (named keys m j (n - j))) ≡ whole → j < n
-        → i ≡ getD keys j 0 % page → i < m → r ≡ recordAt w configRecords i → end ≤ r .p .0
+        → i ≡ positionOf keys j → i < m → r ≡ recordAt w configRecords i → end ≤ r .p .0
         → spaced (r .p .0 + r .size) (map (spanAt w) rest) ≡ whole
     unfolding spanAt
     key-on r inv h e l g q =
@@ -175,7 +174,7 @@ module _ (w keys : List ℕ) (m n j i : ℕ) where
         ∙ sym (spaced-step end (spanAt w i) (map (spanAt w) rest) (omega (arith, ap (λ (x : Region). x .p .0) g)))
         ∙ sym (ap (λ (k : List ℕ). spaced end (map (spanAt w) k)) (named-hit h e l)) ∙ inv
 
-    pub key-pass : spaced end (map (spanAt w) (named keys m j (n - j))) ≡ whole → j < n → i ≡ getD keys j 0 % page
+    pub key-pass : spaced end (map (spanAt w) (named keys m j (n - j))) ≡ whole → j < n → i ≡ positionOf keys j
         → m ≤ i → spaced end (map (spanAt w) rest) ≡ whole
     key-pass inv h e l = sym (ap (λ (k : List ℕ). spaced end (map (spanAt w) k)) (named-pass h e l)) ∙ inv
 
@@ -224,30 +223,52 @@ pub told-clear : (w : List ℕ) (n : ℕ) (t : Bool) → (t ≡ true → ClearBe
 told-clear w n t told e = told e
 
 -- ---- halfway between two numbers
-module _ (lo hi : ℕ) (h : 1 < hi - lo) where
-  half : (0 < (hi - lo) / 2) × ((hi - lo) / 2 < hi - lo)
-  half =
+module _ (lo hi : ℕ) (h : lo < hi) where
+  pub mid-low : lo + (hi - lo) / 2 < hi
+  mid-low =
       let z : 0 < 2 = omega arith in
       let l : (hi - lo) % 2 < 2 = mod-lt (hi - lo) z in
-      (omega (arith, div-add-mod' (hi - lo) 2), omega (arith, div-add-mod' (hi - lo) 2))
+      omega (arith, div-add-mod' (hi - lo) 2)
 
   pub mid-within : (n : ℕ) → hi ≤ n → lo + (hi - lo) / 2 ≤ n
-  mid-within n l = omega (arith, half .1)
+  mid-within n l = omega (arith, mid-low)
+
+  pub mid-there : (n m : ℕ) → hi ≤ n → n ≤ m → lo + (hi - lo) / 2 < m
+  mid-there n m l k = omega (arith, mid-low)
 
   pub mid-fits : (n : ℕ) → hi ≤ n → n ≤ mostRegions → Fits w64 (lo + (hi - lo) / 2)
-  mid-fits n l m = omega (arith, half .1)
+  mid-fits n l m = omega (arith, mid-low)
+
+  pub past-fits : (n : ℕ) → hi ≤ n → n ≤ mostRegions → Fits w64 (lo + (hi - lo) / 2 + 1)
+  past-fits n l m = omega (arith, mid-low)
 
   pub mid-most : (n : ℕ) → hi ≤ n → n ≤ mostRegions → lo + (hi - lo) / 2 ≤ mostRegions
-  mid-most n l m = omega (arith, half .1)
+  mid-most n l m = omega (arith, mid-low)
 
   pub mid-below : lo + (hi - lo) / 2 ≤ hi
-  mid-below = omega (arith, half .1)
+  mid-below = omega (arith, mid-low)
 
-  pub upper-less : hi - (lo + (hi - lo) / 2) < hi - lo
-  upper-less = omega (arith, half .0, half .1)
+  pub past-below : lo + (hi - lo) / 2 + 1 ≤ hi
+  past-below = omega (arith, mid-low)
+
+  pub past-less : hi - (lo + (hi - lo) / 2 + 1) < hi - lo
+  past-less = omega (arith, mid-low)
 
   pub lower-less : lo + (hi - lo) / 2 - lo < hi - lo
-  lower-less = omega (arith, half .0, half .1)
+  lower-less = omega (arith, mid-low)
+
+pub upper-less : (lo hi : ℕ) → 1 < hi - lo → hi - (lo + (hi - lo) / 2) < hi - lo
+upper-less lo hi h =
+    let z : 0 < 2 = omega arith in
+    let l : (hi - lo) % 2 < 2 = mod-lt (hi - lo) z in
+    omega (arith, div-add-mod' (hi - lo) 2)
+
+pub fit-mid : (w : List ℕ) (lo hi n : ℕ) → FitBelow w n → 1 < hi - lo → hi ≤ n → FitBelow w (lo + (hi - lo) / 2)
+fit-mid w lo hi n fit h l = fit-fewer w (lo + (hi - lo) / 2) n fit (mid-within lo hi (omega arith) n l)
+
+-- ---- a region that was compared
+pub place-told : (r e x : Region) (t : Bool) → t ≡ regionEq r e → not t ≡ false → e ≡ x → r ≡ x
+place-told r e x t q f g = equal-same r e (sym q ∙ not-false t f) ∙ g
 
 -- ---- the answer: that of the positions from i on
 pub answer-from : (w : List ℕ) (i n : ℕ) (v : Checked) → ClearBelow w i → i ≤ n
@@ -256,11 +277,3 @@ pub answer-from : (w : List ℕ) (i n : ℕ) (v : Checked) → ClearBelow w i �
 unfolding ClearBelow
 answer-from w i n v clear h e =
     e ∙ rules-past (positionRules limits (allRecords w)) n Sound (telling-at limits (allRecords w)) i h clear
-
-pub answer-sound : (w : List ℕ) (n : ℕ) → ClearBelow w n
-    → Sound ≡ firstRule (flatMap (positionRules limits (allRecords w)) (places 0 n)) Sound
-unfolding firstRule flatMap places
-answer-sound w n clear =
-    let z : n - n ≡ 0 = omega arith in
-    answer-from w n n Sound clear (omega arith)
-    (sym (ap (λ (k : ℕ). firstRule (flatMap (positionRules limits (allRecords w)) (places n k)) Sound) z))

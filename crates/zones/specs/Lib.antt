@@ -7,6 +7,7 @@ pub mod Spans
 pub mod Words
 pub mod Packing
 pub mod Holding
+pub mod Owners
 pub mod Decide
 pub mod Step
 pub mod Run

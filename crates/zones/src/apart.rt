@@ -1,44 +1,48 @@
 // A configuration without a fault, told without comparing every two regions: where each region is well formed and in reach, and none starts
 // before the one in front of it ends, no two overlap. The regions are looked at as they stand, and else in the order of their starts.
 use crate::config::region_at;
+use crate::keys::fill_keys;
+use crate::keys::position_of;
 use crate::layout::CONFIG_WORDS;
 use crate::sort::sort;
-use region::in_reach;
-use region::well_formed;
-use rules::Region;
 use rules::limits::MOST_REGIONS;
-use rules::limits::PAGE;
 ghost use Prim.Native.Nat.{_≤_, _<_};
 ghost use mathlib.Core.Bool.{true};
 ghost use mathlib.Core.Path.{_≡_};
 ghost use lib.ListN.{length};
 ghost use Rattle.rules.specs.Limits.{mostRegions};
-ghost use Rattle.zones.specs.Spans.{fits, FitBelow, ClearBelow};
+ghost use Rattle.zones.specs.Spans.{FitBelow, ClearBelow};
 
 // Fewer regions than these are compared two by two: an order of them is not worth its making.
 const MANY: usize = 16;
 
-fn is_fit(r: Region) -> bool
-    ensures { λ b. ⌜ b ≡ fits r ⌝ }
+// So many positions, from the first on, have no fault: all before the first fault, if there are many or they stand in order. The keys are
+// then theirs, in the order of starts.
+pub fn clear_below(c: &[u64; CONFIG_WORDS], keys: &mut [u64], n: usize) -> usize
+    requires { ⌜ (n ≤ mostRegions) × (n ≤ length (now keys)) ⌝ }
+    ensures { λ k. ⌜ ((k ≤ n) × ClearBelow (now (c .entry)) k) × (length (now (keys .exit)) ≡ length (now (keys .entry))) ⌝ }
 {
-    if !well_formed(r) {
-        return false;
+    let fit = fill_keys(c, keys, n);
+    if in_turn(c, fit) {
+        return fit;
     }
-    in_reach(r)
+    if fit < MANY {
+        return 0;
+    }
+    let mut room = [0u64; MOST_REGIONS];
+    sort(keys, &mut room, fit);
+    most_apart(c, keys, fit)
 }
 
-// Whether the regions below n are well formed and in reach, and none starts before the one in front of it ends.
-pub fn in_turn(c: &[u64; CONFIG_WORDS], n: usize) -> bool
-    requires { ⌜ n ≤ mostRegions ⌝ }
+// Whether no region below n starts before the one in front of it ends.
+fn in_turn(c: &[u64; CONFIG_WORDS], n: usize) -> bool
+    requires { ⌜ (n ≤ mostRegions) × FitBelow (now c) n ⌝ }
     ensures { λ b. ⌜ (b ≡ true → ClearBelow (now (c .entry)) n) ⌝ }
 {
     let mut end: u64 = 0;
     let mut i = 0;
     while i < n {
         let r = region_at(c, i);
-        if !is_fit(r) {
-            return false;
-        }
         if r.p.0 < end {
             return false;
         }
@@ -46,50 +50,6 @@ pub fn in_turn(c: &[u64; CONFIG_WORDS], n: usize) -> bool
         i += 1;
     }
     true
-}
-
-// So many positions, from the first on, have no fault: all before the first fault, where there are many.
-pub fn clear_below(c: &[u64; CONFIG_WORDS], n: usize) -> usize
-    requires { ⌜ n ≤ mostRegions ⌝ }
-    ensures { λ k. ⌜ (k ≤ n) × ClearBelow (now (c .entry)) k ⌝ }
-{
-    let fit = first_unfit(c, n);
-    if fit < MANY {
-        return 0;
-    }
-    let mut keys = [0u64; MOST_REGIONS];
-    let mut room = [0u64; MOST_REGIONS];
-    fill_keys(c, &mut keys, fit);
-    sort(&mut keys, &mut room, fit);
-    most_apart(c, &keys, fit)
-}
-
-// The first position below n whose region is not well formed or not in reach, or n.
-fn first_unfit(c: &[u64; CONFIG_WORDS], n: usize) -> usize
-    requires { ⌜ n ≤ mostRegions ⌝ }
-    ensures { λ k. ⌜ (k ≤ n) × FitBelow (now (c .entry)) k ⌝ }
-{
-    let mut i = 0;
-    while i < n {
-        if !is_fit(region_at(c, i)) {
-            return i;
-        }
-        i += 1;
-    }
-    i
-}
-
-// A key for each position below n: the region's physical start, a multiple of the page, and the position, which is below the page.
-fn fill_keys(c: &[u64; CONFIG_WORDS], keys: &mut [u64], n: usize)
-    requires { ⌜ ((n ≤ mostRegions) × (n ≤ length (now keys))) × FitBelow (now c) n ⌝ }
-    ensures { λ r. ⌜ length (now (keys .exit)) ≡ length (now (keys .entry)) ⌝ }
-{
-    let mut i = 0;
-    while i < n {
-        let r = region_at(c, i);
-        keys[i] = r.p.0 + i as u64;
-        i += 1;
-    }
 }
 
 // So many of the n positions, from the first on, have regions that are apart: all of them, or as halving finds them. A number of positions
@@ -124,7 +84,7 @@ fn apart_below(c: &[u64; CONFIG_WORDS], keys: &[u64], n: usize, m: usize) -> boo
     let mut met = 0;
     let mut j = 0;
     while j < n {
-        let i = (keys[j] % PAGE) as usize;
+        let i = position_of(keys, j);
         j += 1;
         if i < m {
             let r = region_at(c, i);

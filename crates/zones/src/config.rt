@@ -1,6 +1,5 @@
 // The configuration's check.
 use crate::apart::clear_below;
-use crate::apart::in_turn;
 use crate::layout::CONFIG_COUNT;
 use crate::layout::CONFIG_GIC;
 use crate::layout::CONFIG_RECORDS;
@@ -100,6 +99,15 @@ pub fn check_earlier(f: Checked) -> usize
 pub fn check_words(c: &[u64; CONFIG_WORDS]) -> Checked
     ensures { λ f. ⌜ f ≡ check limits (storedConfig (now (c .entry))) ⌝ }
 {
+    let mut keys = [0u64; MOST_REGIONS];
+    check_with(c, &mut keys)
+}
+
+// The same with room for the keys of its regions. Those of a sound one are then in order, if it has many regions.
+pub fn check_with(c: &[u64; CONFIG_WORDS], keys: &mut [u64]) -> Checked
+    requires { ⌜ mostRegions ≤ length (now keys) ⌝ }
+    ensures { λ f. ⌜ (f ≡ check limits (storedConfig (now (c .entry)))) × (length (now (keys .exit)) ≡ length (now (keys .entry))) ⌝ }
+{
     let count = c[CONFIG_COUNT] as usize;
     if count == 0 {
         return Checked::BadCount;
@@ -113,7 +121,7 @@ pub fn check_words(c: &[u64; CONFIG_WORDS]) -> Checked
     if !zeros_in(c, CONFIG_RECORDS + count * REGION_WORDS, CONFIG_WORDS) {
         return Checked::NotZero(first_used(c, count));
     }
-    check_positions(c, count)
+    check_positions(c, keys, count)
 }
 
 pub fn region_at(c: &[u64; CONFIG_WORDS], i: usize) -> Region
@@ -138,15 +146,13 @@ fn first_used(c: &[u64; CONFIG_WORDS], n: usize) -> usize
     i
 }
 
-// The first fault at the positions below n: at most from the first on where a quick look finds none before it.
-fn check_positions(c: &[u64; CONFIG_WORDS], n: usize) -> Checked
-    requires { ⌜ n ≤ mostRegions ⌝ }
-    ensures { λ f. ⌜ f ≡ firstRule (flatMap (positionRules limits (allRecords (now (c .entry)))) (places 0 n)) Checked.Sound ⌝ }
+// The first fault at the positions below n: those that a quick look finds clear are not looked at again.
+fn check_positions(c: &[u64; CONFIG_WORDS], keys: &mut [u64], n: usize) -> Checked
+    requires { ⌜ (n ≤ mostRegions) × (n ≤ length (now keys)) ⌝ }
+    ensures { λ f. ⌜ (f ≡ firstRule (flatMap (positionRules limits (allRecords (now (c .entry)))) (places 0 n)) Checked.Sound)
+        × (length (now (keys .exit)) ≡ length (now (keys .entry))) ⌝ }
 {
-    if in_turn(c, n) {
-        return Checked::Sound;
-    }
-    let clear = clear_below(c, n);
+    let clear = clear_below(c, keys, n);
     check_from(c, clear, n)
 }
 

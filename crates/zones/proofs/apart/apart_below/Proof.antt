@@ -24,11 +24,8 @@ abbrev μ-loop : tie.MeasureT-loop
 loop-holds : tie.Need-loop-holds Inv-loop μ-loop
 loop-holds c = ((search needs, search needs), (search keys-start, search met-start))
 
-mul-i : tie.Need-mul-i Inv-loop μ-loop
-mul-i c = search needs
-
-shared-slice-read-i : tie.Need-shared-slice-read-i Inv-loop μ-loop
-shared-slice-read-i c = search needs
+position-of-requires : tie.Need-position-of-requires Inv-loop μ-loop
+position-of-requires c κs = search needs
 
 add-j : tie.Need-add-j Inv-loop μ-loop
 add-j c = search needs
@@ -67,8 +64,7 @@ apart-below-spec =
     Inv-loop
     μ-loop
     loop-holds
-    mul-i
-    shared-slice-read-i
+    position-of-requires
     add-j
     region-at-requires
     returns

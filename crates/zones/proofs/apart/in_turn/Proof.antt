@@ -1,40 +1,34 @@
--- Invariant: every region below i fits, and whether the rest stands in turn from `end` on is the whole answer.
+-- Invariant: whether the regions from i on stand in turn from `end` on is the whole answer.
 use Prim.Native.Nat.{_-_, _≤_}
 use mathlib.Core.Bool.{true≢false}
 use mathlib.Core.List.{map}
 use mathlib.Core.Path.{_≡_, sym}
 use borrow.Author.Needs.{needs}
 use Rattle.lists.specs.Places.{places}
-use Rattle.zones.specs.Spans.{spaced, spanAt, FitBelow}
-use Rattle.zones.proofs.QuickCheck.{fit-none, fit-more, end-fits, row-start, row-on, clear-row}
+use Rattle.zones.specs.Spans.{spaced, spanAt}
+use Rattle.zones.proofs.QuickCheck.{end-fits-below, row-start, row-on, clear-row}
 use Rattle.zones.proofs.apart.in_turn.Statement.{statement}
 use Rattle.zones.proofs.apart.in_turn.Tie as tie
 
 abbrev Inv-loop : tie.InvT-loop
 Inv-loop c n end₀ i₀ end i =
-    ((i ≤ n) × FitBelow c i)
+    (i ≤ n)
     × (spaced end (map (spanAt c) (places i (n - i))) ≡ spaced 0 (map (spanAt c) (places 0 n)))
 
 abbrev μ-loop : tie.MeasureT-loop
 μ-loop c n end₀ i₀ end i = n - i
 
 loop-holds : tie.Need-loop-holds Inv-loop μ-loop
-loop-holds c = ((search needs, search fit-none), search row-start)
+loop-holds c = (search needs, search row-start)
 
 region-at-requires : tie.Need-region-at-requires Inv-loop μ-loop
 region-at-requires c κs = search needs
 
-is-fit-requires : tie.Need-is-fit-requires Inv-loop μ-loop
-is-fit-requires c κs = search needs
-
 returns : tie.Need-returns Inv-loop μ-loop
 returns c = λ e. absurd (true≢false (sym e))
 
-returns-2 : tie.Need-returns-2 Inv-loop μ-loop
-returns-2 c = λ e. absurd (true≢false (sym e))
-
 add-end : tie.Need-add-end Inv-loop μ-loop
-add-end c = search (end-fits, needs)
+add-end c = search (end-fits-below, needs)
 
 add-i : tie.Need-add-i Inv-loop μ-loop
 add-i c = search needs
@@ -43,10 +37,10 @@ loop-less : tie.Need-loop-less Inv-loop μ-loop
 loop-less c = search needs
 
 loop-again : tie.Need-loop-again Inv-loop μ-loop
-loop-again c = ((search needs, search (fit-more, needs)), search (row-on, needs))
+loop-again c = (search needs, search (row-on, needs))
 
-returns-3 : tie.Need-returns-3 Inv-loop μ-loop
-returns-3 c = λ e. search (clear-row, needs)
+returns-2 : tie.Need-returns-2 Inv-loop μ-loop
+returns-2 c = λ e. search (clear-row, needs)
 
 pub in-turn-spec : {M : Type 1} → statement M
 in-turn-spec =
@@ -56,11 +50,9 @@ in-turn-spec =
     μ-loop
     loop-holds
     region-at-requires
-    is-fit-requires
     returns
-    returns-2
     add-end
     add-i
     loop-less
     loop-again
-    returns-3)
+    returns-2)

@@ -2,7 +2,7 @@
 use Prim.Native.Nat.{_-_, _≤_}
 use borrow.Author.Needs.{needs}
 use Rattle.zones.specs.Spans.{ClearBelow}
-use Rattle.zones.proofs.QuickCheck.{fit-fewer, clear-none, told-clear, mid-within, mid-fits, mid-most, mid-below}
+use Rattle.zones.proofs.QuickCheck.{fit-mid, clear-none, told-clear, mid-within, mid-fits, mid-most, mid-below}
 use Rattle.zones.proofs.QuickCheck.{upper-less, lower-less}
 use Rattle.zones.proofs.apart.most_apart.Statement.{statement}
 use Rattle.zones.proofs.apart.most_apart.Tie as tie
@@ -32,7 +32,7 @@ add-mid : tie.Need-add-mid Inv-loop μ-loop
 add-mid c = search (mid-fits, needs)
 
 apart-below-requires-2 : tie.Need-apart-below-requires-2 Inv-loop μ-loop
-apart-below-requires-2 c κs = ((search (mid-most, needs), search needs), search (fit-fewer, mid-within, needs))
+apart-below-requires-2 c κs = ((search (mid-most, needs), search needs), search (fit-mid, needs))
 
 loop-less : tie.Need-loop-less Inv-loop μ-loop
 loop-less c = search (upper-less, needs)

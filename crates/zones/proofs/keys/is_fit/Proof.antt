@@ -2,8 +2,8 @@
 use borrow.Author.Needs.{needs}
 use Rattle.lists.proofs.Tests.{conjunction}
 use Rattle.zones.specs.Spans.{fits}
-use Rattle.zones.proofs.apart.is_fit.Statement.{statement}
-use Rattle.zones.proofs.apart.is_fit.Tie as tie
+use Rattle.zones.proofs.keys.is_fit.Statement.{statement}
+use Rattle.zones.proofs.keys.is_fit.Tie as tie
 
 well-formed-requires : tie.Need-well-formed-requires
 well-formed-requires c κs = search needs

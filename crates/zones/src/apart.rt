@@ -1,6 +1,7 @@
 // A configuration without a fault, told without comparing every two regions: where each region is well formed and in reach, and none starts
 // before the one in front of it ends, no two overlap. The regions are looked at as they stand, and else in the order of their starts.
 use crate::config::region_at;
+use crate::keys::MANY;
 use crate::keys::fill_keys;
 use crate::keys::position_of;
 use crate::layout::CONFIG_WORDS;
@@ -12,9 +13,6 @@ ghost use mathlib.Core.Path.{_≡_};
 ghost use lib.ListN.{length};
 ghost use Rattle.rules.specs.Limits.{mostRegions};
 ghost use Rattle.zones.specs.Spans.{FitBelow, ClearBelow};
-
-// Fewer regions than these are compared two by two: an order of them is not worth its making.
-const MANY: usize = 16;
 
 // So many positions, from the first on, have no fault: all before the first fault, if there are many or they stand in order. The keys are
 // then theirs, in the order of starts.

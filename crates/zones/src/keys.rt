@@ -20,6 +20,9 @@ ghost use Rattle.zones.specs.Records.{recordAt};
 ghost use Rattle.zones.specs.Spans.{fits, FitBelow, positionOf};
 ghost use Rattle.zones.specs.View.{configIn, ConfigPassed};
 
+// Fewer regions than these are compared two by two: keys of them are not worth their ordering.
+pub const MANY: usize = 16;
+
 // The keys of the positions below n, as far as regions are well formed and in reach; so many they are.
 pub fn fill_keys(c: &[u64; CONFIG_WORDS], keys: &mut [u64], n: usize) -> usize
     requires { ⌜ (n ≤ mostRegions) × (n ≤ length (now keys)) ⌝ }
@@ -54,11 +57,14 @@ pub fn position_of(keys: &[u64], j: usize) -> usize
     (keys[j] % PAGE) as usize
 }
 
-// A position below n whose region is r, if the n keys lead to one, or n.
+// A position below n whose region is r, if there are many and the n keys lead to one, or n.
 pub fn place_of(c: &[u64; CONFIG_WORDS], keys: &[u64], n: usize, r: Region) -> usize
     requires { ⌜ (n ≤ mostRegions) × (n ≤ length (now keys)) ⌝ }
     ensures { λ k. ⌜ (k ≤ n) × (k < n → r ≡ recordAt (now (c .entry)) configRecords k) ⌝ }
 {
+    if n < MANY {
+        return n;
+    }
     let j = first_from(keys, n, r.p.0);
     if n <= j {
         return n;

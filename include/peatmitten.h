@@ -17,8 +17,9 @@
  * written by another thread meanwhile: while a plan is applied, its table may hold what earlier requests of the plan made of it.
  *
  * Stack: PEATMITTEN_STACK bytes are enough. tests/stack.sh measures it: it calls every function on a stack filled with a pattern, over the
- * stored plans, looks how deep the pattern is gone, and prints it for each function. Measured were 600 bytes for peatmitten_apply_words, 304
- * for peatmitten_request and less for the others: no function has a table, a configuration or a plan on its stack. Nothing is allocated.
+ * stored plans, looks how deep the pattern is gone, and prints it for each function. Measured were 4,544 bytes for peatmitten_apply_words
+ * and less for the others: no function has a table, a configuration or a plan on its stack, but a number for each region, twice. Nothing is
+ * allocated.
  *
  * Imports: memset, and nothing else. The code is for x86-64 and calls as Linux does there (System V); no other system is
  * supported.

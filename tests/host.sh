@@ -83,9 +83,11 @@ can_run_with() {
 }
 
 # Sets SANITIZERS to the compiler's options for the sanitizers that it has and that run here; says which are left out. The address
-# sanitizer reserves more memory than an emulated program can have, so it is tried on the machine's own processor alone.
+# sanitizer reserves more memory than an emulated program can have, so it is tried on the machine's own processor alone. Its search for
+# leaks, which can take seconds at the end of each run, is left out: neither the example nor the library allocates.
 find_sanitizers() {
     local options
+    export ASAN_OPTIONS=detect_leaks=0
     while read -r options; do
         read -ra SANITIZERS <<<"$options"
         if ! can_run_with "${SANITIZERS[@]}"; then

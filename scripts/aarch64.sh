@@ -34,7 +34,7 @@ known_lines() {
     printf '%s\n' '' ';.*' 'source_filename = "rattle"' "target datalayout = \"$x86_layout\"" "target triple = \"$x86_triple\""
     # Within the module functions are called as its compiler likes.
     printf '%s\n' "define internal (void|noundef (zeroext )?$one) $function\(($taken(, $taken)*)?\) #0 \{" '\}'
-    # Others are called as C does. It hands over pointers and numbers of 32 and 64 bits, eight at most, in registers on both processors.
+    # Others are called as C does. It hands over pointers and numbers of 32 and 64 bits as they are, eight of them in registers on aarch64.
     taken="(ptr|i32|i64) noundef $local_name"
     printf '%s\n' "define noundef (i32|i64) @peatmitten_[a-z0-9_]+\(($taken(, $taken){0,7})?\) #0 \{"
     printf '%s\n' '[A-Za-z0-9_.]+:( *; preds = .*)?' "  br $label" "  br i1 $value, $label, $label" '  unreachable' \

@@ -12,7 +12,6 @@ export PEATMITTEN_LIB_DIR=$LIBRARY_DIR
 options=(--offline --locked --quiet --target "$RUST_TARGET")
 
 cd "$root/rust"
-"$CARGO" build "${options[@]}" --release --workspace || say_failed "the crates do not build"
 "$CARGO" test "${options[@]}" --workspace || say_failed "a test of the crates"
 "$CARGO" run "${options[@]}" --release --package compare -- --cases "$cases" || say_failed "the comparison"
 echo "rust: ok"

@@ -17,8 +17,8 @@
  * written by another thread meanwhile: while a plan is applied, its table may hold what earlier requests of the plan made of it.
  *
  * Stack: PEATMITTEN_STACK bytes are enough. tests/stack.sh measures it: it calls every function on a stack filled with a pattern, over the
- * stored plans, looks how deep the pattern is gone, and prints it for each function. Measured were on x86-64 600 bytes for
- * peatmitten_apply_words, 304 for peatmitten_request and less for the others, on aarch64 352 and 256 and less: no function has a table, a
+ * stored plans, looks how deep the pattern is gone, and prints it for each function. Measured were on x86-64 416 bytes for
+ * peatmitten_apply_words, 336 for peatmitten_request and less for the others, on aarch64 352 and 256 and less: no function has a table, a
  * configuration or a plan on its stack. Nothing is allocated.
  *
  * Imports: memset, and nothing else. The code is called as Linux does on its processor (System V on x86-64, AAPCS64 on aarch64, lowest byte

@@ -1,8 +1,8 @@
 /*
  * Peatmitten: a verified core for update agents of card terminals.
  *
- * The functions of libpeatmitten.a, a static library for x86-64 Linux. Usable from C11 and from C++11. (Where the toolchain has just
- * built it, it is target/staticlib/libagent.a.)
+ * The functions of libpeatmitten.a, a static library for Linux on x86-64 or on aarch64. Usable from C11 and from C++11. (Where it was
+ * just built, it is libagent.a; `./peatmitten library` says where.)
  *
  * A terminal's hypervisor gives each zone regions of memory: one set for the processor (CPU), one for devices (IOMMU). A plan
  * is a file that changes them. An agent keeps one peatmitten_state and lends it, with each plan that arrives, to
@@ -17,11 +17,18 @@
  * written by another thread meanwhile: while a plan is applied, its table may hold what earlier requests of the plan made of it.
  *
  * Stack: PEATMITTEN_STACK bytes are enough. tests/stack.sh measures it: it calls every function on a stack filled with a pattern, over the
- * stored plans, looks how deep the pattern is gone, and prints it for each function. Measured were 600 bytes for peatmitten_apply_words, 304
- * for peatmitten_request and less for the others: no function has a table, a configuration or a plan on its stack. Nothing is allocated.
+ * stored plans, looks how deep the pattern is gone, and prints it for each function. Measured were on x86-64 4,544 bytes for
+ * peatmitten_apply_words and on aarch64 4,464, and less for the others: no function has a table, a configuration or a plan on its stack, but
+ * a number for each configured region, twice at a time. Nothing is allocated.
  *
- * Imports: memset, and nothing else. The code is for x86-64 and calls as Linux does there (System V); no other system is
- * supported.
+ * Imports: memset, and nothing else. The code is called as Linux does on its processor (System V on x86-64, AAPCS64 on aarch64, lowest byte
+ * first); no other system is supported. Every function takes and gives pointers and whole numbers of 32 and 64 bits, so none is declared
+ * differently on either; structs are made here, by inline functions.
+ *
+ * What is proved is the program that the toolchain writes as an LLVM module, from which the library for x86-64 is compiled. That for aarch64
+ * is compiled from the same module, with the target's name, its data layout and the processor's name changed in three lines. No proof covers
+ * the writing of the module, LLVM's back end for either processor, or these three lines; README, "For which processor", says why they do not
+ * change what the module means, and how it is tested.
  */
 #ifndef PEATMITTEN_H
 #define PEATMITTEN_H

@@ -1,6 +1,6 @@
 #!/usr/bin/env bash
 # Builds the C examples against the library, plainly and under sanitizers, and compares what they print; holds the header's limits to the
-# library's, and sees that another layout does not link. The headers are compiled as C++ too. On another processor than x86-64 the programs are emulated.
+# library's, and sees that another layout does not link. The headers are compiled as C++ too.
 set -euo pipefail
 test_name=c
 . "$(dirname "$0")/host.sh"

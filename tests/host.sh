@@ -1,18 +1,34 @@
-# Sourced by the tests and by ./peatmitten: how programs that link the library are built and run on this machine. The library is for
-# x86-64. On another processor they are built by a cross compiler and run under an emulator; tests/install_cross.sh installs both.
+# Sourced by the tests and by ./peatmitten: how programs that link the library are built and run on this machine. They are built for the
+# machine's own processor, or for the one that PEATMITTEN_PROCESSOR names: x86_64 or aarch64. For another processor than its own they are
+# built by a cross compiler and run under an emulator; for x86_64 tests/install_cross.sh installs both.
 #
-#   LIBRARY_DIR  where the library is: PEATMITTEN_LIB_DIR, or where the toolchain writes it
-#   ARCHIVE      after need_library, its file: installed it is libpeatmitten.a, as the toolchain writes it libagent.a
-#   CC           a C compiler for x86-64
-#   EMULATOR     empty on x86-64, else the command that runs an x86-64 program
+#   PROCESSOR    the processor that programs are built for
+#   LIBRARY_DIR  where its library is: PEATMITTEN_LIB_DIR, or where ./peatmitten builds it
+#   ARCHIVE      after need_library, its file: installed it is libpeatmitten.a, as it is built libagent.a
+#   CC           after need_c, a C compiler for that processor
+#   EMULATOR     after need_c, empty for the machine's own processor, else the command that runs a program
 #   SANITIZERS   after find_sanitizers, the C compiler's options for the sanitizers that run here
-#   CARGO        what builds the Rust crates
+#   CARGO        after need_rust, what builds the Rust crates; RUST_TARGET is for which target
 #   TOOL         after need_tool, the command behind ./peatmitten base, run and show
 #   work         after need_work, a folder for a test's own files, which is removed when the test ends
 
 root=$(cd "$(dirname "${BASH_SOURCE[0]}")/.." && pwd)
-LIBRARY_DIR=${PEATMITTEN_LIB_DIR:-$root/target/staticlib}
-RUST_TARGET=x86_64-unknown-linux-gnu
+
+# Where the library for a processor is built; x86-64's by the toolchain itself.
+library_folder() {
+    case $1 in
+    x86_64) echo "$root/target/staticlib" ;;
+    *) echo "$root/target/staticlib/$1" ;;
+    esac
+}
+
+choose_processor() {
+    PROCESSOR=$1
+    RUST_TARGET=$1-unknown-linux-gnu
+    LIBRARY_DIR=${PEATMITTEN_LIB_DIR:-$(library_folder "$1")}
+}
+
+choose_processor "${PEATMITTEN_PROCESSOR:-$(uname -m)}"
 
 say_failed() {
     echo "$test_name: FAILED: $*" >&2
@@ -35,13 +51,13 @@ need_library() {
         ARCHIVE=$LIBRARY_DIR/$name
         [ ! -f "$ARCHIVE" ] || break
     done
-    [ -f "$ARCHIVE" ] || say_failed "there is no library in $LIBRARY_DIR: build it by 'rt staticlib agent'"
+    [ -f "$ARCHIVE" ] || say_failed "there is no library in $LIBRARY_DIR: build it by './peatmitten library $PROCESSOR'"
     LIBRARY_DIR=$(cd "$LIBRARY_DIR" && pwd)
     ARCHIVE=$LIBRARY_DIR/$name
 }
 
 is_native() {
-    [ "$(uname -m)" = x86_64 ]
+    [ "$(uname -m)" = "$PROCESSOR" ]
 }
 
 need_c() {
@@ -49,11 +65,13 @@ need_c() {
         CC=${CC:-cc}
         EMULATOR=
     else
-        CC=x86_64-linux-gnu-gcc
-        EMULATOR=qemu-x86_64
+        CC=$PROCESSOR-linux-gnu-gcc
+        EMULATOR=qemu-$PROCESSOR
+        command -v "$EMULATOR" >/dev/null || say_failed "there is no $EMULATOR (qemu-x86_64 comes by tests/install_cross.sh)"
+        # The emulator's own processor has instructions that copy and clear any length, and does them byte by byte: three times as slow.
+        [ "$PROCESSOR" != x86_64 ] || export QEMU_CPU=Nehalem
     fi
-    command -v "$CC" >/dev/null || say_failed "there is no C compiler $CC (tests/install_cross.sh installs one)"
-    [ -z "$EMULATOR" ] || command -v "$EMULATOR" >/dev/null || say_failed "there is no $EMULATOR (tests/install_cross.sh installs it)"
+    command -v "$CC" >/dev/null || say_failed "there is no C compiler $CC (a cross compiler for x86_64 comes by tests/install_cross.sh)"
 }
 
 # Whether a program that is built with these options of the compiler runs here.
@@ -67,9 +85,11 @@ can_run_with() {
 }
 
 # Sets SANITIZERS to the compiler's options for the sanitizers that it has and that run here; says which are left out. The address
-# sanitizer reserves more memory than an emulated program can have, so on another processor than x86-64 it is not tried.
+# sanitizer reserves more memory than an emulated program can have, so it is tried on the machine's own processor alone. Its search for
+# leaks, which can take seconds at the end of each run, is left out: neither the example nor the library allocates.
 find_sanitizers() {
     local options
+    export ASAN_OPTIONS=detect_leaks=0
     while read -r options; do
         read -ra SANITIZERS <<<"$options"
         if ! can_run_with "${SANITIZERS[@]}"; then
@@ -98,7 +118,7 @@ has_rust_target() {
     libraries=$("$1" --print target-libdir --target "$RUST_TARGET" 2>/dev/null) && ls "$libraries"/libstd-*.rlib >/dev/null 2>&1
 }
 
-# Finds a cargo whose compiler can build for x86-64, the one on the PATH first, and sets what it needs. Fails if there is none.
+# Finds a cargo whose compiler can build for the target, the one on the PATH first, and sets what it needs. Fails if there is none.
 find_cargo() {
     local bin
     for bin in "$(dirname "$(command -v cargo || echo /none/cargo)")" /usr/bin; do
@@ -110,8 +130,18 @@ find_cargo() {
     return 1
 }
 
+# After need_c: tells cargo by what programs for the target are linked and run.
+set_cargo_target() {
+    local name=${RUST_TARGET^^}
+    name=CARGO_TARGET_${name//-/_}
+    export "${name}_LINKER=$CC"
+    [ -z "$EMULATOR" ] || export "${name}_RUNNER=$EMULATOR"
+}
+
+# After need_c.
 need_rust() {
-    find_cargo || say_failed "no Rust compiler here builds for x86-64 (tests/install_cross.sh installs one)"
+    find_cargo || say_failed "no Rust compiler here builds for $PROCESSOR (one for x86_64 comes by tests/install_cross.sh)"
+    set_cargo_target
 }
 
 # Asked by itself the tool is quicker than by ./peatmitten, which is asked once here to build it.

@@ -1,6 +1,7 @@
 #!/usr/bin/env bash
 # Installs the library into a folder, builds the C example against what is there, with no other flags than pkg-config's, and runs it. What
-# the header says of the archive holds: what it imports, no state of its own, x86-64. The version is the same wherever it stands.
+# the header says of the archive holds, for either processor: what it imports, no state of its own, which functions. The version is the
+# same wherever it stands.
 set -euo pipefail
 test_name=install
 . "$(dirname "$0")/host.sh"
@@ -28,6 +29,7 @@ check_files() {
     DESTDIR=$work/image "$root/peatmitten" install /usr/local/ >/dev/null || say_failed "with DESTDIR"
     grep -qx 'prefix=/usr/local' "$work/image/usr/local/lib/pkgconfig/peatmitten.pc" || say_failed "DESTDIR is in the pkg-config file"
     if "$root/peatmitten" install usr >/dev/null 2>&1; then say_failed "a folder that is not from the root on is taken"; fi
+    if "$root/peatmitten" install "$work/none" riscv64 >/dev/null 2>&1; then say_failed "a processor that there is no library for is taken"; fi
     touch "$work/file"
     if "$root/peatmitten" install "$work/file" >/dev/null 2>"$work/errors"; then say_failed "a file is taken for a folder"; fi
     grep -q "$work/file" "$work/errors" || say_failed "what cannot be installed is not named"
@@ -39,15 +41,17 @@ check_example() {
     [ "$($EMULATOR "$work/apply_plan" "$root/examples/first.plan")" = '0 1 0, edition 1' ] || say_failed "the example does not run"
 }
 
-# What the header says of the archive.
+# check_archive PROCESSOR MACHINE: what the header says of its archive; MACHINE is how readelf calls the processor.
 check_archive() {
-    local archive=$work/usr/lib/libpeatmitten.a imports
+    local archive=$work/$1/lib/libpeatmitten.a imports
+    "$root/peatmitten" install "$work/$1" "$1" >/dev/null 2>&1 || say_failed "the library for $1 cannot be installed"
+    grep -q "($1 Linux)" "$work/$1/lib/pkgconfig/peatmitten.pc" || say_failed "the pkg-config file does not name $1"
     imports=$(nm -u "$archive" | awk '$1 == "U" { print $2 }' | sort -u | tr '\n' ' ')
-    [ "$imports" = 'memset ' ] || say_failed "the archive imports: $imports"
-    size "$archive" | awk 'NR > 1 { state += $2 + $3 } END { exit state != 0 }' || say_failed "the archive has memory of its own"
-    readelf -h "$archive" | grep -q 'X86-64' || say_failed "the archive is not for x86-64"
+    [ "$imports" = 'memset ' ] || say_failed "the archive for $1 imports: $imports"
+    size "$archive" | awk 'NR > 1 { state += $2 + $3 } END { exit state != 0 }' || say_failed "the archive for $1 has memory of its own"
+    readelf -h "$archive" | grep -q "Machine: .*$2\$" || say_failed "the archive for $1 is not for $2"
     [ "$(nm "$archive" | awk '$2 == "T" { print $3 }' | sort)" = "$(declared_functions)" ] ||
-        say_failed "the archive has other functions than the header declares"
+        say_failed "the archive for $1 has other functions than the header declares"
 }
 
 # same_version PLACE VERSION
@@ -66,17 +70,16 @@ check_versions() {
 
 # The Rust crate takes the installed library too.
 check_rust() {
-    local runner=()
-    [ -z "$EMULATOR" ] || runner=(CARGO_TARGET_X86_64_UNKNOWN_LINUX_GNU_RUNNER="$EMULATOR")
     need_rust
-    (cd "$root/rust" && CARGO_TARGET_DIR=$work/rust PEATMITTEN_LIB_DIR=$work/usr/lib CARGO_TARGET_X86_64_UNKNOWN_LINUX_GNU_LINKER=$CC \
-        env "${runner[@]}" "$CARGO" test --offline --locked --quiet --target "$RUST_TARGET" --package peatmitten --test typed) >"$work/tested" 2>&1 ||
+    (cd "$root/rust" && CARGO_TARGET_DIR=$work/rust PEATMITTEN_LIB_DIR=$work/usr/lib \
+        "$CARGO" test --offline --locked --quiet --target "$RUST_TARGET" --package peatmitten --test typed) >"$work/tested" 2>&1 ||
         { cat "$work/tested" >&2; say_failed "the Rust crate with the installed library"; }
 }
 
 check_files
 check_example
 check_rust
-check_archive
+check_archive x86_64 X86-64
+check_archive aarch64 AArch64
 check_versions
 echo "install: ok"

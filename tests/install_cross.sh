@@ -1,5 +1,5 @@
 #!/usr/bin/env bash
-# Installs what the tests need to build programs for x86-64 and to run them on another processor: a C compiler, a Rust compiler
+# Installs what tests/emulated.sh needs to build programs for x86-64 and to run them on another processor: a C compiler, a Rust compiler
 # with its standard library for x86-64, and an emulator, all of them Debian's packages. Does nothing where it is all there, or on
 # x86-64. Needs root and a Debian package mirror.
 #
@@ -8,6 +8,7 @@
 set -euo pipefail
 test_name=install_cross
 . "$(dirname "$0")/host.sh"
+choose_processor x86_64
 
 is_installed() {
     is_native ||

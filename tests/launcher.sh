@@ -72,6 +72,8 @@ check_rest() {
     expect 0 'usage: *Exit status:*' '' help
     expect 0 'usage: *' ''
     expect 2 '' 'peatmitten: no command nothing*' nothing
+    expect 2 '' 'peatmitten: the library is for x86_64 and aarch64, not for riscv64' library riscv64
+    expect 2 '' 'peatmitten: library takes a processor at most: *' library x86_64 aarch64
 }
 
 # What cannot be written is told, for an answer and for a text.

@@ -24,8 +24,8 @@ build_tool() {
     local flags
     "$CC" "${warnings[@]}" -c "$root/tests/power_shim.c" -o "$work/shim.o"
     flags="-Clink-arg=$work/shim.o ${wrapped[*]/#/-Clink-arg=-Wl,--wrap=}"
-    (cd "$root/rust" && CARGO_TARGET_DIR=$work/rust PEATMITTEN_LIB_DIR=$LIBRARY_DIR CARGO_TARGET_X86_64_UNKNOWN_LINUX_GNU_LINKER=$CC \
-        RUSTFLAGS=$flags "$CARGO" build --offline --locked --quiet --target "$RUST_TARGET" --package tool) ||
+    (cd "$root/rust" && CARGO_TARGET_DIR=$work/rust PEATMITTEN_LIB_DIR=$LIBRARY_DIR RUSTFLAGS=$flags \
+        "$CARGO" build --offline --locked --quiet --target "$RUST_TARGET" --package tool) ||
         say_failed "the tool does not build"
 }
 

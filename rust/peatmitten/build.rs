@@ -1,6 +1,7 @@
-//! Links the static library, which is for x86-64 Linux. It is looked for in the folder that the environment variable
-//! PEATMITTEN_LIB_DIR names, or else where `rt staticlib agent` puts it. Installed it is libpeatmitten.a, there libagent.a. Where it
-//! is missing, that is a warning here and an error where a program is linked: documentation is made without it.
+//! Links the static library, which is for Linux on x86-64 and on aarch64. It is looked for in the folder that the environment variable
+//! PEATMITTEN_LIB_DIR names, or else where `./peatmitten library` puts that for the target's processor. Installed it is libpeatmitten.a,
+//! there libagent.a. Where it is missing, that is a warning here and an error where a program is linked: documentation is made
+//! without it.
 
 use std::env;
 use std::path::{Path, PathBuf};
@@ -8,10 +9,31 @@ use std::process;
 
 const NAMES: [&str; 2] = ["peatmitten", "agent"];
 
-fn library_folder() -> PathBuf {
-    match env::var_os("PEATMITTEN_LIB_DIR") {
-        Some(folder) => PathBuf::from(folder),
-        None => Path::new(env!("CARGO_MANIFEST_DIR")).join("../../target/staticlib"),
+/// What cargo says of the target.
+fn target(key: &str) -> String {
+    env::var(key).unwrap_or_default()
+}
+
+/// The target's processor. Either can also be a machine with other pointers, or with its bytes in the other order: those are refused.
+fn processor() -> String {
+    let processor = target("CARGO_CFG_TARGET_ARCH");
+    let known = ["x86_64", "aarch64"].contains(&processor.as_str())
+        && target("CARGO_CFG_TARGET_OS") == "linux"
+        && target("CARGO_CFG_TARGET_POINTER_WIDTH") == "64"
+        && target("CARGO_CFG_TARGET_ENDIAN") == "little";
+    if !known {
+        eprintln!("peatmitten: the library is for Linux on x86-64 and aarch64 only, and this build is for {}", target("TARGET"));
+        process::exit(1);
+    }
+    processor
+}
+
+fn library_folder(processor: &str) -> PathBuf {
+    let built = Path::new(env!("CARGO_MANIFEST_DIR")).join("../../target/staticlib");
+    match (env::var_os("PEATMITTEN_LIB_DIR"), processor) {
+        (Some(folder), _) => PathBuf::from(folder),
+        (None, "x86_64") => built,
+        (None, _) => built.join(processor),
     }
 }
 
@@ -19,20 +41,14 @@ fn archive(folder: &Path, name: &str) -> PathBuf {
     folder.join(format!("lib{name}.a"))
 }
 
-fn check_target() {
-    let target = |key| env::var(key).unwrap_or_default();
-    if target("CARGO_CFG_TARGET_ARCH") != "x86_64" || target("CARGO_CFG_TARGET_OS") != "linux" {
-        eprintln!("peatmitten: the library is for x86-64 Linux only, and this build is for {}", target("TARGET"));
-        process::exit(1);
-    }
-}
-
 fn main() {
-    check_target();
-    let folder = library_folder();
+    let processor = processor();
+    let folder = library_folder(&processor);
     let name = NAMES.into_iter().find(|name| archive(&folder, name).is_file()).unwrap_or_else(|| {
         let folder = folder.display();
-        println!("cargo:warning=there is no libpeatmitten.a or libagent.a in {folder}: run `rt staticlib agent` or set PEATMITTEN_LIB_DIR");
+        println!(
+            "cargo:warning=there is no libpeatmitten.a or libagent.a in {folder}: run `./peatmitten library {processor}` or set PEATMITTEN_LIB_DIR"
+        );
         NAMES[0]
     });
     println!("cargo:rerun-if-env-changed=PEATMITTEN_LIB_DIR");

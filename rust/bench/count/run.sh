@@ -1,9 +1,9 @@
 #!/usr/bin/env bash
-# Counts the x86-64 instructions of one call, job by job, for the library and for ordinary Rust (vectors that grow, and the library's own
-# memory), takes the times beside, and prints a table. It needs the library (rt staticlib agent), a Rust compiler for x86-64, a C
-# compiler and qemu-x86_64 with plugins, on x86-64 too: the emulator is what counts.
+# Counts the instructions of one call, job by job, for the library and for ordinary Rust (vectors that grow, and the library's own
+# memory), takes the times beside, and prints a table. It needs the library (./peatmitten library), a Rust and a C compiler. The emulator
+# counts those of x86-64, on x86-64 too, where it is qemu-x86_64 with plugins; else valgrind counts those of the machine's own processor.
 #
-#   rust/bench/count/run.sh [--symbols] [--no-times] [TEXT]
+#   [PEATMITTEN_PROCESSOR=x86_64] rust/bench/count/run.sh [--symbols] [--no-times] [TEXT]
 #
 # TEXT leaves out the jobs whose names do not have it. --symbols says below each job where the instructions of the library and of ordinary
 # Rust on the same memory go. Counts do not depend on what else the machine does; times do, and under an emulator they say little.
@@ -28,31 +28,53 @@ for argument; do
     esac
 done
 
-[[ $(qemu-x86_64 -help 2>/dev/null) == *-plugin* ]] || say_failed "it needs qemu-x86_64 with plugins (Debian's package qemu-user, 6 to 8)"
-command -v cc >/dev/null || say_failed "it needs a C compiler for this machine, cc"
 need_library
 need_c
 need_rust
 need_work
 
-cc -std=c11 -Wall -Wextra -O2 -shared -fPIC "$root/rust/bench/count/count.c" -o "$work/count.so" || say_failed "the plugin does not build"
+# Sets run to the function that counts here.
+choose_counter() {
+    if [ "$PROCESSOR" = x86_64 ] && [[ $(qemu-x86_64 -help 2>/dev/null) == *-plugin* ]]; then
+        cc -std=c11 -Wall -Wextra -O2 -shared -fPIC "$root/rust/bench/count/count.c" -o "$work/count.so" || say_failed "the plugin does not build"
+        run=run_emulated
+    elif is_native && command -v valgrind >/dev/null; then
+        run=run_natively
+    else
+        say_failed "it needs qemu-x86_64 with plugins (Debian's package qemu-user, 6 to 8) for x86_64, or valgrind for this machine's own processor"
+    fi
+}
+
+choose_counter
 (
     cd "$root/rust"
-    export PEATMITTEN_LIB_DIR=$LIBRARY_DIR CARGO_TARGET_X86_64_UNKNOWN_LINUX_GNU_LINKER=$CC
+    export PEATMITTEN_LIB_DIR=$LIBRARY_DIR
     "$CARGO" build --offline --locked --quiet --release --target "$RUST_TARGET" --package bench
 ) || say_failed "the benchmark does not build"
 bench=${CARGO_TARGET_DIR:-$root/rust/target}/$RUST_TARGET/release/bench
 
-# run JOB WORKER TIMES FILE: the counts of all symbols, of the whole program.
-run() {
+# run_emulated JOB WORKER TIMES FILE: the counts of all symbols, of the whole program.
+run_emulated() {
     qemu-x86_64 -cpu "$processor" -plugin "$work/count.so,out=$4" "$bench" work "$1" "$2" "$3" || say_failed "job $1, $2"
+}
+
+# run_natively JOB WORKER TIMES FILE: the same. The line after each calls= has what the callee took, which stands at the callee.
+run_natively() {
+    valgrind --quiet --tool=callgrind --compress-strings=no --compress-pos=no --demangle=no --callgrind-out-file="$work/callgrind" \
+        "$bench" work "$1" "$2" "$3" || say_failed "job $1, $2"
+    awk '
+        /^fn=/ { name = substr($0, 4) }
+        /^calls=/ { getline; next }
+        /^[0-9]/ { count[name] += $2 }
+        END { for (name in count) printf "%d %s\n", count[name], name }
+    ' "$work/callgrind" >"$4"
 }
 
 # count JOB WORKER: the counts of one call, into $work/WORKER, the largest first. What is done before the first call and after the last
 # one is the same in both runs.
 count() {
-    run "$1" "$2" "$few" "$work/few"
-    run "$1" "$2" "$many" "$work/many"
+    $run "$1" "$2" "$few" "$work/few"
+    $run "$1" "$2" "$many" "$work/many"
     awk -v calls=$((many - few)) '
         { count = $1; sub(/^[0-9]+ /, "") }
         FNR == NR { few[$0] = count; next }

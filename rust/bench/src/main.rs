@@ -36,8 +36,8 @@ fn times() {
 }
 
 fn table() {
-    if std::env::consts::ARCH != "x86_64" || cfg!(debug_assertions) {
-        println!("note: these times say little, for this is not a release build for x86-64");
+    if cfg!(debug_assertions) {
+        println!("note: these times say little, for this is not a release build");
     }
     println!("{:<76} {:>11} {:>11} {:>11} {:>8} {:>8}", "job", "library ns", "vectors ns", "fixed ns", "lib/vec", "lib/fix");
     for mut job in jobs::all() {

@@ -119,11 +119,14 @@ impl Case {
     /// What the ordinary implementation answers.
     pub fn ordinary(&self) -> Answer {
         match self.question {
-            Question::Config => match Config::from_words(&self.config) {
-                Ok(_) => self.unchanged(0, [0, 0]),
+            Question::Config => match Config::from_words(&self.config).and_then(|config| config.check()) {
+                Ok(()) => self.unchanged(0, [0, 0]),
                 Err(fault) => self.unchanged(fault.number(), fault.places().map(|place| place as u64)),
             },
-            Question::Table => self.unchanged(self.base().is_ok().into(), [0, 0]),
+            Question::Table => {
+                let is_sound = self.base().is_ok_and(|state| state.table.is_sound(&state.config));
+                self.unchanged(is_sound.into(), [0, 0])
+            }
             Question::Edition => match base_edition(&self.plan) {
                 Ok(edition) => self.unchanged(0, [edition.into(), 0]),
                 Err(fault) => self.unchanged(fault.number(), [fault.offset() as u64, 0]),
@@ -139,11 +142,14 @@ impl Case {
         }
     }
 
-    /// The state that the words are, or 1 or 2.
+    /// The state that the words are, or the first of 1 and 2 where they are none. Whether a state is sound, whatever is asked next says
+    /// itself.
     fn base(&self) -> Result<State, u32> {
         let config = Config::from_words(&self.config).map_err(|_| 1u32)?;
-        let table = Table::from_words(&self.table).filter(|table| table.is_sound(&config)).ok_or(2u32)?;
-        Ok(State { config, table, edition: self.edition() })
+        match Table::from_words(&self.table) {
+            Some(table) => Ok(State { config, table, edition: self.edition() }),
+            None => Err(config.check().map_or(1, |()| 2)),
+        }
     }
 
     fn ask_ordinary(&self, mut state: State) -> Answer {

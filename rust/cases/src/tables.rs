@@ -81,7 +81,8 @@ fn counts(book: &mut Book) {
     let fewer: Vec<Zone> = all_empty().into_iter().take(LAST_ZONE).collect();
     book.ask_table(format!("{LAST_ZONE} zones"), config(), table_words(&fewer)).known(1);
     for (count, is_sound) in [(zones - 1, 0), (zones, 1), (zones + 1, 0)] {
-        book.ask_table(format!("{count} zones counted, {zones} there"), config(), with_word(all, TABLE_COUNT, count)).known(is_sound);
+        book.ask_table(format!("{count} zones counted, {zones} there"), config(), with_word(all, TABLE_COUNT, count))
+            .known(is_sound);
     }
     ask(book, &format!("2^32 + {zones} zones counted"), with_word(all, TABLE_COUNT, (1 << 32) + zones));
     ask(book, "2^64 - 1 zones counted", with_word(all, TABLE_COUNT, u64::MAX));

@@ -59,8 +59,13 @@ fn library(case: &Case) -> Option<Answer> {
     // Only parts are lent, by which a compiler may take the rest for unchanged without a look.
     let (number, places) = ask_library(case, black_box(&mut lent));
     let lent = black_box(&lent);
-    let answer = Answer { number, places, config: *lent.config.words(), table: *lent.table.words(), edition: lent.edition };
-    lent.is_kept_beside().then_some(answer)
+    lent.is_kept_beside().then(|| Answer {
+        number,
+        places,
+        config: *lent.config.words(),
+        table: *lent.table.words(),
+        edition: lent.edition,
+    })
 }
 
 fn ask_library(case: &Case, state: &mut Lent) -> (u32, [u64; 2]) {

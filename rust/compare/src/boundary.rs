@@ -12,9 +12,20 @@ const B: Region = Region::new(0x4000_0000, 0x8020_0000, 0x20_0000);
 const C: Region = Region::new(0x4010_0000, 0x9000_0000, 0x20_0000);
 const G: Region = Region::new(0x0800_0000, 0x0800_0000, 0x1_0000);
 
-pub fn cases() -> Vec<Case> {
-    [config_cases(), table_cases(), request_cases(), translate_cases(), edition_cases(), plan_cases()].concat()
-}
+/// All cases, in parts: of all at once the words would take a gigabyte.
+pub const PARTS: [fn() -> Vec<Case>; 11] = [
+    config_cases,
+    table_cases,
+    request_cases,
+    translate_cases,
+    edition_cases,
+    whole_plans,
+    cut_plans,
+    plans_with_edges,
+    plans_for_others,
+    refused_plans,
+    unsound_terminals,
+];
 
 fn zone(id: u32, cpu: &[Region], iommu: &[Region]) -> Zone {
     Zone { id, cpu: cpu.to_vec(), iommu: iommu.to_vec() }
@@ -267,10 +278,6 @@ fn edition_cases() -> Vec<Case> {
 fn both(state: &State, plan: &[u8]) -> [Case; 2] {
     let apply = Case::apply(state.config.to_words(), state.table.to_words(), state.edition, plan.to_vec());
     [Case::read(plan.to_vec()), apply]
-}
-
-fn plan_cases() -> Vec<Case> {
-    [whole_plans(), cut_plans(), plans_with_edges(), plans_for_others(), refused_plans(), unsound_terminals()].concat()
 }
 
 /// Plans with as few and as many of everything as there can be, and with one more.

@@ -3,7 +3,8 @@
 //!     compare [--cases N] [--seed S]
 //!
 //! The named cases of `rust/cases`, its plan files, the boundary cases and some simulations are always run; random cases and
-//! more simulations follow until there are at least N cases. It prints how often each number was answered and how often each
+//! more simulations follow until there are at least N cases. All processors take part; the cases of a seed are the same on any number
+//! of them. It prints how often each number was answered and how often each
 //! thing happened in simulations, and `N cases, 0 differences`. A difference ends the run: its input is made as small as can be,
 //! printed, and the exit status is 1. It is 1 too if a number of the document was never answered, or if something that can happen
 //! in a simulation never did.
@@ -11,6 +12,7 @@
 #![forbid(unsafe_code)]
 
 mod agree;
+mod at_once;
 mod boundary;
 mod damage;
 mod event;
@@ -23,6 +25,7 @@ use std::iter;
 use std::process::ExitCode;
 
 use agree::{agreed, agreed_by_name, agreed_on_file, Trouble};
+use at_once::on_all_processors;
 use cases::rng::Rng;
 use cases::Case;
 use random::World;
@@ -33,6 +36,9 @@ const USAGE: &str = "usage: compare [--cases N] [--seed S]";
 
 /// Random cases that are made from one configuration.
 const CASES_OF_A_WORLD: usize = 60;
+
+/// After so many rounds it is looked whether there are cases enough: some 100 cases each.
+const ROUNDS_AT_ONCE: usize = 32;
 
 /// The first simulation, and all others; so many of those are always run.
 const LONG: Length = Length { plans: 60, turns: 4000 };
@@ -64,6 +70,26 @@ fn compare_all(cases: impl IntoIterator<Item = Case>, tally: &mut Tally) -> Resu
     cases.into_iter().try_for_each(|case| tally.add(&case, &agreed(&case)?))
 }
 
+/// A simulation, and before it random cases of one configuration where it has some. It draws numbers of its own, so that it is the same
+/// whatever is done before it or beside it.
+struct Round {
+    seed: u64,
+    cases: usize,
+    edition: u32,
+    length: Length,
+}
+
+impl Round {
+    fn run(&self, tally: &mut Tally) -> Result<(), Trouble> {
+        let mut rng = Rng::new(self.seed);
+        if self.cases > 0 {
+            let mut world = World::new(&mut rng);
+            compare_all((0..self.cases).map(|_| world.case(&mut rng)), tally)?;
+        }
+        simulation::run(&mut rng, self.edition, self.length, tally)
+    }
+}
+
 /// Does a part of the run and says how many cases it had.
 fn part(name: &str, tally: &mut Tally, cases: impl FnOnce(&mut Tally) -> Result<(), Trouble>) -> Result<(), Trouble> {
     let before = tally.total();
@@ -73,28 +99,30 @@ fn part(name: &str, tally: &mut Tally, cases: impl FnOnce(&mut Tally) -> Result<
 }
 
 fn run(options: &Options, tally: &mut Tally) -> Result<(), Trouble> {
-    let mut rng = Rng::new(options.seed);
     part("named cases", tally, |tally| {
-        cases::named().iter().try_for_each(|named| tally.add(&named.case, &agreed_by_name(named)?))
+        on_all_processors(&cases::named(), tally, |named, tally| tally.add(&named.case, &agreed_by_name(named)?))
     })?;
     part("plan files", tally, |tally| {
         let files = [cases::plan_files(), cases::examples()].concat();
-        files.iter().try_for_each(|file| tally.add(&file.case(), &agreed_on_file(file)?))
+        on_all_processors(&files, tally, |file, tally| tally.add(&file.case(), &agreed_on_file(file)?))
     })?;
-    part("boundary cases", tally, |tally| compare_all(boundary::cases(), tally))?;
+    part("boundary cases", tally, |tally| {
+        let ask = |case: &Case, tally: &mut Tally| tally.add(case, &agreed(case)?);
+        boundary::PARTS.iter().try_for_each(|cases| on_all_processors(&cases(), tally, ask))
+    })?;
+    let mut rng = Rng::new(options.seed);
     let mut editions = simulation::FIRST_EDITIONS.into_iter().cycle();
     part("deliveries of simulations", tally, |tally| {
         let lengths = iter::once(LONG).chain(iter::repeat(SHORT).take(SHORT_ALWAYS));
-        lengths.zip(&mut editions).try_for_each(|(length, edition)| simulation::run(&mut rng, edition, length, tally))
+        let rounds: Vec<Round> =
+            lengths.zip(&mut editions).map(|(length, edition)| Round { seed: rng.word(), cases: 0, edition, length }).collect();
+        on_all_processors(&rounds, tally, Round::run)
     })?;
     part("random cases, and deliveries of more simulations", tally, |tally| {
-        for edition in editions {
-            if tally.total() >= options.cases {
-                break;
-            }
-            let mut world = World::new(&mut rng);
-            compare_all((0..CASES_OF_A_WORLD).map(|_| world.case(&mut rng)), tally)?;
-            simulation::run(&mut rng, edition, SHORT, tally)?;
+        let mut rounds = editions.map(|edition| Round { seed: rng.word(), cases: CASES_OF_A_WORLD, edition, length: SHORT });
+        while tally.total() < options.cases {
+            let some: Vec<Round> = rounds.by_ref().take(ROUNDS_AT_ONCE).collect();
+            on_all_processors(&some, tally, Round::run)?;
         }
         Ok(())
     })

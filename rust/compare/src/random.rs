@@ -190,7 +190,7 @@ pub fn requests(rng: &mut Rng, config: &Config, table: &Table) -> Vec<Record> {
     let mut requests = Vec::new();
     while requests.len() < wanted.min(12) {
         let request = request(rng, config, &table);
-        if table.request(config, &request).is_ok() || rng.one_in(24) {
+        if table.perform(config, &request).is_ok() || rng.one_in(24) {
             requests.push(request);
         }
     }
@@ -278,7 +278,7 @@ impl World {
         for _ in 0..steps {
             let request = request(rng, &self.state.config, &self.state.table);
             // A refused request leaves the table as it was.
-            let _ = self.state.table.request(&self.state.config, &request);
+            let _ = self.state.table.perform(&self.state.config, &request);
         }
     }
 
@@ -392,5 +392,20 @@ impl World {
     fn apply_case(&self, rng: &mut Rng) -> Case {
         let (config, table) = self.base(rng);
         Case::apply(config, table, self.state.edition, self.plan(rng))
+    }
+}
+
+#[cfg(test)]
+mod tests {
+    use super::*;
+
+    #[test]
+    fn a_world_stays_sound() {
+        let mut rng = Rng::new(1);
+        for _ in 0..60 {
+            let mut world = World::new(&mut rng);
+            world.case(&mut rng);
+            assert!(world.state.table.is_sound(&world.state.config));
+        }
     }
 }

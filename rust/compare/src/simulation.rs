@@ -52,7 +52,7 @@ impl Planner {
             Some(requests) if rng.one_in(3) => requests,
             _ => (0..rng.below(8)).map(|_| request(rng, &base.config, &table)).collect(),
         };
-        let accepted: Vec<Record> = requests.into_iter().filter(|request| table.request(&base.config, request).is_ok()).collect();
+        let accepted: Vec<Record> = requests.into_iter().filter(|request| table.perform(&base.config, request).is_ok()).collect();
         self.plans.push(encode(&base, &accepted));
         if let Some(edition) = base.edition.checked_add(1) {
             self.states.push(State { table, edition, ..base });

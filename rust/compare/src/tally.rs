@@ -49,6 +49,13 @@ impl Tally {
         *self.events.entry(event).or_default() += 1;
     }
 
+    /// Counts what another has counted too.
+    pub fn merge(&mut self, other: Tally) {
+        merge_counts(&mut self.answers, other.answers);
+        merge_counts(&mut self.inner, other.inner);
+        merge_counts(&mut self.events, other.events);
+    }
+
     pub fn total(&self) -> usize {
         self.answers.values().sum()
     }
@@ -72,6 +79,12 @@ impl fmt::Display for Tally {
         }
         write_counts(f, "inside 27", self.inner.iter().map(|(number, count)| (*number, *count)))?;
         self.events.iter().try_for_each(|(event, count)| writeln!(f, "simulated  {event}: {count}"))
+    }
+}
+
+fn merge_counts<K: Ord>(counts: &mut BTreeMap<K, usize>, others: BTreeMap<K, usize>) {
+    for (key, count) in others {
+        *counts.entry(key).or_default() += count;
     }
 }
 

@@ -98,7 +98,7 @@ impl Table {
     }
 
     /// One request, where the configuration and the table are known to be sound.
-    pub(crate) fn perform(&mut self, config: &Config, record: &Record) -> Result<(), Refusal> {
+    pub fn perform(&mut self, config: &Config, record: &Record) -> Result<(), Refusal> {
         let action = record.action().ok_or(Refusal::NoRequest)?;
         if record.zone > MAX_ID {
             return Err(Refusal::ZoneId);

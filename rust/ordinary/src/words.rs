@@ -20,7 +20,7 @@ pub type ConfigWords = [u64; CONFIG_WORDS];
 pub type TableWords = [u64; TABLE_WORDS];
 
 impl Config {
-    /// The configuration that these words are, if it is sound, or its first fault.
+    /// The configuration that these words are, or why they are none: C1 to C3. The other faults are for [`Config::check`] to find.
     pub fn from_words(words: &ConfigWords) -> Result<Config, ConfigFault> {
         let (head, records) = words.split_at(CONFIG_RECORDS);
         let count = count_up_to(MAX_REGIONS, head[CONFIG_COUNT]).filter(|&count| count > 0).ok_or(ConfigFault::Count)?;
@@ -28,9 +28,7 @@ impl Config {
         if let Some(past) = regions(&records[count * REGION_WORDS..]).position(|record| record != Region::ZERO) {
             return Err(ConfigFault::NotZero { place: count + past });
         }
-        let config = Config { regions: regions(records).take(count).collect(), gic };
-        config.check()?;
-        Ok(config)
+        Ok(Config { regions: regions(records).take(count).collect(), gic })
     }
 
     /// The words of a configuration of at most so many regions as it can have.

@@ -17,9 +17,9 @@
  * written by another thread meanwhile: while a plan is applied, its table may hold what earlier requests of the plan made of it.
  *
  * Stack: PEATMITTEN_STACK bytes are enough. tests/stack.sh measures it: it calls every function on a stack filled with a pattern, over the
- * stored plans, looks how deep the pattern is gone, and prints it for each function. Measured were on x86-64 416 bytes for
- * peatmitten_apply_words, 336 for peatmitten_request and less for the others, on aarch64 352 and 256 and less: no function has a table, a
- * configuration or a plan on its stack. Nothing is allocated.
+ * stored plans, looks how deep the pattern is gone, and prints it for each function. Measured were on x86-64 4,544 bytes for
+ * peatmitten_apply_words and on aarch64 4,464, and less for the others: no function has a table, a configuration or a plan on its stack, but
+ * a number for each configured region, twice at a time. Nothing is allocated.
  *
  * Imports: memset, and nothing else. The code is called as Linux does on its processor (System V on x86-64, AAPCS64 on aarch64, lowest byte
  * first); no other system is supported. Every function takes and gives pointers and whole numbers of 32 and 64 bits, so none is declared

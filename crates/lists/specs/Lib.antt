@@ -9,3 +9,4 @@ pub mod Room
 pub mod Words
 pub mod Bytes
 pub mod Runs
+pub mod Orders

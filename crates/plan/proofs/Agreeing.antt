@@ -14,6 +14,7 @@ use Rattle.rules.specs.Tables.{Zone}
 use Rattle.rules.specs.declared.Region.{Region}
 use Rattle.zones.specs.Layout.{regionWords, setWords, zoneBase}
 use Rattle.zones.specs.Records.{wordsOfRegion}
+use Rattle.plan.specs.Held.{twoSets}
 use Rattle.plan.specs.Into.{Step, on, stop, given, andThen, times, putRecord, recordInto, putSet, setInto}
 use Rattle.plan.specs.Into.{setsInto, putZone, zoneInto, putZones, zonesInto}
 
@@ -106,9 +107,6 @@ pub set-agrees : (lo hi k a : ℕ) (w b : List ℕ)
     → Agrees (storeSet k a w) (listed 4 lo hi regionField .read b) (setInto lo hi k a w b)
 unfolding setInto putSet storeSet
 set-agrees lo hi k a w b = agrees-listed regionField (storeRecord a) (recordInto a) (record-agrees a) lo hi k w b
-
-abbrev twoSets : Format (List Region × List Region)
-twoSets = both (setFormat limits) (setFormat limits)
 
 sets-agree : (k : ℕ) (w b : List ℕ) → Agrees (storeSets k w) (twoSets .read b) (setsInto k w b)
 unfolding readBoth storeSets setsInto

@@ -49,6 +49,7 @@ use Rattle.plan.specs.declared.words.Section.{Section}
 use Rattle.plan.specs.declared.words.Section.the-variants.{End, Bad}
 use Rattle.plan.proofs.Fields.{regionValue, wide-region}
 use Rattle.plan.proofs.Into.{number-within, count-missing, count-out, count-in, count-most}
+use Rattle.plan.proofs.Locating.{set-part, zone-part}
 use Rattle.plan.proofs.Offsets.{place, part-in, end-within, ends-with}
 use Rattle.plan.proofs.Passing.{Listed, list-read}
 
@@ -317,11 +318,6 @@ and-true : (b : Bool) → (b && true) ≡ b
 and-true true = refl
 and-true false = refl
 
-set-part : (s : List ℕ) (at : ℕ) → Part (left (setFormat limits .read (drop at s))) s
-set-part s at =
-    part-in s (left (setFormat limits .read (drop at s))) at
-    (lawful-list 0 mostInSet regionField RegionFits lawful-region-field .part (drop at s))
-
 module _ (s w : List ℕ) (start k : ℕ) (r : Held)
     (er : r ≡ heldAnswer (length s) (holdsRegions w k (k + 1)) (setFormat limits .read (drop start s))) where
   sets-law : (x y : List Region)
@@ -420,9 +416,6 @@ module _ (s w : List ℕ) (start i : ℕ) (c : Number) (read : NumberRead s star
         ∙ zone-as
 
 -- ---- zones one after another
-zone-part : (s : List ℕ) (at : ℕ) → Part (left (zoneFormat limits .read (drop at s))) s
-zone-part s at = part-in s (left (zoneFormat limits .read (drop at s))) at (lawful-zone limits .part (drop at s))
-
 -- the m zones from byte `at` on, held against those from zone i on
 abbrev pub zonesFrom : List ℕ → List ℕ → ℕ → ℕ → ℕ → Bool
 zonesFrom s w m i at =

@@ -23,6 +23,7 @@ use Rattle.rules.specs.declared.Region.{Region}
 use Rattle.rules.proofs.Plan.{lawful-region-field, lawful-list, lawful-zone, lawful-regions, lawful-zones}
 use Rattle.rules.proofs.Plan.{lawful-requests}
 use Rattle.plan.specs.Fields.{regionBytes, numberOut, NumberRead}
+use Rattle.plan.specs.Held.{twoSets}
 use Rattle.plan.specs.Found.{marksBytes, foundIn, leading, afterRequests, requestsFound, afterZones, zonesFound}
 use Rattle.plan.specs.Found.{afterRegions, regionsFound, afterMarks, marksFound}
 use Rattle.plan.specs.Sections.{marksAnswer, sectionAnswer}
@@ -56,10 +57,7 @@ section-stops n (got x t) f r k p er e =
 section-stops n (bad j t) f r k p er e = er
 
 -- ---- a zone: its id, then two sets
-abbrev twoSets : Format (List Region × List Region)
-twoSets = both (setFormat limits) (setFormat limits)
-
-set-part : (s : List ℕ) (at : ℕ) → Part (left (setFormat limits .read (drop at s))) s
+pub set-part : (s : List ℕ) (at : ℕ) → Part (left (setFormat limits .read (drop at s))) s
 set-part s at =
     part-in s (left (setFormat limits .read (drop at s))) at
     (lawful-list 0 mostInSet regionField RegionFits lawful-region-field .part (drop at s))
@@ -123,7 +121,7 @@ module _ (s : List ℕ) (start : ℕ) where
             pair x y = (x, y)
 
 -- ---- zones one after another: where those from i on end is where all of them end
-zone-part : (s : List ℕ) (at : ℕ) → Part (left (zoneFormat limits .read (drop at s))) s
+pub zone-part : (s : List ℕ) (at : ℕ) → Part (left (zoneFormat limits .read (drop at s))) s
 zone-part s at = part-in s (left (zoneFormat limits .read (drop at s))) at (lawful-zone limits .part (drop at s))
 
 abbrev pub zonesEnd : List ℕ → ℕ → ℕ → Section

@@ -28,7 +28,7 @@ module _ (lim : Limits) where
         let (i, h, q) = any-at (regionEq r) (c .regions) noRegion e in
         (i, h, equal-same r (getD (c .regions) i noRegion) q)
 
-    position-configured : (i : ℕ) → i < length (c .regions) → configured c (getD (c .regions) i noRegion) ≡ true
+    pub position-configured : (i : ℕ) → i < length (c .regions) → configured c (getD (c .regions) i noRegion) ≡ true
     unfolding configured
     position-configured i h =
         any-make (regionEq (getD (c .regions) i noRegion)) (c .regions) noRegion i h
@@ -63,14 +63,18 @@ module _ (lim : Limits) where
               absurd (true≢false (sym e ∙ ap₂ physOverlap q r ∙ ok .apart i j h l ne))
         ]
 
-    -- only the GIC's position holds the GIC
-    pub gic-position : (i : ℕ) → i < length (c .regions) → getD (c .regions) i noRegion ≡ gicOf c → i ≡ c .gic
-    unfolding gicOf
-    gic-position i h e =
-        elim (ℕ-discrete i (c .gic)) [
+    -- no two positions have one region; so only the GIC's has the GIC
+    pub one-position : (i j : ℕ) → i < length (c .regions) → j < length (c .regions)
+        → getD (c .regions) i noRegion ≡ getD (c .regions) j noRegion → i ≡ j
+    one-position i j h l e =
+        elim (ℕ-discrete i j) [
           | yes s ↦ s
           | no ne ↦
               absurd (true≢false
               (sym (overlaps-itself (getD (c .regions) i noRegion) (position-configured i h))
-              ∙ ap (physOverlap (getD (c .regions) i noRegion)) e ∙ ok .apart i (c .gic) h (ok .gic) ne))
+              ∙ ap (physOverlap (getD (c .regions) i noRegion)) e ∙ ok .apart i j h l ne))
         ]
+
+    pub gic-position : (i : ℕ) → i < length (c .regions) → getD (c .regions) i noRegion ≡ gicOf c → i ≡ c .gic
+    unfolding gicOf
+    gic-position i h e = one-position i (c .gic) h (ok .gic) e

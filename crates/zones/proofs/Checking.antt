@@ -48,6 +48,11 @@ module _ (w : List ℕ) (z : ℕ) (s : Side) where
   unfolding setIn recordsAt recordIn
   set-tab = ap (λ (n : ℕ). tab n (recordAt w (setBase z s + 1))) (sym set-count)
 
+  pub record-at : (i : ℕ) → i < length (setIn w z s) → getD (setIn w z s) i noRegion ≡ recordIn w z s i
+  record-at i h =
+      ap (λ (l : List Region). getD l i noRegion) set-tab
+      ∙ getD-tab (length (setIn w z s)) (recordIn w z s) i noRegion h
+
   module _ (p : Region → Bool) (n : ℕ) where
     pub set-start : n ≡ length (setIn w z s) → all (atRecord p w z s) (places 0 (n - 0)) ≡ all p (setIn w z s)
     unfolding atRecord
@@ -175,7 +180,7 @@ module _ (w : List ℕ) where
 
   -- ---- which zones hold a region
   module _ (z : ℕ) (r : Region) where
-    holds-sides : holds r (zoneIn w z) ≡ (any (regionEq r) (setIn w z Cpu) || any (regionEq r) (setIn w z Iommu))
+    pub holds-sides : holds r (zoneIn w z) ≡ (any (regionEq r) (setIn w z Cpu) || any (regionEq r) (setIn w z Iommu))
     unfolding holds zoneIn
     holds-sides = any-append (regionEq r) (setIn w z Cpu) (setIn w z Iommu)
 

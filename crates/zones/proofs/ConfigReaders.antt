@@ -2,6 +2,7 @@
 -- is what the configuration says.
 use Prim.Native.Nat.{ℕ, _≤_, _<_}
 use native.Mathlib.Omega.{arith}
+use mathlib.Core.Bool.{true}
 use mathlib.Core.List.{List}
 use mathlib.Core.Path.{_≡_, refl, sym, ap, ap₂, _∙_}
 use lib.Dec.{ltb}
@@ -17,6 +18,7 @@ use Rattle.rules.specs.Regions.{regionEq, noRegion}
 use Rattle.rules.specs.Tables.{configured}
 use Rattle.rules.specs.declared.Region.{Region}
 use Rattle.rules.proofs.Configuration.{passed, SoundConfiguration}
+use Rattle.rules.proofs.Tables.{position-configured}
 use Rattle.zones.specs.Layout.{configCount, configGic, configRecords}
 use Rattle.zones.specs.Records.{recordAt, recordsAt}
 use Rattle.zones.specs.View.{allRecords, storedConfig, configIn, ConfigPassed}
@@ -84,3 +86,10 @@ module _ (w : List ℕ) (ok : ConfigPassed w) where
       let rs : List Region = configIn w .regions in
       let same : recordsAt w configRecords n ≡ rs = ap (recordsAt w configRecords) en ∙ sym regions-in in
       sym (any-first (regionEq r) rs ∙ ap₂ ltb (ap (firstIndex (regionEq r)) (sym same) ∙ sym ek) (sym en))
+
+  pub configured-there : (r : Region) (n k : ℕ) → n ≡ length (configIn w .regions)
+      → (k < n → r ≡ recordAt w configRecords k) → k < n → true ≡ configured (configIn w) r
+  configured-there r n k en there h =
+      let l : k < length (configIn w .regions) = omega arith in
+      sym (ap (configured (configIn w)) (region-is k r l (there h))
+      ∙ position-configured limits (configIn w) config-sound k l)

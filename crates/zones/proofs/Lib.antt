@@ -2,6 +2,9 @@
 pub mod Records
 pub mod Blocks
 pub mod ConfigCheck
+pub mod Spans
+pub mod QuickCheck
+pub mod Merging
 pub mod Moves
 pub mod Readers
 pub mod Focus
@@ -11,6 +14,7 @@ pub mod Packing
 pub mod ConfigReaders
 pub mod Holding
 pub mod Checking
+pub mod Owning
 pub mod Stored
 pub mod Forbidden
 pub mod Deciding

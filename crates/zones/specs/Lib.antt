@@ -3,9 +3,11 @@ pub mod Layout
 pub mod Records
 pub mod Alike
 pub mod View
+pub mod Spans
 pub mod Words
 pub mod Packing
 pub mod Holding
+pub mod Owners
 pub mod Decide
 pub mod Step
 pub mod Run

@@ -1,4 +1,5 @@
 // The configuration's check.
+use crate::apart::clear_below;
 use crate::layout::CONFIG_COUNT;
 use crate::layout::CONFIG_GIC;
 use crate::layout::CONFIG_RECORDS;
@@ -20,7 +21,7 @@ use rules::numbers::C3_NOT_ZERO;
 use rules::numbers::C4_FORM;
 use rules::numbers::C5_REACH;
 use rules::numbers::C6_OVERLAP;
-ghost use Prim.Native.Nat.{_<_, _≤_};
+ghost use Prim.Native.Nat.{_-_, _<_, _≤_};
 ghost use mathlib.Core.List.{flatMap};
 ghost use mathlib.Core.Path.{_≡_};
 ghost use lib.ListN.{length, getD};
@@ -98,6 +99,15 @@ pub fn check_earlier(f: Checked) -> usize
 pub fn check_words(c: &[u64; CONFIG_WORDS]) -> Checked
     ensures { λ f. ⌜ f ≡ check limits (storedConfig (now (c .entry))) ⌝ }
 {
+    let mut keys = [0u64; MOST_REGIONS];
+    check_with(c, &mut keys)
+}
+
+// The same with room for the keys of its regions. Those of a sound one are then in order, if it has many regions.
+pub fn check_with(c: &[u64; CONFIG_WORDS], keys: &mut [u64]) -> Checked
+    requires { ⌜ mostRegions ≤ length (now keys) ⌝ }
+    ensures { λ f. ⌜ (f ≡ check limits (storedConfig (now (c .entry)))) × (length (now (keys .exit)) ≡ length (now (keys .entry))) ⌝ }
+{
     let count = c[CONFIG_COUNT] as usize;
     if count == 0 {
         return Checked::BadCount;
@@ -111,10 +121,10 @@ pub fn check_words(c: &[u64; CONFIG_WORDS]) -> Checked
     if !zeros_in(c, CONFIG_RECORDS + count * REGION_WORDS, CONFIG_WORDS) {
         return Checked::NotZero(first_used(c, count));
     }
-    check_positions(c, count)
+    check_positions(c, keys, count)
 }
 
-fn region_at(c: &[u64; CONFIG_WORDS], i: usize) -> Region
+pub fn region_at(c: &[u64; CONFIG_WORDS], i: usize) -> Region
     requires { ⌜ i < mostRegions ⌝ }
     ensures { λ r. ⌜ r ≡ recordAt (now (c .entry)) configRecords i ⌝ }
 {
@@ -136,12 +146,22 @@ fn first_used(c: &[u64; CONFIG_WORDS], n: usize) -> usize
     i
 }
 
-// The first fault at the positions below n.
-fn check_positions(c: &[u64; CONFIG_WORDS], n: usize) -> Checked
-    requires { ⌜ n ≤ mostRegions ⌝ }
-    ensures { λ f. ⌜ f ≡ firstRule (flatMap (positionRules limits (allRecords (now (c .entry)))) (places 0 n)) Checked.Sound ⌝ }
+// The first fault at the positions below n: those that a quick look finds clear are not looked at again.
+fn check_positions(c: &[u64; CONFIG_WORDS], keys: &mut [u64], n: usize) -> Checked
+    requires { ⌜ (n ≤ mostRegions) × (n ≤ length (now keys)) ⌝ }
+    ensures { λ f. ⌜ (f ≡ firstRule (flatMap (positionRules limits (allRecords (now (c .entry)))) (places 0 n)) Checked.Sound)
+        × (length (now (keys .exit)) ≡ length (now (keys .entry))) ⌝ }
 {
-    let mut i = 0;
+    let clear = clear_below(c, keys, n);
+    check_from(c, clear, n)
+}
+
+// The first fault at the positions from k up to n.
+fn check_from(c: &[u64; CONFIG_WORDS], k: usize, n: usize) -> Checked
+    requires { ⌜ (k ≤ n) × (n ≤ mostRegions) ⌝ }
+    ensures { λ f. ⌜ f ≡ firstRule (flatMap (positionRules limits (allRecords (now (c .entry)))) (places k (n - k))) Checked.Sound ⌝ }
+{
+    let mut i = k;
     while i < n {
         let f = check_at(c, i);
         let Checked::Sound = f else {

@@ -1,9 +1,13 @@
 // The configuration and the zone table as words of memory, and what is checked and done there.
+mod apart;
 mod commit;
 mod config;
 mod decide;
+mod keys;
 mod layout;
+mod owners;
 mod run;
+mod sort;
 mod sound;
 mod steps;
 mod table;

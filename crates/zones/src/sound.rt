@@ -1,13 +1,14 @@
 // The table check: whether a table is sound under a configuration.
 use crate::config::Config;
-use crate::config::check_words;
+use crate::config::check_with;
 use crate::config::config_region;
 use crate::config::gic_position;
 use crate::config::gic_region;
-use crate::config::is_configured;
 use crate::config::region_count;
+use crate::keys::is_configured_by;
 use crate::layout::CONFIG_WORDS;
 use crate::layout::TABLE_WORDS;
+use crate::owners::each_has_owner;
 use crate::table::Table;
 use crate::table::find_zone;
 use crate::table::id_at;
@@ -23,6 +24,7 @@ use rules::Checked;
 use rules::Region;
 use rules::Side;
 use rules::limits::HIGHEST_ID;
+use rules::limits::MOST_REGIONS;
 use rules::numbers::UNSOUND_CONFIG;
 use rules::numbers::UNSOUND_TABLE;
 ghost use Prim.Native.Nat.{_+_, _≤_, _<_, max};
@@ -32,7 +34,7 @@ ghost use Rattle.lists.specs.First.{firstFrom, all};
 ghost use Rattle.lists.specs.Pairs.{pairwise};
 ghost use Rattle.rules.specs.Requests.{standing};
 ghost use Rattle.rules.specs.declared.Side.{Side};
-ghost use Rattle.rules.specs.Limits.{mostZones, mostInSet, limits};
+ghost use Rattle.rules.specs.Limits.{mostRegions, mostZones, mostInSet, limits};
 ghost use Rattle.rules.specs.Tables.{configured, guestApart, offGic, soundSet, soundZone, idsDiffer, sound, checkTable};
 ghost use Rattle.zones.specs.Holding.{holds, heldOnce, heldAt, heldApart, apartAfter};
 ghost use Rattle.zones.specs.View.{storedConfig, storedTable, configIn, ConfigPassed, setIn, zoneIn, zonesIn};
@@ -51,61 +53,63 @@ pub fn check_table(c: Config, t: Table) -> bool
 pub fn is_sound(c: &[u64; CONFIG_WORDS], t: &[u64; TABLE_WORDS]) -> bool
     ensures { λ b. ⌜ b ≡ checkTable limits (storedConfig (now (c .entry))) (storedTable (now (t .entry))) ⌝ }
 {
-    let found = check_words(c);
+    let mut keys = [0u64; MOST_REGIONS];
+    let found = check_with(c, &mut keys);
     let Checked::Sound = found else {
         return false;
     };
-    table_sound(c, t)
+    table_sound(c, t, &keys)
 }
 
 // The number that comes before any request is looked at: 1 for the configuration, 2 for the table, or 0.
 pub fn standing(c: &[u64; CONFIG_WORDS], t: &[u64; TABLE_WORDS]) -> u32
     ensures { λ n. ⌜ n ≡ standing limits (storedConfig (now (c .entry))) (storedTable (now (t .entry))) ⌝ }
 {
-    let found = check_words(c);
+    let mut keys = [0u64; MOST_REGIONS];
+    let found = check_with(c, &mut keys);
     let Checked::Sound = found else {
         return UNSOUND_CONFIG;
     };
-    if !table_sound(c, t) {
+    if !table_sound(c, t, &keys) {
         return UNSOUND_TABLE;
     }
     0
 }
 
 // Whether the words are packed and their table is sound, under a sound configuration.
-fn table_sound(c: &[u64; CONFIG_WORDS], t: &[u64; TABLE_WORDS]) -> bool
-    requires { ⌜ ConfigPassed (now c) ⌝ }
+fn table_sound(c: &[u64; CONFIG_WORDS], t: &[u64; TABLE_WORDS], keys: &[u64]) -> bool
+    requires { ⌜ ConfigPassed (now c) × (mostRegions ≤ length (now keys)) ⌝ }
     ensures { λ b. ⌜ b ≡ checkTable limits (storedConfig (now (c .entry))) (storedTable (now (t .entry))) ⌝ }
 {
     if !is_packed(t) {
         return false;
     }
-    zones_sound(c, t)
+    zones_sound(c, t, keys)
 }
 
-pub fn zones_sound(c: &[u64; CONFIG_WORDS], t: &[u64; TABLE_WORDS]) -> bool
-    requires { ⌜ ConfigPassed (now c) × Within (zonesIn (now t)) ⌝ }
+fn zones_sound(c: &[u64; CONFIG_WORDS], t: &[u64; TABLE_WORDS], keys: &[u64]) -> bool
+    requires { ⌜ (ConfigPassed (now c) × Within (zonesIn (now t))) × (mostRegions ≤ length (now keys)) ⌝ }
     ensures { λ b. ⌜ b ≡ sound limits (configIn (now (c .entry))) (zonesIn (now (t .entry))) ⌝ }
 {
-    if !each_sound(c, t) {
+    if !each_sound(c, t, keys) {
         return false;
     }
     if !ids_differ(t) {
         return false;
     }
-    held_apart(c, t)
+    held_apart(c, t, keys)
 }
 
 // ---- each zone
 
-fn each_sound(c: &[u64; CONFIG_WORDS], t: &[u64; TABLE_WORDS]) -> bool
-    requires { ⌜ ConfigPassed (now c) × Within (zonesIn (now t)) ⌝ }
+fn each_sound(c: &[u64; CONFIG_WORDS], t: &[u64; TABLE_WORDS], keys: &[u64]) -> bool
+    requires { ⌜ (ConfigPassed (now c) × Within (zonesIn (now t))) × (mostRegions ≤ length (now keys)) ⌝ }
     ensures { λ b. ⌜ b ≡ all (soundZone limits (configIn (now (c .entry)))) (zonesIn (now (t .entry))) ⌝ }
 {
     let n = zone_count(t);
     let mut z = 0;
     while z < n {
-        if !zone_sound(c, t, z) {
+        if !zone_sound(c, t, keys, z) {
             return false;
         }
         z += 1;
@@ -113,40 +117,52 @@ fn each_sound(c: &[u64; CONFIG_WORDS], t: &[u64; TABLE_WORDS]) -> bool
     true
 }
 
-fn zone_sound(c: &[u64; CONFIG_WORDS], t: &[u64; TABLE_WORDS], z: usize) -> bool
-    requires { ⌜ (ConfigPassed (now c) × Within (zonesIn (now t))) × (z < length (zonesIn (now t))) ⌝ }
+fn zone_sound(c: &[u64; CONFIG_WORDS], t: &[u64; TABLE_WORDS], keys: &[u64], z: usize) -> bool
+    requires { ⌜ ((ConfigPassed (now c) × Within (zonesIn (now t))) × (mostRegions ≤ length (now keys))) × (z < length (zonesIn (now t))) ⌝ }
     ensures { λ b. ⌜ b ≡ soundZone limits (configIn (now (c .entry))) (zoneIn (now (t .entry)) z) ⌝ }
 {
     if HIGHEST_ID < id_at(t, z) {
         return false;
     }
-    if !set_sound(c, t, z, Side::Cpu) {
+    if !set_sound(c, t, keys, z, Side::Cpu) {
         return false;
     }
-    if !set_sound(c, t, z, Side::Iommu) {
+    if !set_sound(c, t, keys, z, Side::Iommu) {
         return false;
     }
     off_gic(c, t, z)
 }
 
-fn set_sound(c: &[u64; CONFIG_WORDS], t: &[u64; TABLE_WORDS], z: usize, side: Side) -> bool
-    requires { ⌜ (ConfigPassed (now c) × (z < mostZones)) × (length (setIn (now t) z side) ≤ mostInSet) ⌝ }
+fn set_sound(
+    c: &[u64; CONFIG_WORDS],
+    t: &[u64; TABLE_WORDS],
+    keys: &[u64],
+    z: usize,
+    side: Side,
+) -> bool
+    requires { ⌜ ((ConfigPassed (now c) × (z < mostZones)) × (mostRegions ≤ length (now keys))) × (length (setIn (now t) z side) ≤ mostInSet) ⌝ }
     ensures { λ b. ⌜ b ≡ soundSet limits (configIn (now (c .entry))) (setIn (now (t .entry)) z side) ⌝ }
 {
-    if !set_configured(c, t, z, side) {
+    if !set_configured(c, t, keys, z, side) {
         return false;
     }
     guest_apart(t, z, side)
 }
 
-fn set_configured(c: &[u64; CONFIG_WORDS], t: &[u64; TABLE_WORDS], z: usize, side: Side) -> bool
-    requires { ⌜ (ConfigPassed (now c) × (z < mostZones)) × (length (setIn (now t) z side) ≤ mostInSet) ⌝ }
+fn set_configured(
+    c: &[u64; CONFIG_WORDS],
+    t: &[u64; TABLE_WORDS],
+    keys: &[u64],
+    z: usize,
+    side: Side,
+) -> bool
+    requires { ⌜ ((ConfigPassed (now c) × (z < mostZones)) × (mostRegions ≤ length (now keys))) × (length (setIn (now t) z side) ≤ mostInSet) ⌝ }
     ensures { λ b. ⌜ b ≡ all (configured (configIn (now (c .entry)))) (setIn (now (t .entry)) z side) ⌝ }
 {
     let n = set_len(t, z, side);
     let mut i = 0;
     while i < n {
-        if !is_configured(c, region_at(t, z, side, i)) {
+        if !is_configured_by(c, keys, region_at(t, z, side, i)) {
             return false;
         }
         i += 1;
@@ -220,11 +236,15 @@ fn ids_differ(t: &[u64; TABLE_WORDS]) -> bool
 }
 
 // Held regions are configured ones, and configured regions overlap only if they are equal. So no two zones share a physical address
-// outside the GIC exactly when each configured region but the GIC is held by at most one zone.
-fn held_apart(c: &[u64; CONFIG_WORDS], t: &[u64; TABLE_WORDS]) -> bool
-    requires { ⌜ ConfigPassed (now c) × Within (zonesIn (now t)) ⌝ }
+// outside the GIC exactly when each configured region but the GIC is held by at most one zone. One pass tells it of a table where that is so;
+// where it does not, each configured region is looked for in each zone.
+fn held_apart(c: &[u64; CONFIG_WORDS], t: &[u64; TABLE_WORDS], keys: &[u64]) -> bool
+    requires { ⌜ (ConfigPassed (now c) × Within (zonesIn (now t))) × (mostRegions ≤ length (now keys)) ⌝ }
     ensures { λ b. ⌜ b ≡ heldApart (configIn (now (c .entry))) (zonesIn (now (t .entry))) ⌝ }
 {
+    if each_has_owner(c, t, keys) {
+        return true;
+    }
     let n = region_count(c);
     let mut k = 0;
     while k < n {

@@ -127,6 +127,9 @@ impl Config {
         if let Some(past) = self.records[count..].iter().position(|record| *record != Region::ZERO) {
             return Err((3, [(count + past) as u64, 0]));
         }
+        if self.stands_apart() {
+            return Ok(());
+        }
         let regions = self.regions();
         for (place, region) in regions.iter().enumerate() {
             if !region.is_well_formed() {
@@ -140,6 +143,21 @@ impl Config {
             }
         }
         Ok(())
+    }
+
+    /// Whether every region is well formed and in reach and, in the order of their starts, ends before the next one begins.
+    fn stands_apart(&self) -> bool {
+        let regions = self.regions();
+        if !regions.iter().all(|region| region.is_well_formed() && region.is_in_reach()) {
+            return false;
+        }
+        let mut spans = [(0, 0); MAX_REGIONS];
+        let spans = &mut spans[..regions.len()];
+        for (span, region) in spans.iter_mut().zip(regions) {
+            *span = (region.p, region.p + region.size);
+        }
+        spans.sort_unstable();
+        spans.windows(2).all(|pair| pair[0].1 <= pair[1].0)
     }
 }
 

@@ -227,11 +227,11 @@ fn fixed_request(record: &Record) -> fixed::Request {
     fixed::Request { kind: record.kind, zone: record.zone, region: fixed::Region { v, p, size } }
 }
 
-fn check_config(name: &str, config: ordinary::Config) -> Job {
+fn check_config(name: &str, config: ordinary::Config, answer: Answer) -> Job {
     let Terminal { library, vectors, fixed } = Terminal::with(config, 1);
     Job {
         name: format!("configuration check, {name}"),
-        answer: (0, [0, 0]),
+        answer,
         library: Box::new(move || raw::check_config(&black_box(&library).config)),
         vectors: Box::new(move || match black_box(&vectors).config.check() {
             Ok(()) => (0, [0, 0]),
@@ -239,6 +239,17 @@ fn check_config(name: &str, config: ordinary::Config) -> Job {
         }),
         fixed: Box::new(move || black_box(&fixed).config.check().err().unwrap_or((0, [0, 0]))),
     }
+}
+
+fn sound_config(name: &str, config: ordinary::Config) -> Job {
+    check_config(name, config, (0, [0, 0]))
+}
+
+/// C6 at the last position, which overlaps the one before it.
+fn last_overlaps(name: &str, mut config: ordinary::Config) -> Job {
+    let last = config.regions.len() - 1;
+    config.regions[last] = config.regions[last - 1];
+    check_config(&format!("{name} scattered, C6 at the last"), config, (6, [last as u64, last as u64 - 1]))
 }
 
 /// Configuration and table, as the library's table check has it.
@@ -340,9 +351,16 @@ pub fn all() -> Vec<Job> {
         for_other_zones("4 regions, 2 zones", small.clone(), &one_region(&small, 2)),
         two_requests(&full_name, full.clone()),
         two_requests("4 regions, 2 zones", small.clone()),
-        check_config(&format!("{MAX_REGIONS} regions in order"), pages(MAX_REGIONS)),
-        check_config(&format!("{MAX_REGIONS} regions scattered"), scattered_pages(MAX_REGIONS)),
-        check_config("4 regions", pages(4)),
+        sound_config("4 regions in order", pages(4)),
+        sound_config("16 regions in order", pages(16)),
+        sound_config("64 regions in order", pages(64)),
+        sound_config(&format!("{MAX_REGIONS} regions in order"), pages(MAX_REGIONS)),
+        sound_config("16 regions scattered", scattered_pages(16)),
+        sound_config("64 regions scattered", scattered_pages(64)),
+        sound_config(&format!("{MAX_REGIONS} regions scattered"), scattered_pages(MAX_REGIONS)),
+        last_overlaps("16 regions", scattered_pages(16)),
+        last_overlaps("64 regions", scattered_pages(64)),
+        last_overlaps(&format!("{MAX_REGIONS} regions"), scattered_pages(MAX_REGIONS)),
         check_table(&full_name, full.clone()),
         check_table("4 regions, 2 zones", small.clone()),
         translate(&full_name, full.clone()),

@@ -1,65 +1,21 @@
--- Invariant: the rules of the positions from i on give the whole answer.
-use Prim.Native.Nat.{_≤_, _-_}
-use native.Mathlib.Nat.{sub-zero}
-use mathlib.Core.List.{flatMap}
-use mathlib.Core.Path.{_≡_}
+-- No rule applies below the positions that are gone through, so these give the answer.
 use borrow.Author.Needs.{needs}
-use Rattle.lists.specs.Places.{places}
-use Rattle.lists.specs.Rules.{firstRule}
-use Rattle.lists.proofs.Rules.{rules-stop, rules-on, rules-end}
-use Rattle.rules.specs.Limits.{limits}
-use Rattle.rules.specs.declared.Checked.the-variants.{Sound}
-use Rattle.rules.specs.Configuration.{positionRules}
-use Rattle.zones.specs.View.{allRecords}
-use Rattle.rules.proofs.Configuration.{telling-at}
-use Rattle.zones.proofs.ConfigCheck.{is-sound, is-fault}
+use Rattle.zones.proofs.QuickCheck.{answer-from}
 use Rattle.zones.proofs.config.check_positions.Statement.{statement}
 use Rattle.zones.proofs.config.check_positions.Tie as tie
 
-abbrev Inv-loop : tie.InvT-loop
-Inv-loop c n i₀ i =
-    (i ≤ n)
-    × (firstRule (flatMap (positionRules limits (allRecords c)) (places i (n - i))) Sound
-    ≡ firstRule (flatMap (positionRules limits (allRecords c)) (places 0 n)) Sound)
+clear-below-requires : tie.Need-clear-below-requires
+clear-below-requires c κs = search needs
 
-abbrev μ-loop : tie.MeasureT-loop
-μ-loop c n i₀ i = n - i
+check-from-requires : tie.Need-check-from-requires
+check-from-requires c κs = search needs
 
-loop-holds : tie.Need-loop-holds Inv-loop μ-loop
-loop-holds c = (search needs, rw sub-zero)
+same-length : tie.Need-same-length
+same-length c = search needs
 
-check-at-requires : tie.Need-check-at-requires Inv-loop μ-loop
-check-at-requires c κs = search needs
-
-enum-told : tie.Need-enum-told Inv-loop μ-loop
-enum-told c = search needs
-
-returns : tie.Need-returns Inv-loop μ-loop
-returns c = search (rules-stop, is-fault, needs)
-
-add-i : tie.Need-add-i Inv-loop μ-loop
-add-i c = search needs
-
-loop-less : tie.Need-loop-less Inv-loop μ-loop
-loop-less c = search needs
-
-loop-again : tie.Need-loop-again Inv-loop μ-loop
-loop-again c = (search needs, search (rules-on, is-sound, telling-at limits, needs))
-
-returns-2 : tie.Need-returns-2 Inv-loop μ-loop
-returns-2 c = search (rules-end, needs)
+returns : tie.Need-returns
+returns c = (search (answer-from, needs), search needs)
 
 pub check-positions-spec : {M : Type 1} → statement M
 check-positions-spec =
-    tie.close
-    (tie.spec
-    Inv-loop
-    μ-loop
-    loop-holds
-    check-at-requires
-    enum-told
-    returns
-    add-i
-    loop-less
-    loop-again
-    returns-2)
+    tie.close (tie.spec clear-below-requires check-from-requires same-length returns)

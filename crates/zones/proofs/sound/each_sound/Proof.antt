@@ -14,13 +14,13 @@ use Rattle.zones.proofs.sound.each_sound.Statement.{statement}
 use Rattle.zones.proofs.sound.each_sound.Tie as tie
 
 abbrev Inv-loop : tie.InvT-loop
-Inv-loop c t n z₀ z =
+Inv-loop c t keys n z₀ z =
     (z ≤ n)
     × (all (atZone (soundZone limits (configIn c)) t) (places z (n - z))
     ≡ all (soundZone limits (configIn c)) (zonesIn t))
 
 abbrev μ-loop : tie.MeasureT-loop
-μ-loop c t n z₀ z = n - z
+μ-loop c t keys n z₀ z = n - z
 
 zone-count-requires : tie.Need-zone-count-requires Inv-loop μ-loop
 zone-count-requires c κs = search needs

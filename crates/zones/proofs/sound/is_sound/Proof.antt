@@ -5,14 +5,20 @@ use Rattle.zones.proofs.Stored.{config-fault}
 use Rattle.zones.proofs.sound.is_sound.Statement.{statement}
 use Rattle.zones.proofs.sound.is_sound.Tie as tie
 
-check-words-requires : tie.Need-check-words-requires
-check-words-requires c κs = search needs
+slice-aggregate-check-with : tie.Need-slice-aggregate-check-with
+slice-aggregate-check-with c = search needs
+
+check-with-requires : tie.Need-check-with-requires
+check-with-requires c κs = search needs
 
 enum-told : tie.Need-enum-told
 enum-told c = search needs
 
 returns : tie.Need-returns
 returns c = search (config-fault, is-fault, needs)
+
+slice-aggregate-table-sound : tie.Need-slice-aggregate-table-sound
+slice-aggregate-table-sound c = search needs
 
 table-sound-requires : tie.Need-table-sound-requires
 table-sound-requires c κs = search (config-told, is-sound, needs)
@@ -22,4 +28,4 @@ returns-2 c = search needs
 
 pub is-sound-spec : {M : Type 1} → statement M
 is-sound-spec =
-    tie.close (tie.spec check-words-requires enum-told returns table-sound-requires returns-2)
+    tie.close (tie.spec slice-aggregate-check-with check-with-requires enum-told returns slice-aggregate-table-sound table-sound-requires returns-2)

@@ -14,13 +14,13 @@ use Rattle.zones.proofs.sound.set_configured.Statement.{statement}
 use Rattle.zones.proofs.sound.set_configured.Tie as tie
 
 abbrev Inv-loop : tie.InvT-loop
-Inv-loop c t z side n i₀ i =
+Inv-loop c t keys z side n i₀ i =
     (i ≤ n)
     × (all (atRecord (configured (configIn c)) t z side) (places i (n - i))
     ≡ all (configured (configIn c)) (setIn t z side))
 
 abbrev μ-loop : tie.MeasureT-loop
-μ-loop c t z side n i₀ i = n - i
+μ-loop c t keys z side n i₀ i = n - i
 
 set-len-requires : tie.Need-set-len-requires Inv-loop μ-loop
 set-len-requires c κs = search needs
@@ -31,8 +31,8 @@ loop-holds c = (search needs, search (set-start, needs))
 region-at-requires : tie.Need-region-at-requires Inv-loop μ-loop
 region-at-requires c κs = search needs
 
-is-configured-requires : tie.Need-is-configured-requires Inv-loop μ-loop
-is-configured-requires c κs = search needs
+is-configured-by-requires : tie.Need-is-configured-by-requires Inv-loop μ-loop
+is-configured-by-requires c κs = search needs
 
 returns : tie.Need-returns Inv-loop μ-loop
 returns c = search (set-stop, told-off, needs)
@@ -58,7 +58,7 @@ set-configured-spec =
     set-len-requires
     loop-holds
     region-at-requires
-    is-configured-requires
+    is-configured-by-requires
     returns
     add-i
     loop-less

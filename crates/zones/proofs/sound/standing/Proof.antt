@@ -5,14 +5,20 @@ use Rattle.zones.proofs.Stored.{config-first, table-second, both-stand}
 use Rattle.zones.proofs.sound.standing.Statement.{statement}
 use Rattle.zones.proofs.sound.standing.Tie as tie
 
-check-words-requires : tie.Need-check-words-requires
-check-words-requires c κs = search needs
+slice-aggregate-check-with : tie.Need-slice-aggregate-check-with
+slice-aggregate-check-with c = search needs
+
+check-with-requires : tie.Need-check-with-requires
+check-with-requires c κs = search needs
 
 enum-told : tie.Need-enum-told
 enum-told c = search needs
 
 returns : tie.Need-returns
 returns c = search (config-first, is-fault, needs)
+
+slice-aggregate-table-sound : tie.Need-slice-aggregate-table-sound
+slice-aggregate-table-sound c = search needs
 
 table-sound-requires : tie.Need-table-sound-requires
 table-sound-requires c κs = search (config-told, is-sound, needs)
@@ -26,4 +32,4 @@ returns-3 c = search (both-stand, config-told, is-sound, needs)
 pub standing-spec : {M : Type 1} → statement M
 standing-spec =
     tie.close
-    (tie.spec check-words-requires enum-told returns table-sound-requires returns-2 returns-3)
+    (tie.spec slice-aggregate-check-with check-with-requires enum-told returns slice-aggregate-table-sound table-sound-requires returns-2 returns-3)

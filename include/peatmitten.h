@@ -98,6 +98,13 @@ typedef struct peatmitten_outcome {
     uint32_t inner;  /* on 27 why that request is refused, else 0 */
 } peatmitten_outcome;
 
+/* What peatmitten_translate answers, and peatmitten_translate_words in three numbers. */
+typedef struct peatmitten_translated {
+    uint32_t number;    /* a peatmitten_answer: 0, 1, 2, 4, 6 or 18 */
+    uint64_t physical;  /* on 0 the physical address, else 0 */
+    uint64_t remaining; /* on 0 how many bytes of the covering region there are from the address on, itself counted; else 0 */
+} peatmitten_translated;
+
 PEATMITTEN_ASSERT(offsetof(peatmitten_state, config) == 0, "the configuration stands first");
 PEATMITTEN_ASSERT(offsetof(peatmitten_state, table) == 8 * PEATMITTEN_CONFIG_WORDS, "the table stands after the configuration");
 PEATMITTEN_ASSERT(offsetof(peatmitten_state, edition) == 8 * (PEATMITTEN_CONFIG_WORDS + PEATMITTEN_TABLE_WORDS),
@@ -196,11 +203,27 @@ uint32_t peatmitten_request(const uint64_t config[PEATMITTEN_CONFIG_WORDS], uint
                             uint32_t zone, uint64_t v, uint64_t p, uint64_t size);
 
 /*
- * Says where a guest address of a zone comes out. Answers 0, 1, 2, 4, 6 or 18 (peatmitten_answer).
- * physical[0] is the physical address on 0, else 0.
+ * Says where a guest address of a zone comes out, and how far that goes on. Answers 0, 1, 2, 4, 6 or 18 (peatmitten_answer). stretch[0]
+ * is the physical address and stretch[1] how many bytes remain, as in a peatmitten_translated.
+ * For every i below what remains, address + i comes out at physical + i, with what remains less i; no such sum wraps. At address + what
+ * remains another region of the zone may go on, elsewhere in physical addresses: who needs more asks again there.
  */
-uint32_t peatmitten_translate(const uint64_t config[PEATMITTEN_CONFIG_WORDS], const uint64_t table[PEATMITTEN_TABLE_WORDS],
-                              uint32_t zone, uint32_t side, uint64_t address, uint64_t physical[1]);
+uint32_t peatmitten_translate_words(const uint64_t config[PEATMITTEN_CONFIG_WORDS], const uint64_t table[PEATMITTEN_TABLE_WORDS],
+                                    uint32_t zone, uint32_t side, uint64_t address, uint64_t stretch[2]);
+
+/* The same with the answer in one piece. */
+static inline peatmitten_translated peatmitten_translate(const uint64_t config[PEATMITTEN_CONFIG_WORDS],
+                                                         const uint64_t table[PEATMITTEN_TABLE_WORDS], uint32_t zone, uint32_t side,
+                                                         uint64_t address)
+{
+    uint64_t stretch[2];
+    peatmitten_translated translated;
+
+    translated.number = peatmitten_translate_words(config, table, zone, side, address, stretch);
+    translated.physical = stretch[0];
+    translated.remaining = stretch[1];
+    return translated;
+}
 
 /*
  * Says which base edition a plan is for, before anything else of it is looked at: a terminal at a lower edition has missed the plans

@@ -1,5 +1,5 @@
 #!/usr/bin/env bash
-# Builds the C example against the library, plainly and under sanitizers, and compares what it prints; holds the header's limits to the
+# Builds the C examples against the library, plainly and under sanitizers, and compares what they print; holds the header's limits to the
 # library's, and sees that another layout does not link. The headers are compiled as C++ too.
 set -euo pipefail
 test_name=c
@@ -8,11 +8,15 @@ need_library
 need_c
 need_work
 
+# build FOLDER OPTIONS..: each example under its own name
 build() {
-    local program=$1
+    local folder=$1 example
     shift
-    "$CC" -std=c11 -Wall -Wextra -Wpedantic -Werror -O1 -g -I"$root/include" "$@" \
-        "$root/examples/c/apply_plan.c" "$ARCHIVE" -o "$program" || say_failed "the example does not build"
+    mkdir "$folder"
+    for example in apply_plan copy_stretch; do
+        "$CC" -std=c11 -Wall -Wextra -Wpedantic -Werror -O1 -g -I"$root/include" "$@" \
+            "$root/examples/c/$example.c" "$ARCHIVE" -o "$folder/$example" || say_failed "$example does not build"
+    done
 }
 
 # expect STATUS OUTPUT PROGRAM ARGUMENTS..
@@ -35,7 +39,7 @@ expect_error() {
 }
 
 run_cases() {
-    local program=$1 plans=$root/examples state=$work/state
+    local program=$1/apply_plan plans=$root/examples state=$work/state
     rm -f "$state"
     expect 1 $'0 1 0, edition 1\n24 0 0, edition 1' "$program" "$plans/first.plan" "$plans/first.plan"
     expect 1 '20 48 0, edition 0' "$program" "$plans/cut.plan"
@@ -51,6 +55,14 @@ run_cases() {
     expect_error "apply_plan: $plans/first.plan is no state file: a state has $(stat -c %s "$state") bytes" \
         "$program" -s "$plans/first.plan" "$plans/first.plan"
     expect_error 'usage: apply_plan [-s STATE] PLAN...' "$program"
+
+    program=$1/copy_stretch
+    expect 0 $'0x40001ffc: 4 bytes from 0x80002ffc\n0x40002000: 6 bytes from 0x80000000\nPeatmitten' "$program" 0x40001ffc 10
+    expect 0 $'0x40001ffc: 4 bytes from 0x80002ffc\nPeat' "$program" 0x40001ffc 4
+    expect 0 $'0x40002fff: 1 bytes from 0x80000fff\n.' "$program" 0x40002fff 1
+    expect 1 '0x40002fff: 1 bytes from 0x80000fff' "$program" 0x40002fff 2
+    expect 1 '' "$program" 0x3fffffff 2
+    expect_error 'usage: copy_stretch ADDRESS COUNT' "$program" 0x40000000
 }
 
 # The header's limits are the library's, and its layout function's name says them.

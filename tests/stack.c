@@ -27,7 +27,7 @@ enum { CHECK_CONFIG, CHECK_TABLE, REQUEST, TRANSLATE, EDITION, READ, APPLY, LAYO
 #define TEXT_OF(symbol) NAME_OF(symbol)
 
 static const char *const names[FUNCTIONS] = {
-    "peatmitten_check_config", "peatmitten_check_table", "peatmitten_request",     "peatmitten_translate",
+    "peatmitten_check_config", "peatmitten_check_table", "peatmitten_request",     "peatmitten_translate_words",
     "peatmitten_edition",      "peatmitten_read",        "peatmitten_apply_words", TEXT_OF(peatmitten_layout)};
 
 static uint64_t stack[STACK_WORDS] __attribute__((aligned(64)));
@@ -65,8 +65,8 @@ static void request(void)
 
 static void translate(void)
 {
-    peatmitten_translate(state.config, state.table, (uint32_t)state.table[PEATMITTEN_TABLE_ZONES], kind % 2,
-                         state.config[PEATMITTEN_CONFIG_REGIONS], answers);
+    peatmitten_translate_words(state.config, state.table, (uint32_t)state.table[PEATMITTEN_TABLE_ZONES], kind % 2,
+                               state.config[PEATMITTEN_CONFIG_REGIONS], answers);
 }
 
 static void edition(void)

@@ -35,8 +35,8 @@ use Rattle.plan.proofs.Outcomes.{value-refused, edition-room, value-accepted}
 use Rattle.walker.specs.Edition.{editionOf}
 use Rattle.walker.specs.declared.Edition.{Edition}
 use Rattle.walker.specs.declared.Edition.the-variants.{Is, Bad as BadEdition}
-use Rattle.agent.specs.Agent.{layout, placesOf, yesOrNo, sideAsked, sectionNumber, readingNumber, readingPlace}
-use Rattle.agent.specs.Agent.{editionNumber, editionValue, AppliesWords, PartsAreAState}
+use Rattle.agent.specs.Agent.{layout, placesOf, yesOrNo, sideAsked, stretchOf, sectionNumber, readingNumber}
+use Rattle.agent.specs.Agent.{readingPlace, editionNumber, editionValue, AppliesWords, PartsAreAState}
 
 -- what stands past the last number of the layout
 pub past-layout : (n : ℕ) → (n ≡ 0 → ⊥) → (n ≡ 1 → ⊥) → (n ≡ 2 → ⊥) → (n ≡ 3 → ⊥) → (n ≡ 4 → ⊥) → (n ≡ 5 → ⊥)
@@ -98,9 +98,10 @@ module _ (c : StoredConfig) (t : StoredTable) (zone : ℕ) (s : Side) (n : ℕ) 
   pub translation-number : r .number ≡ translated limits c t zone (sideAsked n) a .number
   translation-number = ap (λ (x : Translated). x .number) same
 
-  pub translation-address : (u : List ℕ) → u ≡ r .phys .0 ∷ []
-      → u ≡ translated limits c t zone (sideAsked n) a .phys .0 ∷ []
-  translation-address u k = k ∙ ap (λ (x : Translated). x .phys .0 ∷ []) same
+  pub translation-stretch : (u : List ℕ) → u ≡ r .phys .0 ∷ r .remaining ∷ []
+      → u ≡ stretchOf (translated limits c t zone (sideAsked n) a)
+  unfolding stretchOf
+  translation-stretch u k = k ∙ ap stretchOf same
 
 -- a plan that was read: r is what was found of it
 sectionOf : Found → Section

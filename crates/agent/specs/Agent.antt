@@ -12,6 +12,7 @@ use Rattle.rules.specs.Sizes.{longestSize}
 use Rattle.rules.specs.declared.Checked.{Checked}
 use Rattle.rules.specs.declared.Side.{Side}
 use Rattle.rules.specs.declared.Side.the-variants.{Cpu, Iommu}
+use Rattle.rules.specs.declared.Translated.{Translated}
 use Rattle.zones.specs.Layout.{regionWords}
 use Rattle.plan.specs.Applying.{applied, stateIn}
 use Rattle.plan.specs.Into.{sectionPlace}
@@ -37,6 +38,10 @@ yesOrNo b = cond b 1 0
 -- side 0 is the CPU, any other the IOMMU
 unfoldable pub sideAsked : ℕ → Side
 sideAsked n = cond (eqb n 0) Cpu Iommu
+
+-- the two words of a translation: the physical address, and how many bytes there are from it on
+unfoldable pub stretchOf : Translated → List ℕ
+stretchOf o = o .phys .0 ∷ o .remaining ∷ []
 
 -- of a plan that is only read: the number, and its offset or that of the first request
 unfoldable pub sectionNumber : Section → ℕ

@@ -36,7 +36,7 @@ ghost use Rattle.rules.specs.Translation.{translated};
 ghost use Rattle.zones.specs.Step.{Stepped};
 ghost use Rattle.zones.specs.View.{storedConfig, storedTable};
 ghost use Rattle.walker.specs.Edition.{editionOf};
-ghost use Rattle.agent.specs.Agent.{layout, placesOf, yesOrNo, sideAsked, readingNumber, readingPlace, editionNumber, editionValue, AppliesWords};
+ghost use Rattle.agent.specs.Agent.{layout, placesOf, yesOrNo, sideAsked, stretchOf, readingNumber, readingPlace, editionNumber, editionValue, AppliesWords};
 
 // What a header must have for this library, one number at a time; 0 past the last. Its name says them too, so that a program with the
 // header of another library does not link.
@@ -118,21 +118,22 @@ pub extern "C" fn peatmitten_request(
     step_in(config, table, request)
 }
 
-// Where a guest address of a zone comes out. Side 0 is the CPU, any other the IOMMU.
+// Where a guest address of a zone comes out, and how many bytes of the covering region there are from it on. Side 0 is the CPU, any
+// other the IOMMU.
 #[no_mangle]
-pub extern "C" fn peatmitten_translate(
+pub extern "C" fn peatmitten_translate_words(
     config: &[u64; CONFIG_WORDS],
     table: &[u64; TABLE_WORDS],
     zone: u32,
     side: u32,
     address: u64,
-    physical: &mut [u64; 1],
+    stretch: &mut [u64; 2],
 ) -> u32
-    ensures { λ n. ⌜ (n ≡ translated limits (storedConfig (now (config .entry))) (storedTable (now (table .entry))) zone (sideAsked side) (record { 0 = address }) .number) × (now (physical .exit) ≡ translated limits (storedConfig (now (config .entry))) (storedTable (now (table .entry))) zone (sideAsked side) (record { 0 = address }) .phys .0 ∷ []) ⌝ }
+    ensures { λ n. ⌜ (n ≡ translated limits (storedConfig (now (config .entry))) (storedTable (now (table .entry))) zone (sideAsked side) (record { 0 = address }) .number) × (now (stretch .exit) ≡ stretchOf (translated limits (storedConfig (now (config .entry))) (storedTable (now (table .entry))) zone (sideAsked side) (record { 0 = address }))) ⌝ }
 {
     let asked = side_asked(side);
     let found = translate_in(config, table, zone, asked, Guest(address));
-    put_one(physical, found.phys.0);
+    put_two(stretch, found.phys.0, found.remaining);
     found.number
 }
 

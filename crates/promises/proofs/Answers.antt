@@ -34,8 +34,8 @@ use Rattle.rules.specs.Requests.{regionRules, setRules, insertRules, removeRule
 use Rattle.rules.specs.Requests.{refusal, standingRules, standing, answer}
 use Rattle.rules.specs.Run.{run, ended, runAnswer, Run}
 use Rattle.rules.specs.Tables.{noZone, hasId, regionsOf, configured, clash, tableOf, checkTable, Zone, StoredTable}
-use Rattle.rules.specs.Translation.{coversGuest, coveringIn, physIn, translationRules, translatedAs, translation}
-use Rattle.rules.specs.Translation.{translated}
+use Rattle.rules.specs.Translation.{coversGuest, coveringIn, physIn, remainingIn, translationRules, translatedAs}
+use Rattle.rules.specs.Translation.{translation, translated}
 use Rattle.rules.specs.declared.Checked.{Checked}
 use Rattle.rules.specs.declared.Checked.the-variants.{Sound, BadCount, BadGic, NotZero, Malformed, OutOfReach, Overlap}
 use Rattle.rules.specs.declared.Guest.{Guest}
@@ -54,7 +54,7 @@ use Rattle.rules.proofs.Plan.{lawful-plan}
 use Rattle.rules.proofs.Regions.{equal-same, equal-refl}
 use Rattle.rules.proofs.Run.{run-all, run-stops}
 use Rattle.rules.proofs.Sections.{own-config, own-zones}
-use Rattle.rules.proofs.Translation.{covers-parts, parts-cover, same-distance}
+use Rattle.rules.proofs.Translation.{covers-parts, parts-cover, same-distance, remains-to-end}
 use Rattle.promises.specs.Answers.{standingLines, HasZone, IsWellFormed, IsInReach, MeetsPhys, MeetsGuest, SomeIn}
 use Rattle.promises.specs.Answers.{SomeZone, ForbiddenFor, kindLines, RequestSays, RefusalIsExact, AnswerIsExact}
 use Rattle.promises.specs.Answers.{ComesOut, TranslatedIsExact, noAsk, numberAt, RunAnswerIsExact, allAccepted}
@@ -243,7 +243,7 @@ module _ (lim : Limits) where
     tells-bad : Tells (not (checkTable lim c t)) (checkTable lim c t ≡ false)
     tells-bad = (not-true (checkTable lim c t), not-fails (checkTable lim c t))
 
-    table-stands : checkTable lim c t ≡ true → SoundTable lim (configOf c) (tableOf t)
+    pub table-stands : checkTable lim c t ≡ true → SoundTable lim (configOf c) (tableOf t)
     unfolding checkTable
     table-stands e = sound-parts lim (configOf c) (tableOf t) (parts _ e .1 .1 .0)
 
@@ -312,10 +312,16 @@ module _ (lim : Limits) where
         (λ o (r, m, k, q). ap (translatedAs 0 a) (the-one r m k e) ∙ sym (at r (parts-cover a r k)) ∙ q)
       where
         at : (r : Region) → coversGuest a r ≡ true
-            → record { number = 0; phys = record { 0 = r .p .0 + (a - r .v .0) } } ≡ translatedAs 0 a r
+            → record {
+              number = 0;
+              phys = record { 0 = r .p .0 + (a - r .v .0) };
+              remaining = r .v .0 + r .size - a;
+            }
+            ≡ translatedAs 0 a r
         at r k =
             let e : r .p .0 + (a - r .v .0) ≡ physIn a r = sym (same-distance a r k) in
-            (λ i. record { number = 0; phys = record { 0 = e i } })
+            let f : r .v .0 + r .size - a ≡ remainingIn a r = sym (remains-to-end a r k) in
+            (λ i. record { number = 0; phys = record { 0 = e i }; remaining = f i })
 
   tells-covers : (a : ℕ) (r : Region) → Tells (coversGuest a r) (CoversGuest r a)
   tells-covers a r = (covers-parts a r, parts-cover a r)

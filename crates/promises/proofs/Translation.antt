@@ -24,7 +24,8 @@ use Rattle.rules.specs.Limits.{highestId, Limits}
 use Rattle.rules.specs.Regions.{regionEq, noRegion}
 use Rattle.rules.specs.Requests.{find, present, heldIn}
 use Rattle.rules.specs.Tables.{noZone, sideOf, hasId, regionsOf, configured, guestApart, soundSet, Zone}
-use Rattle.rules.specs.Translation.{coversGuest, coveringIn, physIn, translationRules, translatedAs, translation}
+use Rattle.rules.specs.Translation.{coversGuest, coveringIn, physIn, remainingIn, translationRules, translatedAs}
+use Rattle.rules.specs.Translation.{translation}
 use Rattle.rules.specs.declared.Region.{Region}
 use Rattle.rules.specs.declared.Side.{Side}
 use Rattle.rules.specs.declared.Side.the-variants.{Cpu, Iommu}
@@ -48,7 +49,7 @@ module _ (t : List Zone) (id : ℕ) (side : Side) (a : ℕ) where
   unfolding translation translatedAs
   number = refl
 
-  xs : List Region
+  unfoldable pub xs : List Region
   xs = setAt t (find id t) side
 
   module _ (e : translation t id side a .number ≡ 0) where
@@ -56,25 +57,35 @@ module _ (t : List Zone) (id : ℕ) (side : Side) (a : ℕ) where
     unfolding translationRules aboveZero all
     none = silent-number (translationRules t id side a) refl (sym number ∙ e)
 
-    zone-there : present id t ≡ true
+    pub low-enough : ltb highestId id ≡ false
+    unfolding translationRules testOf
+    low-enough = none 4
+
+    pub zone-there : present id t ≡ true
     unfolding translationRules testOf
     zone-there = not-false _ (none 6)
 
-    within : firstIndex (coversGuest a) xs < length xs
+    pub within : firstIndex (coversGuest a) xs < length xs
     unfolding translationRules xs testOf
     within = ltb-true _ _ (sym (any-first (coversGuest a) (setAt t (find id t) side)) ∙ not-false _ (none 18))
 
-    covers : coversGuest a (coveringIn a xs) ≡ true
+    pub covers : coversGuest a (coveringIn a xs) ≡ true
     unfolding coveringIn
     covers = first-passes (coversGuest a) xs noRegion within
 
-    comes-out : translation t id side a .phys .0 ≡ physIn a (coveringIn a xs)
+    pub comes-out : translation t id side a .phys .0 ≡ physIn a (coveringIn a xs)
     unfolding translation translatedAs xs
     comes-out =
         ap (λ (b : Bool). cond b (physIn a (coveringIn a (setAt t (find id t) side))) 0) (eq-eqb _ 0 (sym number ∙ e))
 
+    pub remains : translation t id side a .remaining ≡ remainingIn a (coveringIn a xs)
+    unfolding translation translatedAs xs
+    remains =
+        ap (λ (b : Bool). cond b (remainingIn a (coveringIn a (setAt t (find id t) side))) 0)
+        (eq-eqb _ 0 (sym number ∙ e))
+
   -- a region of the set that covers the address makes the answer 0
-  translates : ltb highestId id ≡ false → present id t ≡ true → any (coversGuest a) xs ≡ true
+  pub translates : ltb highestId id ≡ false → present id t ≡ true → any (coversGuest a) xs ≡ true
       → translation t id side a .number ≡ 0
   unfolding translationRules xs
   translates low there some =

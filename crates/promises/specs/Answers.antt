@@ -116,11 +116,12 @@ AnswerIsExact l =
     → Exactly (answer l c t q) (FirstOf (standingLines (λ n. n) l c t) (RequestSays l (configOf c) (tableOf t) q))
 
 -- ---- translation
--- a number with physical address 0
+-- a number with physical address 0 and 0 bytes that remain
 abbrev pub nowhere : ℕ → Translated
-nowhere n = record { number = n; phys = record { 0 = 0 } }
+nowhere n = record { number = n; phys = record { 0 = 0 }; remaining = 0 }
 
--- 4, 6 and 18; then 0 with p + (address - v) of a region of that set that covers the address
+-- 4, 6 and 18; then 0 with p + (address - v) of a region of that set that covers the address, and what lies between the
+-- address and that region's end
 abbrev pub translationLines : List Zone → ℕ → Side → ℕ → List (Line Translated)
 translationLines t id s a =
     nowhere 4 given (highestId < id) ∷ nowhere 6 given (HasZone id t → ⊥)
@@ -130,7 +131,7 @@ translationLines t id s a =
 abbrev pub ComesOut : List Zone → ℕ → Side → ℕ → Translated → Type 0
 ComesOut t id s a o =
     (r : Region) × In r (setAt t (find id t) s) × CoversGuest r a
-    × (record { number = 0; phys = record { 0 = r .p .0 + (a - r .v .0) } } ≡ o)
+    × (record { number = 0; phys = record { 0 = r .p .0 + (a - r .v .0) }; remaining = r .v .0 + r .size - a } ≡ o)
 
 -- from outside
 abbrev pub TranslatedIsExact : Limits → Type 0

@@ -8,6 +8,7 @@ pub mod Closure
 pub mod Translation
 pub mod Plans
 pub mod Answers
+pub mod Stretches
 pub mod Editions
 pub mod Terminals
 pub mod Past

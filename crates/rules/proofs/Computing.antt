@@ -24,7 +24,7 @@ use Rattle.rules.specs.Requests.{next, answers, standingRules}
 use Rattle.rules.specs.Run.{makeKind, makeRequest, runFrom, ended}
 use Rattle.rules.specs.Tables.{sideOf, configured, clash, soundSet, soundZone, zonesApart, sound, setOf, zoneOf}
 use Rattle.rules.specs.Tables.{tableOf, restZero, zeroSet, tidyZone, zeroZone, tidy, checkTable}
-use Rattle.rules.specs.Translation.{coversGuest, coveringIn, physIn, translationRules, translatedAs}
+use Rattle.rules.specs.Translation.{coversGuest, coveringIn, physIn, remainingIn, translationRules, translatedAs}
 
 -- lists, tests and rules; regions
 unfoldable pub listParts : Unit {0}
@@ -53,7 +53,7 @@ unfolding regionParts answers next refusal after requestRules kindRules noReques
 requestParts = tt
 
 unfoldable pub translationParts : Unit {0}
-unfolding regionParts translatedAs translationRules physIn coveringIn coversGuest setAt sideOf
+unfolding regionParts translatedAs translationRules physIn remainingIn coveringIn coversGuest setAt sideOf
 translationParts = tt
 
 -- plans: read, written, and applied

@@ -27,4 +27,4 @@ kinds-shown = (refl, refl, refl, refl, refl, refl, refl, refl)
 
 pub translation-shown : TranslationShown
 unfolding translation translationParts
-translation-shown = (refl, refl, refl, refl)
+translation-shown = (refl, refl, refl, refl, refl, refl)

@@ -12,7 +12,7 @@ use Rattle.rules.specs.Configuration.{check, checkNumber, checkPlace, ch
 use Rattle.rules.specs.Desk.{regionOf, deskZones, addZone, dropZone, insert}
 use Rattle.rules.specs.Limits.{limits, Limits}
 use Rattle.rules.specs.Regions.{noRegion}
-use Rattle.rules.specs.RequestExamples.{_gives_, block, theGic, twin, blocks, oneBlockMore, model, allZones, crowdBeside, held, cpuOnly, iommuOnly, oddAndFar, far, unknown, justInReach, outOfReach, goesTo, goesNowhere, Shows}
+use Rattle.rules.specs.RequestExamples.{_gives_, block, theGic, twin, blocks, oneBlockMore, model, allZones, crowdBeside, held, cpuOnly, iommuOnly, sharing, oddAndFar, far, unknown, justInReach, outOfReach, _lasts_, goesNowhere, Shows}
 use Rattle.rules.specs.Requests.{answer}
 use Rattle.rules.specs.Run.{makeRequest, runAnswer}
 use Rattle.rules.specs.Tables.{emptyZone, unusedSet, unusedZone, checkTable, Zone, StoredSet, StoredZone, StoredTable}
@@ -263,7 +263,7 @@ requestsOutside =
     ∷ (holds iommuOnly, insert Cpu (block 0) 5) gives 0
     ∷ []
 
--- a translation
+-- a translation; 1 and 2 also where a region covers the address
 abbrev pub translationAt : Base × (ℕ × ℕ) → Translated
 translationAt e = translated limits (e .0 .config) (e .0 .table) (e .1 .0) Cpu (record { 0 = e .1 .1 })
 
@@ -273,11 +273,13 @@ translationsOutside =
     ∷ (configBad, (5, 0x40212345)) gives goesNowhere 1
     ∷ (tableBad, (256, 0x40212345)) gives goesNowhere 2
     ∷ (tableBad, (5, 0x40212345)) gives goesNowhere 2
+    ∷ (record { config = badConfig; table = store limits held }, (5, 0x40212345)) gives goesNowhere 1
+    ∷ (holds sharing, (5, 0x40212345)) gives goesNowhere 2
     ∷ (holds held, (256, 0x40212345)) gives goesNowhere 4
     ∷ (holds held, (7, 0x40212345)) gives goesNowhere 6
     ∷ (holds held, (5, 0x40012345)) gives goesNowhere 18
-    ∷ (holds held, (5, 0x40212345)) gives goesTo 0x80212345
-    ∷ (holds held, (6, 0x40012345)) gives goesTo 0x60012345
+    ∷ (holds held, (5, 0x40212345)) gives 0x80212345 lasts 0x1edcbb
+    ∷ (holds held, (6, 0x40012345)) gives 0x60012345 lasts 0x1edcbb
     ∷ []
 
 -- a run: 27 with the place and the number of the first that is refused, or 0 with how many there were

@@ -85,10 +85,15 @@ cpuOnly = record { id = 5; cpu = block 0 ∷ []; iommu = [] } ∷ emptyZone 6 �
 abbrev pub iommuOnly : List Zone
 iommuOnly = record { id = 5; cpu = []; iommu = block 0 ∷ [] } ∷ emptyZone 6 ∷ []
 
+-- zone 5 with a block on its CPU side and, at the same guest addresses, the GIC on the other, which ends earlier
+abbrev pub sidesDiffer : List Zone
+sidesDiffer = record { id = 5; cpu = block 0 ∷ []; iommu = theGic ∷ [] } ∷ emptyZone 6 ∷ []
+
 -- the configuration passes its check, and these tables are sound under it
 abbrev pub tables : List (List Zone)
 tables =
     deskZones ∷ allZones ∷ crowd Cpu ∷ crowd Iommu ∷ crowdBeside Cpu ∷ crowdBeside Iommu ∷ held ∷ cpuOnly ∷ iommuOnly
+    ∷ sidesDiffer
     ∷ []
 
 abbrev pub ModelIsSound : Type 0
@@ -381,24 +386,26 @@ pub record Asking : Type 0 where
 abbrev pub in5 : Side → ℕ → Asking
 in5 s a = record { zone = 5; side = s; address = a }
 
-abbrev pub translationOf : Asking → Translated
-translationOf e = translation held (e .zone) (e .side) (e .address)
+abbrev pub translationOf : List Zone → Asking → Translated
+translationOf t e = translation t (e .zone) (e .side) (e .address)
 
--- the answers: 0 with an address, or a number with address 0
-abbrev pub goesTo : ℕ → Translated
-goesTo p = record { number = 0; phys = record { 0 = p } }
+-- the answers: 0 with an address and how many bytes there are from it on, or a number with 0 for both
+infix 75 _lasts_
+abbrev pub _lasts_ : ℕ → ℕ → Translated
+p lasts n = record { number = 0; phys = record { 0 = p }; remaining = n }
 
 abbrev pub goesNowhere : ℕ → Translated
-goesNowhere n = record { number = n; phys = record { 0 = 0 } }
+goesNowhere n = record { number = n; phys = record { 0 = 0 }; remaining = 0 }
 
--- the first byte of a region, one in its middle and its last; the byte
+-- the first byte of a region, the next, one in its middle and its last; the byte
 -- after that is the first of the region that adjoins it
 abbrev pub inside : List (Asking × Translated)
 inside =
-    in5 Cpu 0x40200000 gives goesTo 0x80200000
-    ∷ in5 Cpu 0x40212345 gives goesTo 0x80212345
-    ∷ in5 Cpu 0x403fffff gives goesTo 0x803fffff
-    ∷ in5 Cpu 0x40400000 gives goesTo 0x80400000
+    in5 Cpu 0x40200000 gives 0x80200000 lasts 0x200000
+    ∷ in5 Cpu 0x40200001 gives 0x80200001 lasts 0x1fffff
+    ∷ in5 Cpu 0x40212345 gives 0x80212345 lasts 0x1edcbb
+    ∷ in5 Cpu 0x403fffff gives 0x803fffff lasts 1
+    ∷ in5 Cpu 0x40400000 gives 0x80400000 lasts 0x200000
     ∷ []
 
 -- the byte before a region and its end are not covered; any address may be asked
@@ -413,11 +420,34 @@ outside =
 -- the other side has another set, and another zone another region at the same guest address
 abbrev pub elsewhereIn : List (Asking × Translated)
 elsewhereIn =
-    in5 Cpu 0x40800000 gives goesTo 0x80800000
+    in5 Cpu 0x40800000 gives 0x80800000 lasts 0x200000
     ∷ in5 Iommu 0x40800000 gives goesNowhere 18
     ∷ in5 Cpu 0x40012345 gives goesNowhere 18
-    ∷ in5 Iommu 0x40012345 gives goesTo 0x80012345
-    ∷ record { zone = 6; side = Cpu; address = 0x40012345 } gives goesTo 0x60012345
+    ∷ in5 Iommu 0x40012345 gives 0x80012345 lasts 0x1edcbb
+    ∷ record { zone = 6; side = Cpu; address = 0x40012345 } gives 0x60012345 lasts 0x1edcbb
+    ∷ []
+
+-- one address that both sides have: each side goes as far as its own region
+abbrev pub onBothSides : List (Asking × Translated)
+onBothSides =
+    in5 Cpu 0x40001234 gives 0x80001234 lasts 0x1fedcc
+    ∷ in5 Iommu 0x40001234 gives 0x08001234 lasts 0xedcc
+    ∷ in5 Cpu 0x4000ffff gives 0x8000ffff lasts 0x1f0001
+    ∷ in5 Iommu 0x4000ffff gives 0x0800ffff lasts 1
+    ∷ in5 Cpu 0x40010000 gives 0x80010000 lasts 0x1f0000
+    ∷ in5 Iommu 0x40010000 gives goesNowhere 18
+    ∷ []
+
+-- why a table must be sound for a stretch to go on: of two regions that share guest addresses the first in the set
+-- answers there, and the stretch that begins in the other comes out elsewhere from then on
+abbrev pub sharing : List Zone
+sharing = record { id = 5; cpu = block 1 ∷ regionOf 0x40000000 0x60000000 0x400000 ∷ []; iommu = [] } ∷ []
+
+abbrev pub whereShared : List (Asking × Translated)
+whereShared =
+    in5 Cpu 0x40000000 gives 0x60000000 lasts 0x400000
+    ∷ in5 Cpu 0x401fffff gives 0x601fffff lasts 0x200001
+    ∷ in5 Cpu 0x40200000 gives 0x80200000 lasts 0x200000
     ∷ []
 
 -- 4, 6, 18: in a zone that is not there nothing is covered
@@ -430,5 +460,9 @@ numbersOf =
 
 abbrev pub TranslationShown : Type 0
 TranslationShown =
-    Shows translationOf inside × Shows translationOf outside × Shows translationOf elsewhereIn
-    × Shows translationOf numbersOf
+    Shows (translationOf held) inside
+    × Shows (translationOf held) outside
+    × Shows (translationOf held) elsewhereIn
+    × Shows (translationOf sidesDiffer) onBothSides
+    × Shows (translationOf sharing) whereShared
+    × Shows (translationOf held) numbersOf

@@ -1,4 +1,4 @@
--- Translation: from a guest address of a zone, on one side, to the physical address.
+-- Translation: from a guest address of a zone, on one side, to the physical address, and how far that goes on.
 use Prim.Native.Nat.{ℕ, _+_, _-_}
 use mathlib.Core.Bool.{Bool, cond, not}
 use mathlib.Core.List.{List, [], _∷_, _++_}
@@ -30,6 +30,10 @@ coveringIn a xs = getD xs (firstIndex (coversGuest a) xs) noRegion
 unfoldable pub physIn : ℕ → Region → ℕ
 physIn a r = r .p .0 + (a - r .v .0)
 
+-- how many bytes of the region there are from it on
+unfoldable pub remainingIn : ℕ → Region → ℕ
+remainingIn a r = r .size - (a - r .v .0)
+
 -- the numbers, in the document's order
 unfoldable pub translationRules : List Zone → ℕ → Side → ℕ → List (Rule ℕ)
 translationRules t id s a =
@@ -38,9 +42,13 @@ translationRules t id s a =
     ∷ 18 when not (any (coversGuest a) (setAt t (find id t) s))
     ∷ []
 
--- a number with physical address 0, or 0 with that of the covering region
+-- a number with physical address 0 and nothing that remains, or 0 with both of the covering region
 unfoldable pub translatedAs : ℕ → ℕ → Region → Translated
-translatedAs n a r = record { number = n; phys = record { 0 = cond (eqb n 0) (physIn a r) 0 } }
+translatedAs n a r = record {
+  number = n;
+  phys = record { 0 = cond (eqb n 0) (physIn a r) 0 };
+  remaining = cond (eqb n 0) (remainingIn a r) 0;
+}
 
 -- at a sound table under a sound configuration
 unfoldable pub translation : List Zone → ℕ → Side → ℕ → Translated

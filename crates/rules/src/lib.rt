@@ -55,8 +55,10 @@ pub struct Outcome {
     pub inner: u32,
 }
 
-// What a translation answers: 0 and the physical address, or a number and address 0.
+// What a translation answers: 0, the physical address and how many bytes of the covering region there are from it on; or a number, and
+// 0 for both.
 pub struct Translated {
     pub number: u32,
     pub phys: Phys,
+    pub remaining: u64,
 }

@@ -2,11 +2,11 @@
 -- the covering one; in reach, no sum wraps.
 use Prim.Native.Nat.{ℕ, _+_, _-_, _^_, _≤_, _<_}
 use native.Mathlib.Omega.{arith}
-use mathlib.Core.Bool.{Bool, true, false, cond, not}
+use mathlib.Core.Bool.{Bool, true, false, not}
 use mathlib.Core.List.{List, [], _∷_}
 use mathlib.Core.Path.{_≡_, refl, sym, ap, ap₂, _∙_, fun-ext}
-use borrow.Author.Tests.{ltb-true, leb-true, lt-ltb, le-ltb, le-leb, ne-eqb}
-use lib.Dec.{ltb, eqb}
+use borrow.Author.Tests.{ltb-true, leb-true, lt-ltb, le-ltb, le-leb}
+use lib.Dec.{ltb}
 use lib.ListN.{length, getD}
 use Rattle.lists.specs.First.{firstIndex, any, all}
 use Rattle.lists.specs.Rules.{Rule, _when_, firstRule}
@@ -21,8 +21,8 @@ use Rattle.rules.specs.Limits.{highestId, mostInSet, limits}
 use Rattle.rules.specs.Regions.{inReach, noRegion}
 use Rattle.rules.specs.Requests.{find, standingRules, standing}
 use Rattle.rules.specs.Tables.{hasId, tableOf, configured, soundSet, Zone}
-use Rattle.rules.specs.Translation.{coversGuest, coveringIn, physIn, translationRules, translatedAs, translation}
-use Rattle.rules.specs.Translation.{translated}
+use Rattle.rules.specs.Translation.{coversGuest, coveringIn, physIn, remainingIn, translationRules, translatedAs}
+use Rattle.rules.specs.Translation.{translation, translated}
 use Rattle.rules.specs.declared.Guest.{Guest}
 use Rattle.rules.specs.declared.Region.{Region}
 use Rattle.rules.specs.declared.Side.{Side}
@@ -31,7 +31,7 @@ use Rattle.rules.proofs.Addresses.{overlap-shared}
 use Rattle.rules.proofs.Configuration.{SoundConfiguration}
 use Rattle.rules.proofs.Keeps.{sound-parts, set-sound}
 use Rattle.rules.proofs.Tables.{configured-at}
-use Rattle.rules.proofs.Translation.{covers-parts}
+use Rattle.rules.proofs.Translation.{covers-parts, none-told}
 use Rattle.zones.specs.Alike.{alikeBy}
 use Rattle.zones.specs.Decide.{Ready}
 use Rattle.zones.specs.Layout.{tableWords, setBase}
@@ -64,21 +64,20 @@ covering-found a k xs e = e ∙ ap (λ (p : Region → Bool). firstIndex p xs) (
 -- ---- what is answered
 module _ (w : List ℕ) (id : ℕ) (s : Side) (a : ℕ) where
   refused-as : (n : ℕ) → (n ≡ 0 → ⊥) → n ≡ firstRule (translationRules (zonesIn w) id s a) 0 → (r : Translated)
-      → r ≡ record { number = n; phys = record { 0 = 0 } } → r ≡ translation (zonesIn w) id s a
-  unfolding translation translatedAs
+      → r ≡ record { number = n; phys = record { 0 = 0 }; remaining = 0 } → r ≡ translation (zonesIn w) id s a
+  unfolding translation
   refused-as n ne e r h =
-      let k : ℕ = physIn a (coveringIn a (setAt (zonesIn w) (find id (zonesIn w)) s)) in
-      h ∙ ap (λ (b : Bool). record { number = n; phys = record { 0 = cond b k 0 } }) (sym (ne-eqb n 0 ne))
-      ∙ ap (λ (m : ℕ). record { number = m; phys = record { 0 = cond (eqb m 0) k 0 } }) e
+      let y : Region = coveringIn a (setAt (zonesIn w) (find id (zonesIn w)) s) in
+      h ∙ none-told n a y ne ∙ ap (λ (m : ℕ). translatedAs m a y) e
 
-  pub high-id : highestId < id → (r : Translated) → r ≡ record { number = 4; phys = record { 0 = 0 } }
+  pub high-id : highestId < id → (r : Translated) → r ≡ record { number = 4; phys = record { 0 = 0 }; remaining = 0 }
       → r ≡ translation (zonesIn w) id s a
   unfolding translationRules
   high-id h r = refused-as 4 (λ e. omega arith) (rule-hit _ _ _ _ _ (lt-ltb _ _ h) refl) r
 
   module _ (low : id ≤ highestId) (z n : ℕ) (ez : z ≡ firstIndex (hasId id) (zonesIn w))
       (en : n ≡ length (zonesIn w)) where
-    pub no-zone : n ≤ z → (r : Translated) → r ≡ record { number = 6; phys = record { 0 = 0 } }
+    pub no-zone : n ≤ z → (r : Translated) → r ≡ record { number = 6; phys = record { 0 = 0 }; remaining = 0 }
         → r ≡ translation (zonesIn w) id s a
     unfolding translationRules
     no-zone h r =
@@ -112,7 +111,7 @@ module _ (w : List ℕ) (id : ℕ) (s : Side) (a : ℕ) where
       last v e =
           rule-skip _ _ _ _ _ (le-ltb _ _ low) (rule-skip _ _ _ _ _ (zone-not-missing (zonesIn w) id z n ez en h) e)
 
-      pub none-covers : m ≤ i → (r : Translated) → r ≡ record { number = 18; phys = record { 0 = 0 } }
+      pub none-covers : m ≤ i → (r : Translated) → r ≡ record { number = 18; phys = record { 0 = 0 }; remaining = 0 }
           → r ≡ translation (zonesIn w) id s a
       none-covers l r =
           refused-as 18 (λ e. omega arith) (last 18 (rule-hit _ _ _ _ _ (ap not (covered false (le-ltb _ _ l))) refl)) r
@@ -132,8 +131,10 @@ module _ (w : List ℕ) (id : ℕ) (s : Side) (a : ℕ) where
         pub from-start : x .v .0 ≤ a
         from-start = covers-parts a x covers-here .0
 
-        before-end : a < x .v .0 + x .size
-        before-end = covers-parts a x covers-here .1
+        pub before-end : a - x .v .0 ≤ x .size
+        before-end =
+            let u : a < x .v .0 + x .size = covers-parts a x covers-here .1 in
+            omega arith
 
         pub no-wrap : Near (zonesIn w) → x .p .0 + (a - x .v .0) < 2 ^ 64
         unfolding inReach
@@ -142,21 +143,25 @@ module _ (w : List ℕ) (id : ℕ) (s : Side) (a : ℕ) where
             ap (inReach limits) (region-here ∙ ap (λ (l : List Region). getD l i noRegion) (sym (set-in w z s there)))
             ∙ near .reach z s i there (omega (arith, ap length (set-in w z s there))) in
             let b : x .p .0 + x .size ≤ limits .physReach = leb-true _ _ (parts _ q .1 .0) in
-            let u : a < x .v .0 + x .size = before-end in
-            let g : x .v .0 ≤ a = from-start in
+            let u : a - x .v .0 ≤ x .size = before-end in
             omega arith
 
-        pub one-covers : (r : Translated) → r ≡ record { number = 0; phys = record { 0 = x .p .0 + (a - x .v .0) } }
+        pub one-covers : (r : Translated)
+            → r
+            ≡ record {
+              number = 0;
+              phys = record { 0 = x .p .0 + (a - x .v .0) };
+              remaining = x .size - (a - x .v .0);
+            }
             → r ≡ translation (zonesIn w) id s a
-        unfolding translation translatedAs physIn coveringIn
+        unfolding translation translatedAs physIn remainingIn coveringIn
         one-covers r e =
             let y : Region = coveringIn a (setAt (zonesIn w) (find id (zonesIn w)) s) in
             let ey : x ≡ y =
             region-here ∙ ap (λ (k : ℕ). getD (setIn w z s) k noRegion) ei ∙ ap (coveringIn a) same-set in
             let accepted : 0 ≡ firstRule (translationRules (zonesIn w) id s a) 0 =
             last 0 (rule-skip _ _ _ _ _ (ap not (covered true (lt-ltb _ _ l))) (rule-none _ _ refl)) in
-            e ∙ ap (λ (k : Region). record { number = 0; phys = record { 0 = physIn a k } }) ey
-            ∙ ap (λ (m : ℕ). record { number = m; phys = record { 0 = cond (eqb m 0) (physIn a y) 0 } }) accepted
+            e ∙ ap (translatedAs 0 a) ey ∙ ap (λ (m : ℕ). translatedAs m a y) accepted
 
 -- ---- a table that is ready has every region in reach
 near-ready : (c t : List ℕ) → Ready c t → Near (zonesIn t)
@@ -182,15 +187,14 @@ standing-telling c t = numbers-tell (standingRules limits (storedConfig c) (stor
 -- ---- from outside
 module _ (c t : List ℕ) (n : ℕ) (e : n ≡ standing limits (storedConfig c) (storedTable t)) (id : ℕ) (s : Side)
     (a : Guest) where
-  pub none-translated : (n ≡ 0 → ⊥) → (r : Translated) → r ≡ record { number = n; phys = record { 0 = 0 } }
+  pub none-translated : (n ≡ 0 → ⊥) → (r : Translated)
+      → r ≡ record { number = n; phys = record { 0 = 0 }; remaining = 0 }
       → r ≡ translated limits (storedConfig c) (storedTable t) id s a
-  unfolding translated translatedAs
+  unfolding translated
   none-translated ne r h =
       let rs : List (Rule ℕ) = translationRules (tableOf (storedTable t)) id s (a .0) in
-      let k : ℕ =
-      physIn (a .0) (coveringIn (a .0) (setAt (tableOf (storedTable t)) (find id (tableOf (storedTable t))) s)) in
-      h ∙ ap (λ (b : Bool). record { number = n; phys = record { 0 = cond b k 0 } }) (sym (ne-eqb n 0 ne))
-      ∙ ap (λ (m : ℕ). record { number = m; phys = record { 0 = cond (eqb m 0) k 0 } })
+      let y : Region = coveringIn (a .0) (setAt (tableOf (storedTable t)) (find id (tableOf (storedTable t))) s) in
+      h ∙ none-told n (a .0) y ne ∙ ap (λ (m : ℕ). translatedAs m (a .0) y)
       (stage-hit (standingRules limits (storedConfig c) (storedTable t)) rs n 0 e ne)
 
   pub now-translated : n ≡ 0 → (r : Translated) → r ≡ translation (zonesIn t) id s (a .0)

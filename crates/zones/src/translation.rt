@@ -1,4 +1,4 @@
-// Translation: from a guest address of a zone, on one side, to the physical address.
+// Translation: from a guest address of a zone, on one side, to the physical address, and how far that goes on.
 use crate::config::Config;
 use crate::layout::CONFIG_WORDS;
 use crate::layout::TABLE_WORDS;
@@ -74,9 +74,11 @@ fn translate_near(t: &[u64; TABLE_WORDS], zone: u32, side: Side, a: Guest) -> Tr
         return refused(NOT_COVERED);
     }
     let r = region_at(t, z, side, i);
+    let offset = a.0 - r.v.0;
     Translated {
         number: 0,
-        phys: Phys(r.p.0 + (a.0 - r.v.0)),
+        phys: Phys(r.p.0 + offset),
+        remaining: r.size - offset,
     }
 }
 
@@ -94,10 +96,11 @@ fn find_covering(t: &[u64; TABLE_WORDS], z: usize, side: Side, a: Guest) -> usiz
 }
 
 fn refused(n: u32) -> Translated
-    ensures { λ r. ⌜ r ≡ record { number = n; phys = record { 0 = 0 } } ⌝ }
+    ensures { λ r. ⌜ r ≡ record { number = n; phys = record { 0 = 0 }; remaining = 0 } ⌝ }
 {
     Translated {
         number: n,
         phys: Phys(0),
+        remaining: 0,
     }
 }

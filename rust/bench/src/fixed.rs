@@ -367,8 +367,8 @@ impl Table {
         Ok(())
     }
 
-    /// Where a guest address of a zone comes out.
-    pub fn translate(&self, config: &Config, id: u32, side: Side, address: u64) -> Result<u64, u32> {
+    /// The physical address behind a guest address of a zone, and how many bytes of the covering region there are from it on.
+    pub fn translate(&self, config: &Config, id: u32, side: Side, address: u64) -> Result<[u64; 2], u32> {
         self.check(config)?;
         if id > MAX_ID {
             return Err(4);
@@ -376,7 +376,7 @@ impl Table {
         let position = self.position(id).ok_or(6u32)?;
         let set = self.zones[position].set(side);
         let covering = set.regions().iter().find(|region| region.v <= address && address - region.v < region.size);
-        covering.map(|region| region.p + (address - region.v)).ok_or(18)
+        covering.map(|region| [region.p + (address - region.v), region.size - (address - region.v)]).ok_or(18)
     }
 }
 
@@ -594,7 +594,7 @@ mod tests {
             Question::Translate => {
                 let side = if case.number(1) == 0 { Side::Cpu } else { Side::Iommu };
                 let found = state.table.translate(&state.config, case.number(0), side, case.numbers[2]);
-                with_place(found.map_err(|number| (number, 0)))
+                found.map_or_else(|number| (number, [0, 0]), |found| (0, found))
             }
             Question::Read => {
                 let read = Plan::read(&case.plan);

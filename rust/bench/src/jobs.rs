@@ -280,23 +280,22 @@ fn translate(name: &str, terminal: Terminal) -> Job {
     let Terminal { library, vectors, fixed } = terminal;
     Job {
         name: format!("translation, {name}"),
-        answer: (0, [region.p.0 + 5, 0]),
+        answer: (0, [region.p.0 + 5, region.size - 5]),
         library: Box::new(move || {
             let state = black_box(&*library);
-            let (number, physical) = raw::translate(&state.config, &state.table, id, 0, black_box(address));
-            (number, [physical, 0])
+            raw::translate_words(&state.config, &state.table, id, 0, black_box(address))
         }),
         vectors: Box::new(move || {
             let state = black_box(&*vectors);
             match state.table.translate(&state.config, id, Side::Cpu, Guest(black_box(address))) {
-                Ok(physical) => (0, [physical.0, 0]),
+                Ok(found) => (0, [found.physical.0, found.remaining]),
                 Err(refusal) => (refusal.number(), [0, 0]),
             }
         }),
         fixed: Box::new(move || {
             let state = black_box(&*fixed);
             match state.table.translate(&state.config, id, fixed::Side::Cpu, black_box(address)) {
-                Ok(physical) => (0, [physical, 0]),
+                Ok(found) => (0, found),
                 Err(number) => (number, [0, 0]),
             }
         }),

@@ -5,12 +5,13 @@ use ordinary::{ConfigWords, Record, TableWords, CONFIG_WORDS, TABLE_WORDS};
 
 use crate::case::{Answer, Case, Question};
 
-/// A case with its name and, where it is known without any implementation, the number that must be answered.
+/// A case with its name and, where they are known without any implementation, the number that must be answered and the two places with it.
 #[derive(Clone, Debug)]
 pub struct Named {
     pub name: String,
     pub case: Case,
     pub known: Option<u32>,
+    pub known_places: Option<[u64; 2]>,
 }
 
 impl Named {
@@ -19,15 +20,21 @@ impl Named {
         self.known = Some(number);
     }
 
+    /// The same with its places: of a translation the physical address and what remains.
+    pub fn known_with(&mut self, number: u32, places: [u64; 2]) {
+        self.known(number);
+        self.known_places = Some(places);
+    }
+
     /// The case and its answer on a line. Of a table afterwards it has the count of zones and a fingerprint of all words.
     pub fn line(&self) -> String {
         let Answer { number, places: [place, other], table, edition, .. } = self.case.ordinary();
         let left = format!("{} {}", table[TABLE_COUNT], fingerprint(&table));
         let answer = match self.case.question {
-            Question::Config => format!("{number} {place} {other}"),
+            Question::Config | Question::Translate => format!("{number} {place} {other}"),
             Question::Table => (if number == 1 { "yes" } else { "no" }).into(),
             Question::Request => format!("{number} {left}"),
-            Question::Translate | Question::Edition | Question::Read => format!("{number} {place}"),
+            Question::Edition | Question::Read => format!("{number} {place}"),
             Question::Apply => format!("{number} {place} {other} {edition} {left}"),
         };
         format!("{}: {answer}", self.name)
@@ -35,9 +42,10 @@ impl Named {
 
     /// What is wrong, if the ordinary implementation does not answer what was worked out by hand.
     pub fn fault(&self) -> Option<String> {
-        let number = self.case.ordinary().number;
-        let known = self.known.filter(|&known| known != number)?;
-        Some(format!("{}: {known} by hand, {number} by rust/ordinary", self.name))
+        let Answer { number, places, .. } = self.case.ordinary();
+        let (known, known_places) = (self.known.unwrap_or(number), self.known_places.unwrap_or(places));
+        ((known, known_places) != (number, places))
+            .then(|| format!("{}: {known} {known_places:?} by hand, {number} {places:?} by rust/ordinary", self.name))
     }
 }
 
@@ -97,7 +105,7 @@ impl Book {
     }
 
     fn ask(&mut self, name: String, case: Case) -> &mut Named {
-        self.named.push(Named { name, case, known: None });
+        self.named.push(Named { name, case, known: None, known_places: None });
         self.named.last_mut().expect("the case just written down")
     }
 }

@@ -161,7 +161,7 @@ impl Case {
             Question::Translate => {
                 let side = if self.number(1) == 0 { Side::Cpu } else { Side::Iommu };
                 match state.table.translate(&state.config, self.number(0), side, Guest(self.numbers[2])) {
-                    Ok(physical) => (0, [physical.0, 0]),
+                    Ok(found) => (0, [found.physical.0, found.remaining]),
                     Err(refusal) => (refusal.number(), [0, 0]),
                 }
             }

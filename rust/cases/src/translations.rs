@@ -1,4 +1,5 @@
-//! Cases for translation: the edges of regions on both sides, and what is refused before any region is looked at.
+//! Cases for translation: the edges of regions on both sides, with how far each goes on, and what is refused before any region is looked
+//! at.
 
 use std::collections::BTreeSet;
 
@@ -7,6 +8,7 @@ use ordinary::limits::{GUEST_REACH, MAX_ID, MAX_ZONES, PAGE, PHYS_REACH};
 use ordinary::{ConfigWords, Region, TableWords};
 
 use crate::book::Book;
+use crate::case::Case;
 use crate::drawn::{sound_config, sound_zones};
 use crate::given::{config_words, table_words, with_word, zone, G};
 use crate::rng::Rng;
@@ -17,11 +19,34 @@ const LOW: Region = Region::new(0x4000_0000, 0x8000_0000, 2 * PAGE);
 const NEXT: Region = Region::new(0x4000_2000, 0x7fff_0000, PAGE);
 /// Shares guest addresses with LOW and NEXT.
 const SHIFTED: Region = Region::new(0x4000_1000, 0x9000_0000, 4 * PAGE);
+/// Shares guest addresses with LOW and NEXT too, and goes on past the end of LOW.
+const WHOLE: Region = Region::new(0x4000_0000, 0xa000_0000, 3 * PAGE);
 /// Both its ends are where reach ends.
 const LAST: Region = Region::new(GUEST_REACH - PAGE, PHYS_REACH - PAGE, PAGE);
 
 /// The sides with their numbers.
 const SIDES: [(&str, u32); 2] = [("cpu", 0), ("iommu", 1)];
+
+/// Zone, side and address, then the number, the physical address and what remains, worked out by hand: the first byte of a region, the next,
+/// the last, and the end, at which a region that adjoins it goes on elsewhere; each side as far as its own region.
+const BY_HAND: [(u32, u32, u64, u32, [u64; 2]); 16] = [
+    (5, 0, 0x4000_0000, 0, [0x8000_0000, 0x2000]),
+    (5, 0, 0x4000_0001, 0, [0x8000_0001, 0x1fff]),
+    (5, 0, 0x4000_1fff, 0, [0x8000_1fff, 1]),
+    (5, 0, 0x4000_2000, 0, [0x7fff_0000, 0x1000]),
+    (5, 0, 0x4000_2001, 0, [0x7fff_0001, 0xfff]),
+    (5, 0, 0x4000_2fff, 0, [0x7fff_0fff, 1]),
+    (5, 0, 0x4000_3000, 18, [0, 0]),
+    (5, 1, 0x4000_0000, 0, [0xa000_0000, 0x3000]),
+    (5, 1, 0x4000_0001, 0, [0xa000_0001, 0x2fff]),
+    (5, 1, 0x4000_1fff, 0, [0xa000_1fff, 0x1001]),
+    (5, 1, 0x4000_2000, 0, [0xa000_2000, 0x1000]),
+    (5, 1, 0x4000_2fff, 0, [0xa000_2fff, 1]),
+    (5, 1, 0x4000_3000, 18, [0, 0]),
+    (5, 0, GUEST_REACH - 1, 0, [PHYS_REACH - 1, 1]),
+    (5, 0, GUEST_REACH, 18, [0, 0]),
+    (0, 1, 0, 0, [0x7000_0000, PAGE]),
+];
 
 pub fn add(book: &mut Book, rng: &mut Rng) {
     edges(book);
@@ -30,11 +55,11 @@ pub fn add(book: &mut Book, rng: &mut Rng) {
 }
 
 fn config() -> ConfigWords {
-    config_words(&[ZEROTH, LOW, G, NEXT, SHIFTED, LAST], 2)
+    config_words(&[ZEROTH, LOW, G, NEXT, SHIFTED, LAST, WHOLE], 2)
 }
 
 fn table() -> TableWords {
-    table_words(&[zone(5, &[LOW, NEXT, LAST], &[LOW, G]), zone(0, &[], &[G, ZEROTH]), zone(MAX_ID, &[SHIFTED], &[SHIFTED])])
+    table_words(&[zone(5, &[LOW, NEXT, LAST], &[WHOLE, G]), zone(0, &[], &[G, ZEROTH]), zone(MAX_ID, &[SHIFTED], &[SHIFTED])])
 }
 
 /// The first and the last address, one before and one after, and one inside.
@@ -45,7 +70,7 @@ fn edges_of(region: Region) -> Vec<u64> {
 
 fn edges(book: &mut Book) {
     book.change_to(config(), table());
-    for (id, regions) in [(5, &[LOW, NEXT, LAST, G][..]), (0, &[G, ZEROTH]), (MAX_ID, &[SHIFTED])] {
+    for (id, regions) in [(5, &[LOW, NEXT, LAST, WHOLE, G][..]), (0, &[G, ZEROTH]), (MAX_ID, &[SHIFTED])] {
         let mut addresses = BTreeSet::from([0, LOW.p.0, PHYS_REACH, 1 << 63, PAGE.wrapping_neg(), u64::MAX]);
         addresses.extend(regions.iter().flat_map(|&region| edges_of(region)));
         for address in addresses {
@@ -57,10 +82,14 @@ fn edges(book: &mut Book) {
     for side in [2, 0x80, 255] {
         book.ask_translation(format!("side {side}"), 5, side, G.v.0);
     }
+    for (id, side, address, number, places) in BY_HAND {
+        let edge = Case::translate(config(), table(), id, side, address);
+        book.named.iter_mut().find(|named| named.case == edge).expect("an edge of a region").known_with(number, places);
+    }
 }
 
 fn refused_early(book: &mut Book) {
-    let bad_config = with_word(config(), CONFIG_GIC, 6);
+    let bad_config = with_word(config(), CONFIG_GIC, 7);
     let bad_table = with_word(table(), zone_id(0), 256);
     let left = with_word(table(), zone_id(MAX_ZONES - 1), 1);
     for (name, config, table) in [

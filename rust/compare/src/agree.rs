@@ -76,10 +76,7 @@ fn ask_library(case: &Case, state: &mut Lent) -> (u32, [u64; 2]) {
             let Record { kind, zone, region } = case.record();
             (raw::request(&state.config, &mut state.table, kind, zone, [region.v.0, region.p.0, region.size]), [0, 0])
         }
-        Question::Translate => {
-            let (number, physical) = raw::translate(&state.config, &state.table, case.number(0), case.number(1), case.numbers[2]);
-            (number, [physical, 0])
-        }
+        Question::Translate => raw::translate_words(&state.config, &state.table, case.number(0), case.number(1), case.numbers[2]),
         Question::Edition => {
             let (number, answer) = raw::edition(&case.plan);
             (number, [answer, 0])
@@ -112,11 +109,9 @@ pub fn agreed(case: &Case) -> Result<Answer, Trouble> {
 /// The answer of both to a named case, which is the one worked out by hand where there is one.
 pub fn agreed_by_name(named: &Named) -> Result<Answer, Trouble> {
     let answer = agreed(&named.case).map_err(|trouble| trouble.named(&named.name))?;
-    match named.known {
-        Some(known) if known != answer.number => {
-            Err(Trouble::new(format!("by hand the answer is {known}"), named.case.clone()).named(&named.name))
-        }
-        _ => Ok(answer),
+    match named.fault() {
+        Some(fault) => Err(Trouble::new(fault, named.case.clone())),
+        None => Ok(answer),
     }
 }
 

@@ -356,12 +356,13 @@ impl World {
         let (config, table) = self.base(rng);
         let zone = zone_id(rng, &self.state.table);
         let region = held(rng, &self.state.config, &self.state.table, zone);
-        let address = match rng.below(6) {
+        let address = match rng.below(7) {
             0 => region.v.0,
-            1 => region.v.0.wrapping_sub(1),
-            2 => region.v.0 + region.size - 1,
-            3 => region.v.0 + region.size,
-            4 => region.v.0 + rng.word() % region.size,
+            1 => region.v.0 + 1,
+            2 => region.v.0.wrapping_sub(1),
+            3 => region.v.0 + region.size - 1,
+            4 => region.v.0 + region.size,
+            5 => region.v.0 + rng.word() % region.size,
             _ => number(rng),
         };
         Case::translate(config, table, zone, *rng.pick(&[0, 0, 1, 1, 2, 256, u32::MAX]), address)

@@ -21,7 +21,7 @@ pub use config::{Config, ConfigFault};
 pub use plan::{base_edition, encode, Plan, ReadFault, Requests};
 pub use region::{Guest, Phys, Region};
 pub use request::{Action, Record, Refusal};
-pub use table::{Side, Table, Zone};
+pub use table::{Side, Table, Translated, Zone};
 pub use terminal::{apply_alone, PlanRefusal, State};
 pub use words::{ConfigWords, TableWords, CONFIG_WORDS, TABLE_WORDS};
 

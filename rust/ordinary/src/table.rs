@@ -23,6 +23,15 @@ pub struct Zone {
     pub iommu: Vec<Region>,
 }
 
+/// Where a guest address comes out.
+#[derive(Clone, Copy, Debug, PartialEq, Eq)]
+pub struct Translated {
+    /// The physical address.
+    pub physical: Phys,
+    /// How many bytes of the covering region there are from the address on, itself among them.
+    pub remaining: u64,
+}
+
 /// The zones, in their order.
 #[derive(Clone, Debug, Default, PartialEq, Eq)]
 pub struct Table {
@@ -95,8 +104,8 @@ impl Table {
         self.zones.iter().position(|zone| zone.id == id)
     }
 
-    /// Where a guest address of a zone comes out.
-    pub fn translate(&self, config: &Config, zone: u32, side: Side, address: Guest) -> Result<Phys, Refusal> {
+    /// Where a guest address of a zone comes out, and how far that goes on.
+    pub fn translate(&self, config: &Config, zone: u32, side: Side, address: Guest) -> Result<Translated, Refusal> {
         self.check(config)?;
         if zone > MAX_ID {
             return Err(Refusal::ZoneId);
@@ -105,9 +114,14 @@ impl Table {
         self.zones[position]
             .set(side)
             .iter()
-            .find_map(|region| region.offset_of(address).map(|offset| Phys(region.p.0 + offset)))
+            .find_map(|region| region.offset_of(address).map(|offset| goes_on(region, offset)))
             .ok_or(Refusal::NotCovered)
     }
+}
+
+/// What is answered for the address that is so far into the region.
+fn goes_on(region: &Region, offset: u64) -> Translated {
+    Translated { physical: Phys(region.p.0 + offset), remaining: region.size - offset }
 }
 
 fn is_sound_set(config: &Config, set: &[Region]) -> bool {

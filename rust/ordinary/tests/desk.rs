@@ -1,7 +1,9 @@
 //! The desk examples of document 01 and its whole plan.
 
 use ordinary::limits::{GUEST_REACH, MAX_IN_SET, MAX_REGIONS, MAX_REQUESTS, MAX_ZONES, PAGE, PHYS_REACH};
-use ordinary::{encode, Config, Guest, Phys, Plan, PlanRefusal, ReadFault, Record, Refusal, Region, Side, State, Table, Zone};
+use ordinary::{
+    encode, Config, Guest, Phys, Plan, PlanRefusal, ReadFault, Record, Refusal, Region, Side, State, Table, Translated, Zone,
+};
 
 const A: Region = Region::new(0x4000_0000, 0x8000_0000, 0x20_0000);
 const B: Region = Region::new(0x4000_0000, 0x8020_0000, 0x20_0000);
@@ -132,7 +134,7 @@ fn ends_exactly_at_both_reaches() {
     let mut desk = Desk::with(&[last, G], 1);
     assert_eq!(desk.ask(CPU_INSERT, 5, last), 0);
     let answer = desk.table.translate(&desk.config, 5, Side::Cpu, Guest(GUEST_REACH - 1));
-    assert_eq!(answer, Ok(Phys(PHYS_REACH - 1)));
+    assert_eq!(answer, Ok(Translated { physical: Phys(PHYS_REACH - 1), remaining: 1 }));
 }
 
 #[test]
@@ -203,8 +205,10 @@ fn translation() {
     let mut desk = Desk::new();
     assert_eq!(desk.ask(CPU_INSERT, 5, A), 0);
     let ask = |zone, side, address| desk.table.translate(&desk.config, zone, side, Guest(address));
-    assert_eq!(ask(5, Side::Cpu, 0x4000_0000), Ok(Phys(0x8000_0000)));
-    assert_eq!(ask(5, Side::Cpu, 0x401f_ffff), Ok(Phys(0x801f_ffff)));
+    let goes_on = |physical, remaining| Ok(Translated { physical: Phys(physical), remaining });
+    assert_eq!(ask(5, Side::Cpu, 0x4000_0000), goes_on(0x8000_0000, 0x20_0000));
+    assert_eq!(ask(5, Side::Cpu, 0x4000_0001), goes_on(0x8000_0001, 0x1f_ffff));
+    assert_eq!(ask(5, Side::Cpu, 0x401f_ffff), goes_on(0x801f_ffff, 1));
     assert_eq!(ask(5, Side::Cpu, 0x4020_0000), Err(Refusal::NotCovered));
     assert_eq!(ask(5, Side::Cpu, 0x3fff_ffff), Err(Refusal::NotCovered));
     assert_eq!(ask(5, Side::Iommu, 0x4000_0000), Err(Refusal::NotCovered));

@@ -15,13 +15,13 @@ mod library {
         pub fn peatmitten_check_table(config: *const Config, table: *const Table) -> u32;
         pub fn peatmitten_request(config: *const Config, table: *mut Table, kind: u32, zone: u32, v: u64, p: u64, size: u64)
             -> u32;
-        pub fn peatmitten_translate(
+        pub fn peatmitten_translate_words(
             config: *const Config,
             table: *const Table,
             zone: u32,
             side: u32,
             address: u64,
-            physical: *mut [u64; 1],
+            stretch: *mut [u64; 2],
         ) -> u32;
         pub fn peatmitten_edition(plan: *const u8, length: usize, answer: *mut [u64; 1]) -> u32;
         pub fn peatmitten_read(plan: *const u8, length: usize, place: *mut [u64; 1]) -> u32;
@@ -69,11 +69,12 @@ pub fn request(config: &Config, table: &mut Table, kind: u32, zone: u32, [v, p, 
     unsafe { library::peatmitten_request(config, table, kind, zone, v, p, size) }
 }
 
-/// The number of a translation's refusal, or 0, and the physical address. Side 0 is the CPU, any other the IOMMU.
-pub fn translate(config: &Config, table: &Table, zone: u32, side: u32, address: u64) -> (u32, u64) {
-    let mut physical = [UNWRITTEN];
-    let number = unsafe { library::peatmitten_translate(config, table, zone, side, address, &mut physical) };
-    (number, physical[0])
+/// The number of a translation's refusal, or 0, and the physical address with how many bytes of the covering region there are from it
+/// on. Side 0 is the CPU, any other the IOMMU.
+pub fn translate_words(config: &Config, table: &Table, zone: u32, side: u32, address: u64) -> (u32, [u64; 2]) {
+    let mut stretch = [UNWRITTEN; 2];
+    let number = unsafe { library::peatmitten_translate_words(config, table, zone, side, address, &mut stretch) };
+    (number, stretch)
 }
 
 /// The number of the first fault of a plan's marks, or 0, and its offset, or the base edition.

@@ -6,6 +6,16 @@ pub struct Guest(pub u64);
 #[derive(Clone, Copy, Debug, PartialEq, Eq, PartialOrd, Ord, Hash)]
 pub struct Physical(pub u64);
 
+/// A number of bytes. It is a type of its own, so that none is taken for an address:
+///
+/// ```compile_fail,E0308
+/// use peatmitten::{ByteCount, Physical};
+///
+/// let remaining: ByteCount = Physical(0x8000_0000);
+/// ```
+#[derive(Clone, Copy, Debug, PartialEq, Eq, PartialOrd, Ord, Hash)]
+pub struct ByteCount(pub u64);
+
 /// A stretch of guest addresses and the stretch of physical addresses behind it.
 #[derive(Clone, Copy, Debug, PartialEq, Eq, Hash)]
 pub struct Region {

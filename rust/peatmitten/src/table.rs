@@ -4,7 +4,7 @@ use crate::answers::Refusal;
 use crate::config::Config;
 use crate::limits::{MOST_IN_SET, MOST_ZONES};
 use crate::raw;
-use crate::region::{Guest, Physical, Region};
+use crate::region::{ByteCount, Guest, Physical, Region};
 use crate::request::{Request, Side};
 
 const SET_WORDS: usize = 1 + MOST_IN_SET * Region::WORDS;
@@ -19,7 +19,7 @@ pub const TABLE_WORDS: usize = ZONES + MOST_ZONES * ZONE_WORDS;
 /// IOMMU set, a set being a count and [`MOST_IN_SET`] regions. It may hold any numbers; [`Table::is_sound`] says whether it is sound.
 ///
 /// ```
-/// use peatmitten::{Config, Guest, Physical, Refusal, Region, Request, Side, Table};
+/// use peatmitten::{ByteCount, Config, Guest, Physical, Refusal, Region, Request, Side, Table};
 ///
 /// let memory = Region::new(0x4000_0000, 0x8000_0000, 0x20_0000);
 /// let gic = Region::new(0x0800_0000, 0x0800_0000, 0x1_0000);
@@ -31,13 +31,26 @@ pub const TABLE_WORDS: usize = ZONES + MOST_ZONES * ZONE_WORDS;
 /// assert_eq!(table.request(&config, Request::insert(5, Side::Cpu, gic)), Err(Refusal::OverGic));
 ///
 /// let address = Guest(0x4000_1234);
-/// assert_eq!(table.translate(&config, 5, Side::Cpu, address), Ok(Physical(0x8000_1234)));
+/// let translated = table.translate(&config, 5, Side::Cpu, address).expect("the region covers it");
+/// assert_eq!(translated.physical, Physical(0x8000_1234));
+/// assert_eq!(translated.remaining, ByteCount(0x20_0000 - 0x1234));
 /// assert_eq!(table.translate(&config, 5, Side::Iommu, address), Err(Refusal::NotCovered));
 /// ```
 #[derive(Clone, PartialEq, Eq)]
 #[repr(transparent)]
 pub struct Table {
     words: [u64; TABLE_WORDS],
+}
+
+/// Where a guest address of a zone comes out, and how far that goes on.
+#[derive(Clone, Copy, Debug, PartialEq, Eq, Hash)]
+pub struct Translated {
+    /// The physical address.
+    pub physical: Physical,
+    /// How many bytes of the covering region there are from the address on, itself counted: at least 1. For every `i` below it, the
+    /// guest address plus `i` comes out at the physical address plus `i`, and no such sum wraps. At its end another region may go on,
+    /// elsewhere in physical addresses: who needs more asks again there, as `examples/copy_stretch.rs` does.
+    pub remaining: ByteCount,
 }
 
 /// A zone of a table, to look at.
@@ -73,10 +86,10 @@ impl Table {
         Refusal::from_library(number)
     }
 
-    /// Where a guest address of a zone comes out.
-    pub fn translate(&self, config: &Config, zone: u32, side: Side, address: Guest) -> Result<Physical, Refusal> {
-        let (number, physical) = raw::translate(config, self, zone, side.number(), address.0);
-        Refusal::from_library(number).map(|()| Physical(physical))
+    /// Where a guest address of a zone comes out, and how far that goes on.
+    pub fn translate(&self, config: &Config, zone: u32, side: Side, address: Guest) -> Result<Translated, Refusal> {
+        let (number, [physical, remaining]) = raw::translate_words(config, self, zone, side.number(), address.0);
+        Refusal::from_library(number).map(|()| Translated { physical: Physical(physical), remaining: ByteCount(remaining) })
     }
 
     /// The zones in order, at most [`MOST_ZONES`].

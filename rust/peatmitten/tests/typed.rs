@@ -3,8 +3,8 @@
 use std::mem::{offset_of, size_of};
 
 use peatmitten::{
-    base_edition, limits, raw, read_plan, Config, ConfigFault, Guest, Physical, PlanRefusal, ReadFault, Refusal, Region, Request,
-    Side, State, Table, CONFIG_WORDS, STATE_BYTES, TABLE_WORDS,
+    base_edition, limits, raw, read_plan, ByteCount, Config, ConfigFault, Guest, Physical, PlanRefusal, ReadFault, Refusal, Region,
+    Request, Side, State, Table, Translated, CONFIG_WORDS, STATE_BYTES, TABLE_WORDS,
 };
 
 const A: Region = Region::new(0x4000_0000, 0x8000_0000, 0x20_0000);
@@ -67,11 +67,16 @@ fn translation() {
     let (config, mut table) = desk();
     assert_eq!(table.request(&config, Request::insert(5, Side::Iommu, A)), Ok(()));
     let ask = |zone, side, address| table.translate(&config, zone, side, Guest(address));
-    assert_eq!(ask(5, Side::Iommu, 0x401f_ffff), Ok(Physical(0x801f_ffff)));
+    let goes_on = |physical, remaining| Ok(Translated { physical: Physical(physical), remaining: ByteCount(remaining) });
+    assert_eq!(ask(5, Side::Iommu, 0x4000_0000), goes_on(0x8000_0000, 0x20_0000));
+    assert_eq!(ask(5, Side::Iommu, 0x4000_0001), goes_on(0x8000_0001, 0x1f_ffff));
+    assert_eq!(ask(5, Side::Iommu, 0x401f_ffff), goes_on(0x801f_ffff, 1));
+    assert_eq!(ask(5, Side::Iommu, 0x4020_0000), Err(Refusal::NotCovered));
     assert_eq!(ask(5, Side::Cpu, 0x401f_ffff), Err(Refusal::NotCovered));
     assert_eq!(ask(5, Side::Iommu, u64::MAX), Err(Refusal::NotCovered));
     assert_eq!(ask(7, Side::Iommu, 0), Err(Refusal::NoZone));
-    assert_eq!(raw::translate(&config, &table, 5, u32::MAX, 0x4000_0000), (0, 0x8000_0000));
+    assert_eq!(raw::translate_words(&config, &table, 5, u32::MAX, 0x4000_0000), (0, [0x8000_0000, 0x20_0000]));
+    assert_eq!(raw::translate_words(&config, &table, 5, u32::MAX, 0x4020_0000), (18, [0, 0]));
 }
 
 #[test]

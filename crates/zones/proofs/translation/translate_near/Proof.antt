@@ -1,9 +1,9 @@
--- Each return is one rule: 4, 6, 18, then the covering region; it is in reach, so the sum does not wrap.
+-- Each return is one rule: 4, 6, 18, then the covering region; it is in reach, so neither sum nor difference wraps.
 use borrow.Author.Needs.{needs}
 use Rattle.zones.proofs.Checking.{zone-within, side-within}
 use Rattle.zones.proofs.Deciding.{found-at}
 use Rattle.zones.proofs.Translating.{high-id, no-zone, record-within, none-covers, from-start, no-wrap}
-use Rattle.zones.proofs.Translating.{one-covers}
+use Rattle.zones.proofs.Translating.{before-end, one-covers}
 use Rattle.zones.proofs.translation.translate_near.Statement.{statement}
 use Rattle.zones.proofs.translation.translate_near.Tie as tie
 
@@ -40,11 +40,14 @@ returns-3 c = search (none-covers, needs)
 region-at-requires : tie.Need-region-at-requires
 region-at-requires c κs = search (zone-within, found-at, record-within, needs)
 
-sub-t11 : tie.Need-sub-t11
-sub-t11 c = search (from-start, needs)
+sub-offset : tie.Need-sub-offset
+sub-offset c = search (from-start, needs)
 
 add-t12 : tie.Need-add-t12
 add-t12 c = search (no-wrap, needs)
+
+sub-t14 : tie.Need-sub-t14
+sub-t14 c = search (before-end, needs)
 
 returns-4 : tie.Need-returns-4
 returns-4 c = search (one-covers, needs)
@@ -64,6 +67,7 @@ translate-near-spec =
     refused-requires-3
     returns-3
     region-at-requires
-    sub-t11
+    sub-offset
     add-t12
+    sub-t14
     returns-4)

@@ -221,7 +221,7 @@ module _ {A : Type 0} (F : Format A) (P : A → Type 0) (f : Lawful F P) where
 
 -- ---- seen as another type
 module _ {A B : Type 0} (F : Format A) (P : A → Type 0) (f : Lawful F P) (to : A → B) (from : B → A)
-    (there : (y : B) → to (from y) ≡ y) (here : (x : A) → from (to x) ≡ x) where
+    (there : (y : B) → to (from y) ≡ y) (here : (x : A) → P x → from (to x) ≡ x) where
   back-as : (y : B) (t : List ℕ) → P (from y) → readAs F to from (F .write (from y) ++ t) ≡ got y t
   unfolding readAs then
   back-as y t h = rw (f .back (from y) t h, there y)
@@ -234,7 +234,7 @@ module _ {A B : Type 0} (F : Format A) (P : A → Type 0) (f : Lawful F P) (to :
       let m = f .tight b x s h ex in
       let q : to x ≡ y = cc in
       let es : s ≡ t = cc in
-      let w : x ≡ from y = sym (here x) ∙ ap from q in
+      let w : x ≡ from y = sym (here x (m .1)) ∙ ap from q in
       subst (λ (z : A). (b ≡ F .write z ++ t) × P z) w (rw es at (m .0), m .1)
 
   part-as : (b : List ℕ) → Part (left (readAs F to from b)) b
@@ -248,6 +248,16 @@ module _ {A B : Type 0} (F : Format A) (P : A → Type 0) (f : Lawful F P) (to :
 
   pub lawful-as : Lawful (as-type F to from) (λ y. P (from y))
   lawful-as = record { back = back-as; tight = tight-as; part = part-as; refuses = refuses-as }
+
+-- ---- what fits, said in another way
+pub lawful-fits : {A : Type 0} (F : Format A) (P Q : A → Type 0) → Lawful F P → ((x : A) → P x → Q x)
+    → ((x : A) → Q x → P x) → Lawful F Q
+lawful-fits F P Q f to from = record {
+  back = λ x t h. f .back x t (from x h);
+  tight = λ b x t h e. (let m = f .tight b x t h e in (m .0, to x (m .1)));
+  part = f .part;
+  refuses = f .refuses;
+}
 
 -- ---- n of one kind
 module _ {A : Type 0} (F : Format A) (P : A → Type 0) (f : Lawful F P) where

@@ -36,7 +36,7 @@ module _ {A : Type 0} (w lo hi : ℕ) (F : ℕ → Format A) (count : A → ℕ)
       )
 
 module _ {A : Type 0} (F : Format A) (f : A → ℕ) (sf : Sized F f) where
-  sized-many : (xs : List A) → length (writeMany F xs) ≡ total f xs
+  pub sized-many : (xs : List A) → length (writeMany F xs) ≡ total f xs
   unfolding writeMany total
   sized-many [] = refl
   sized-many (x ∷ xs) = omega (arith, length-append (F .write x) (writeMany F xs), sf x, sized-many xs)

@@ -14,7 +14,7 @@ use Rattle.lists.specs.Places.{places, tab}
 use Rattle.lists.proofs.Places.{tab-cons}
 use Rattle.lists.proofs.Tests.{holds-or-fails}
 use Rattle.formats.specs.Formats.{got, bad, when, then, Format, readNumber, number, readBoth, both, startAt}
-use Rattle.formats.specs.Formats.{field, readAs, as-type, readMany}
+use Rattle.formats.specs.Formats.{field, readAs, as-type, readMany, many}
 
 -- k bytes, and the value that they spell
 pub record Wide {A : Type 0} (F : Format A) (k : ℕ) (value : List ℕ → A) : Type 0 where
@@ -84,6 +84,44 @@ wide-got {A} F k f w b x t e =
         let z : _≡_ {A = ℕ} 0 1 = cc in
         omega arith
 
+-- ---- so many, one after another
+module _ {A : Type 0} (F : Format A) (k : ℕ) (f : List ℕ → A) (w : Wide F k f) where
+  many-there : (n : ℕ) (b : List ℕ) → n * k ≤ length b
+      → readMany F n b ≡ got (tab n (λ i. f (drop (i * k) b))) (drop (n * k) b)
+  unfolding readMany then tab places
+  many-there zero b h = ap (λ (j : ℕ). got [] (drop j b)) (sym (zero-mul k))
+  many-there (suc n) b h =
+      let step : (i : ℕ) → drop (i * k) (drop k b) ≡ drop (suc i * k) b =
+      λ i. (let e : k + i * k ≡ suc i * k = omega (arith, suc-mul i k) in
+      drop-drop (i * k) k b ∙ ap (λ (j : ℕ). drop j b) e) in
+      let none : b ≡ drop (0 * k) b = ap (λ (j : ℕ). drop j b) (sym (zero-mul k)) in
+      rw (
+        w .there b (omega (arith, suc-mul n k)),
+        many-there n (drop k b) (omega (arith, suc-mul n k, length-drop k b)),
+        step n,
+      )
+      (λ j. got (f (none j) ∷ tab n (λ i. f (step i j))) (drop (suc n * k) b))
+      ∙ ap (λ (l : List A). got l (drop (suc n * k) b)) (sym (tab-cons n (λ i. f (drop (i * k) b))))
+
+  first-cut : (n : ℕ) (b : List ℕ) → length b < k → (t : List ℕ) × (readMany F (suc n) b ≡ bad 20 t)
+  unfolding readMany then
+  first-cut n b h = let (t, e) = w .short b h in (t, rw e)
+
+  later-cut : (n : ℕ) (b : List ℕ) → k ≤ length b → (t : List ℕ) × (readMany F n (drop k b) ≡ bad 20 t)
+      → (t : List ℕ) × (readMany F (suc n) b ≡ bad 20 t)
+  unfolding readMany then
+  later-cut n b h (t, e) = (t, rw (w .there b h, e))
+
+  many-short : (n : ℕ) (b : List ℕ) → length b < n * k → (t : List ℕ) × (readMany F n b ≡ bad 20 t)
+  many-short zero b h = absurd (omega (arith, zero-mul k))
+  many-short (suc n) b h =
+      ⊎-elim (λ e. let l : k ≤ length b = leb-true k (length b) e in
+      later-cut n b l (many-short n (drop k b) (omega (arith, suc-mul n k, length-drop k b))))
+      (λ e. first-cut n b (leb-false k (length b) e)) (holds-or-fails (leb k (length b)))
+
+  pub wide-many : (n : ℕ) → Wide (many F n) (n * k) (λ b. tab n (λ i. f (drop (i * k) b)))
+  wide-many n = record { there = many-there n; short = many-short n }
+
 -- ---- as one field: refused at its start
 module _ {A : Type 0} (F : Format A) (k : ℕ) (f : List ℕ → A) (w : Wide F k f) where
   pub field-there : (b : List ℕ) → k ≤ length b → field F .read b ≡ got (f b) (drop k b)
@@ -94,23 +132,13 @@ module _ {A : Type 0} (F : Format A) (k : ℕ) (f : List ℕ → A) (w : Wide F 
   unfolding startAt
   field-short b h = let (t, e) = w .short b h in rw e
 
+  pub wide-field : Wide (field F) k f
+  wide-field = record { there = field-there; short = λ b h. (b, field-short b h) }
+
   -- so many fields
   pub fields-there : (n : ℕ) (b : List ℕ) → n * k ≤ length b
       → readMany (field F) n b ≡ got (tab n (λ i. f (drop (i * k) b))) (drop (n * k) b)
-  unfolding readMany then tab places
-  fields-there zero b h = ap (λ (j : ℕ). got [] (drop j b)) (sym (zero-mul k))
-  fields-there (suc n) b h =
-      let step : (i : ℕ) → drop (i * k) (drop k b) ≡ drop (suc i * k) b =
-      λ i. (let e : k + i * k ≡ suc i * k = omega (arith, suc-mul i k) in
-      drop-drop (i * k) k b ∙ ap (λ (j : ℕ). drop j b) e) in
-      let none : b ≡ drop (0 * k) b = ap (λ (j : ℕ). drop j b) (sym (zero-mul k)) in
-      rw (
-        field-there b (omega (arith, suc-mul n k)),
-        fields-there n (drop k b) (omega (arith, suc-mul n k, length-drop k b)),
-        step n,
-      )
-      (λ j. got (f (none j) ∷ tab n (λ i. f (step i j))) (drop (suc n * k) b))
-      ∙ ap (λ (l : List A). got l (drop (suc n * k) b)) (sym (tab-cons n (λ i. f (drop (i * k) b))))
+  fields-there n b h = wide-many (field F) k f wide-field n .there b h
 
   -- m of them are there and the next is cut
   pub fields-cut : (n m : ℕ) (b : List ℕ) → m < n → m * k ≤ length b → length b < suc m * k

@@ -224,6 +224,14 @@ module _ {A : Type 0} where
       ext-getD d (tab (length xs) f) xs (length-tab (length xs) f)
       (λ i k. let l : i < length xs = omega (arith, length-tab (length xs) f) in getD-tab (length xs) f i d l ∙ h i l)
 
+  -- two functions that give the same
+  pub tab-same : (n : ℕ) (f g : ℕ → A) → ((i : ℕ) → i < n → f i ≡ g i) → tab n f ≡ tab n g
+  tab-same n f g h =
+      ext-getD (f 0) (tab n f) (tab n g) (length-tab n f ∙ sym (length-tab n g))
+      (λ i k.
+      let l : i < n = omega (arith, length-tab n f) in
+      getD-tab n f i (f 0) l ∙ h i l ∙ sym (getD-tab n g i (f 0) l))
+
   -- every element of such a list, and every two
   pub all-tab : (p : A → Bool) (n : ℕ) (f : ℕ → A) → all p (tab n f) ≡ all (λ i. p (f i)) (places 0 n)
   unfolding tab

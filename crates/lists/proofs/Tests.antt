@@ -4,10 +4,11 @@ use native.Mathlib.Omega.{arith}
 use mathlib.Core.Bool.{Bool, true, false, not, _&&_, _||_, true≢false}
 use mathlib.Core.List.{List, [], _∷_}
 use mathlib.Core.Logic.{_⊎_, inl, inr}
-use mathlib.Core.Path.{_≡_, refl, sym, ap, _∙_}
+use mathlib.Core.Path.{_≡_, refl, sym, ap, ap₂, _∙_}
 use borrow.Author.Tests.{ltb-true, leb-true, not-true, not-false, lt-ltb, le-ltb, le-leb, lt-leb, eq-eqb, ne-eqb}
 use lib.Dec.{ltb, leb}
-use Rattle.lists.specs.Tests.{allOf}
+use lib.ListN.{length}
+use Rattle.lists.specs.Tests.{allOf, eachTwo}
 
 -- ---- two tests
 pub both-true : (a b : Bool) → (a && b) ≡ true → (a ≡ true) × (b ≡ true)
@@ -87,6 +88,23 @@ pub whole : (ts : List Bool) → Holds ts → allOf ts ≡ true
 unfolding allOf
 whole [] h = refl
 whole (t ∷ ts) h = true-both t (allOf ts) (h .0) (whole ts (h .1))
+
+-- each two elements at one place pass: the lists are one; and a list passes with itself
+module _ {A : Type 0} (t : A → A → Bool) where
+  pub two-same : ((x y : A) → t x y ≡ true → x ≡ y) → (xs ys : List A) → length xs ≡ length ys
+      → allOf (eachTwo t xs ys) ≡ true → xs ≡ ys
+  unfolding allOf eachTwo
+  two-same f [] [] l e = refl
+  two-same f [] (y ∷ ys) l e = absurd (omega arith)
+  two-same f (x ∷ xs) [] l e = absurd (omega arith)
+  two-same f (x ∷ xs) (y ∷ ys) l e =
+      let b = both-true (t x y) (allOf (eachTwo t xs ys)) e in
+      ap₂ (λ (a : A) (r : List A). a ∷ r) (f x y (b .0)) (two-same f xs ys (omega arith) (b .1))
+
+  pub two-refl : ((x : A) → t x x ≡ true) → (xs : List A) → allOf (eachTwo t xs xs) ≡ true
+  unfolding allOf eachTwo
+  two-refl f [] = refl
+  two-refl f (x ∷ xs) = true-both (t x x) (allOf (eachTwo t xs xs)) (f x) (two-refl f xs)
 
 -- ---- what each return of a chain of tests answers
 -- the first test fails; it holds, and the answer is that of the others; the last test is the answer

@@ -293,6 +293,17 @@ module _ {A : Type 0} where
   unfolding part
   part-all n l e = take-all n l (omega arith)
 
+  pub part-tab : (k n : ℕ) (l : List A) (d : A) → k + n ≤ length l → part k n l ≡ tab n (λ i. getD l (k + i) d)
+  unfolding tab places
+  part-tab k zero l d h = part-none k l
+  part-tab k (suc n) l d h =
+      let z : k ≡ k + 0 = omega arith in
+      let step : (i : ℕ) → k + 1 + i ≡ k + suc i = λ i. omega arith in
+      part-cons k n l d (omega arith)
+      ∙ ap₂ (λ (x : A) (t : List A). x ∷ t) (ap (λ (j : ℕ). getD l j d) z)
+      (part-tab (k + 1) n l d (omega arith) ∙ (λ j. tab n (λ i. getD l (step i j) d)))
+      ∙ sym (tab-cons n (λ i. getD l (k + i) d))
+
 -- ---- zeros
 pub zeros-part : (w : List ℕ) (k n : ℕ) → all (isZeroAt w) (places k n) ≡ true → k + n ≤ length w
     → part k n w ≡ replicate n 0

@@ -24,7 +24,8 @@ use Rattle.rules.specs.Limits.{limits, Limits, Sayable}
 use Rattle.rules.specs.Plan.{short, regionField, askedField, marksSection, regionsSection, setFormat, zoneTo, zoneFrom, zoneFormat, zonesSection, requestsSection, planTo, planFrom, planFormat, readPlan, encode, Short, RegionFits, AskedFits, MarksFit, SetFits, ZoneFits, PlanFits, Asked, Plan}
 use Rattle.rules.specs.Requests.{after, standing}
 use Rattle.rules.specs.Regions.{noRegion}
-use Rattle.rules.specs.Sizes.{shortSize, marksSize, regionSize, regionsSize, zoneSize, planSize, zoneWith, planWith}
+use Rattle.rules.specs.Fields.{shortSize, regionSize}
+use Rattle.rules.specs.Sizes.{marksSize, regionsSize, zoneSize, planSize, zoneWith, planWith}
 use Rattle.rules.specs.Tables.{Zone}
 use Rattle.rules.specs.declared.Region.{Region}
 use Rattle.rules.proofs.Computing.{listParts, checkParts, tableParts, requestParts}

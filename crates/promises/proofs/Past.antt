@@ -10,6 +10,7 @@ use Rattle.rules.specs.Plan.{readPlan, AskedFits, Plan}
 use Rattle.rules.specs.Planner.{MayAsk}
 use Rattle.rules.specs.Story.{without, with5, adds, removes}
 use Rattle.rules.proofs.Computing.{readingParts, writingParts, applyingParts}
+use Rattle.rules.proofs.Plan.{none-fits}
 use Rattle.promises.specs.Editions.{tableAt, happens}
 use Rattle.promises.specs.Past.{numbers, PastShown}
 
@@ -27,7 +28,7 @@ adds-fit = record {
   said = omega arith;
   least = omega arith;
   most = omega arith;
-  fits = (refl, ((omega arith, (omega arith, (omega arith, (omega arith, omega arith)))), tt));
+  fits = (refl, ((omega arith, (omega arith, none-fits)), tt));
 }
 
 removes-fit : ListFits 4 0 mostRequests AskedFits removes
@@ -35,7 +36,7 @@ removes-fit = record {
   said = omega arith;
   least = omega arith;
   most = omega arith;
-  fits = (refl, ((omega arith, (omega arith, (omega arith, (omega arith, omega arith)))), tt));
+  fits = (refl, ((omega arith, (omega arith, none-fits)), tt));
 }
 
 may-add : MayAsk limits (without 0) adds

@@ -13,12 +13,13 @@ use Rattle.formats.specs.Formats.{got}
 use Rattle.formats.specs.Sizes.{total, along}
 use Rattle.rules.specs.Applying.{store, plain, apply, storeConfig, Terminal}
 use Rattle.rules.specs.Configuration.{configOf, check, StoredConfig}
-use Rattle.rules.specs.Desk.{regionOf, A, G, insert}
+use Rattle.rules.specs.Desk.{A, G, insert}
 use Rattle.rules.specs.Limits.{limits, Limits}
+use Rattle.rules.specs.Fields.{regionOf, shortSize, regionSize}
 use Rattle.rules.specs.Plan.{readPlan, Plan}
 use Rattle.rules.specs.Regions.{noRegion}
 use Rattle.rules.specs.Requests.{answers, standing}
-use Rattle.rules.specs.Sizes.{shortSize, marksSize, regionsSize, zoneSize}
+use Rattle.rules.specs.Sizes.{marksSize, regionsSize, zoneSize}
 use Rattle.rules.specs.Tables.{emptyZone, Zone}
 use Rattle.rules.specs.declared.Checked.the-variants.{Sound}
 use Rattle.rules.specs.declared.Region.{Region}
@@ -121,7 +122,7 @@ abbrev pub OldTerminalsRefuse : Type 0
 OldTerminalsRefuse =
     (s : Terminal) (b : List ℕ) (p : Plan) → Meets oldLimits limits s b p
     → (ManyRegions p → Refuses21 oldLimits s b 12)
-    × (ManyZones p → Refuses21 oldLimits s b (16 + length (p .regions) * 24))
+    × (ManyZones p → Refuses21 oldLimits s b (16 + length (p .regions) * regionSize))
     × (AsBefore p → readPlan oldLimits b ≡ got p [])
 
 -- there are such: a sound terminal on the old limits, and whole plans of each of the three

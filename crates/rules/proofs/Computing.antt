@@ -7,7 +7,7 @@ use Rattle.lists.specs.Pairs.{pairwise}
 use Rattle.lists.specs.Places.{places, tab}
 use Rattle.lists.specs.Room.{room, removeAt}
 use Rattle.lists.specs.Rules.{firstRule}
-use Rattle.lists.specs.Tests.{allOf}
+use Rattle.lists.specs.Tests.{allOf, eachTwo}
 use Rattle.formats.specs.Formats.{when, then, readNumber, readBoth, writeBoth, startAt, readAs, readMany, writeMany}
 use Rattle.formats.specs.Formats.{readHeaded, readCount, within, writeHeaded, atEnd, readFile}
 use Rattle.rules.specs.Addresses.{overlaps}
@@ -16,6 +16,7 @@ use Rattle.rules.specs.Applying.{apply}
 use Rattle.rules.specs.Changes.{setAt, withSide, putSet, added, pushed, cut, dropped}
 use Rattle.rules.specs.Configuration.{gicOf, configOf, positionRules, checkRules, check, isSound}
 use Rattle.rules.specs.Limits.{pageOf}
+use Rattle.rules.specs.Fields.{numbersOf}
 use Rattle.rules.specs.Plan.{readPlan, encode}
 use Rattle.rules.specs.Regions.{wellFormed, inReach, regionEq}
 use Rattle.rules.specs.Requests.{holdsAny, onGic, forbidden, addRules, removeZoneRules, regionRules, setRules}
@@ -28,11 +29,11 @@ use Rattle.rules.specs.Translation.{coversGuest, coveringIn, physIn, rem
 
 -- lists, tests and rules; regions
 unfoldable pub listParts : Unit {0}
-unfolding allOf firstRule firstIndex firstFrom any all pairwise removeAt room places tab flatMap
+unfolding allOf eachTwo firstRule firstIndex firstFrom any all pairwise removeAt room places tab flatMap
 listParts = tt
 
 unfoldable pub regionParts : Unit {0}
-unfolding listParts wellFormed inReach regionEq overlaps pageOf
+unfolding listParts numbersOf wellFormed inReach regionEq overlaps pageOf
 regionParts = tt
 
 -- the two checks
@@ -63,7 +64,7 @@ unfolding readPlan readFile atEnd readHeaded readCount within readMany readBoth 
 readingParts = tt
 
 unfoldable pub writingParts : Unit {0}
-unfolding encode writeBoth writeMany writeHeaded bytesOf
+unfolding encode numbersOf writeBoth writeMany writeHeaded bytesOf
 writingParts = tt
 
 unfoldable pub applyingParts : Unit {0}

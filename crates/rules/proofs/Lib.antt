@@ -1,5 +1,6 @@
 -- Laws about the rules alone, for the promises and for the code's proofs.
 pub mod Addresses
+pub mod Fields
 pub mod Regions
 pub mod Configuration
 pub mod Tables

@@ -9,35 +9,47 @@ use lib.ListN.{length}
 use Rattle.lists.specs.Bytes.{Bytes}
 use Rattle.formats.specs.Formats.{got, bad, both, as-type, many, listed, Format, All, ListFits}
 use Rattle.formats.proofs.Formats.{Told, Lawful, lawful-number, lawful-both, lawful-field, lawful-as, lawful-many}
-use Rattle.formats.proofs.Formats.{lawful-headed, file-back, file-tight, file-refuses, file-ends}
+use Rattle.formats.proofs.Formats.{lawful-fits, lawful-headed, file-back, file-tight, file-refuses, file-ends}
+use Rattle.formats.proofs.Sizes.{all-replicate}
 use Rattle.formats.proofs.Spelled.{spelled-number, spelled-both, spelled-many, spelled-headed, Spelled}
 use Rattle.rules.specs.Limits.{Limits}
-use Rattle.rules.specs.Plan.{short, long, regionTo, regionFrom, regionNumbers, regionField, askedTo, askedFrom}
+use Rattle.rules.specs.Fields.{regionNumbers, numbersOf, regionTo, longSize}
+use Rattle.rules.specs.Plan.{short, long, regionFormat, regionField, askedTo, askedFrom}
 use Rattle.rules.specs.Plan.{askedField, marksTo, marksFrom, marksSection, regionsSection, setFormat, zoneTo}
 use Rattle.rules.specs.Plan.{zoneFrom, zoneFormat, zonesSection, requestsSection, planTo, planFrom, planFormat}
 use Rattle.rules.specs.Plan.{readPlan, encode, Short, Long, RegionFits, AskedFits, MarksFit, SetFits, ZoneFits}
 use Rattle.rules.specs.Plan.{PlanFits, Asked, Plan}
+use Rattle.rules.specs.Regions.{noRegion}
 use Rattle.rules.specs.Tables.{Zone}
 use Rattle.rules.specs.declared.Region.{Region}
+use Rattle.rules.proofs.Fields.{numbers-many, of-numbers, to-numbers}
 
 -- ---- fields
-lawful-region : Lawful regionNumbers RegionFits
+abbrev Longs : List ℕ → Type 0
+Longs l = (length l ≡ regionNumbers) × All Long l
+
+lawful-region : Lawful regionFormat RegionFits
 lawful-region =
-    lawful-as (both long (both long long)) (λ t. Long (t .0) × (Long (t .1 .0) × Long (t .1 .1)))
-    (lawful-both long (both long long) Long (λ t. Long (t .0) × Long (t .1)) (lawful-number 8)
-    (lawful-both long long Long Long (lawful-number 8) (lawful-number 8)))
-    regionTo regionFrom (λ r. refl) (λ t. refl)
+    lawful-fits regionFormat (λ r. Longs (numbersOf r)) RegionFits
+    (lawful-as (many long regionNumbers) Longs (lawful-many long Long (lawful-number longSize) regionNumbers) regionTo
+    numbersOf of-numbers (λ l h. to-numbers l (h .0)))
+    (λ r h. h .1) (λ r h. (numbers-many r, h))
+
+-- the region of a record without one
+pub none-fits : RegionFits noRegion
+unfolding numbersOf
+none-fits = all-replicate Long regionNumbers 0 (omega arith)
 
 pub lawful-region-field : Lawful regionField RegionFits
-lawful-region-field = lawful-field regionNumbers RegionFits lawful-region
+lawful-region-field = lawful-field regionFormat RegionFits lawful-region
 
 pub lawful-asked : Lawful askedField AskedFits
 lawful-asked =
-    lawful-field (as-type (both short (both short regionNumbers)) askedTo askedFrom) AskedFits
-    (lawful-as (both short (both short regionNumbers)) (λ t. Short (t .0) × (Short (t .1 .0) × RegionFits (t .1 .1)))
-    (lawful-both short (both short regionNumbers) Short (λ t. Short (t .0) × RegionFits (t .1)) (lawful-number 4)
-    (lawful-both short regionNumbers Short RegionFits (lawful-number 4) lawful-region))
-    askedTo askedFrom (λ a. refl) (λ t. refl))
+    lawful-field (as-type (both short (both short regionFormat)) askedTo askedFrom) AskedFits
+    (lawful-as (both short (both short regionFormat)) (λ t. Short (t .0) × (Short (t .1 .0) × RegionFits (t .1 .1)))
+    (lawful-both short (both short regionFormat) Short (λ t. Short (t .0) × RegionFits (t .1)) (lawful-number 4)
+    (lawful-both short regionFormat Short RegionFits (lawful-number 4) lawful-region))
+    askedTo askedFrom (λ a. refl) (λ t h. refl))
 
 -- ---- sections
 module _ {A : Type 0} (lo hi : ℕ) (F : Format A) (P : A → Type 0) (f : Lawful F P) where
@@ -51,7 +63,7 @@ lawful-marks =
     lawful-headed 4 2 2 (λ c. as-type (both short short) marksTo marksFrom) (λ m. 2)
     (λ c m. Short (m .gic) × Short (m .edition))
     (λ c. lawful-as (both short short) (λ t. Short (t .0) × Short (t .1))
-    (lawful-both short short Short Short (lawful-number 4) (lawful-number 4)) marksTo marksFrom (λ m. refl) (λ t. refl))
+    (lawful-both short short Short Short (lawful-number 4) (lawful-number 4)) marksTo marksFrom (λ m. refl) (λ t h. refl))
     (λ c m a z h. omega arith)
 
 module _ (l : Limits) where
@@ -64,7 +76,7 @@ module _ (l : Limits) where
       (λ t. Short (t .0) × (SetFits l (t .1 .0) × SetFits l (t .1 .1)))
       (lawful-both short (both (setFormat l) (setFormat l)) Short (λ t. SetFits l (t .0) × SetFits l (t .1))
       (lawful-number 4) (lawful-both (setFormat l) (setFormat l) (SetFits l) (SetFits l) lawful-set lawful-set))
-      zoneTo zoneFrom (λ z. refl) (λ t. refl)
+      zoneTo zoneFrom (λ z. refl) (λ t h. refl)
 
   abbrev Regions : List Region → Type 0
   Regions = ListFits 4 1 (l .regions) RegionFits
@@ -93,7 +105,7 @@ module _ (l : Limits) where
       (lawful-both (regionsSection l) (both (zonesSection l) (requestsSection l)) Regions
       (λ t. Zones (t .0) × Requests (t .1)) lawful-regions
       (lawful-both (zonesSection l) (requestsSection l) Zones Requests lawful-zones lawful-requests)))
-      planTo planFrom (λ p. refl) (λ t. refl)
+      planTo planFrom (λ p. refl) (λ t h. refl)
 
   -- ---- the two laws
   pub read-encoded : (p : Plan) → PlanFits l p → readPlan l (encode l p) ≡ got p []
@@ -121,9 +133,7 @@ plan-ends l b p t e = file-ends (planFormat l) b p t e
 
 -- ---- what is written of a plan is bytes
 spelled-region : Spelled regionField
-spelled-region r =
-    spelled-both long (both long long) (spelled-number 8) (spelled-both long long (spelled-number 8) (spelled-number 8))
-    (regionFrom r)
+spelled-region r = spelled-many long (spelled-number longSize) regionNumbers (numbersOf r)
 
 spelled-list : {A : Type 0} (lo hi : ℕ) (F : Format A) → Spelled F → Spelled (listed 4 lo hi F)
 spelled-list lo hi F f = spelled-headed 4 lo hi (many F) length (spelled-many F f)
@@ -135,8 +145,8 @@ spelled-marks =
 
 spelled-asked : Spelled askedField
 spelled-asked a =
-    spelled-both short (both short regionNumbers) (spelled-number 4)
-    (spelled-both short regionNumbers (spelled-number 4) spelled-region) (askedFrom a)
+    spelled-both short (both short regionFormat) (spelled-number 4)
+    (spelled-both short regionFormat (spelled-number 4) spelled-region) (askedFrom a)
 
 spelled-zone : (l : Limits) → Spelled (zoneFormat l)
 spelled-zone l z =

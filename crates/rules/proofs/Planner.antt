@@ -13,6 +13,7 @@ use Rattle.formats.specs.Formats.{got, All, ListFits}
 use Rattle.rules.specs.Applying.{lastEdition, Terminal, ForBase}
 use Rattle.rules.specs.Configuration.{configOf, Configuration}
 use Rattle.rules.specs.Limits.{highestId, limits, Limits, Sayable}
+use Rattle.rules.specs.Fields.{numbersOf}
 use Rattle.rules.specs.Plan.{readPlan, RegionFits, MarksFit, SetFits, ZoneFits, PlanFits, Asked}
 use Rattle.rules.specs.Planner.{planFor, planBytes, MayAsk}
 use Rattle.rules.specs.Regions.{inReach, noRegion}
@@ -39,14 +40,14 @@ module _ {A : Type 0} (P : A → Type 0) where
 module _ (lim : Limits) (say : Sayable lim) where
   -- ---- what is sound fits
   reach-fits : (r : Region) → inReach lim r ≡ true → RegionFits r
-  unfolding inReach
+  unfolding inReach numbersOf
   reach-fits r e =
       let h = parts _ e in
       let a : r .v .0 + r .size ≤ lim .guestReach = leb-true _ _ (h .0) in
       let b : r .p .0 + r .size ≤ lim .physReach = leb-true _ _ (h .1 .0) in
       let g : lim .guestReach < 256 ^ 8 = say .guestReach in
       let f : lim .physReach < 256 ^ 8 = say .physReach in
-      (omega arith, (omega arith, omega arith))
+      (omega arith, (omega arith, (omega arith, tt)))
 
   module _ (c : Configuration) (ok : SoundConfiguration lim c) where
     configured-fits : (r : Region) → configured c r ≡ true → RegionFits r

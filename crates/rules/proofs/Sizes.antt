@@ -6,40 +6,45 @@ use mathlib.Core.List.{List, _++_}
 use mathlib.Core.Path.{_≡_, refl, ap, _∙_}
 use lib.ListN.{length, replicate, length-replicate}
 use Rattle.lists.specs.Bytes.{Bytes}
-use Rattle.formats.specs.Formats.{got, bad, both, as-type, listed, Format, ListFits}
+use Rattle.formats.specs.Formats.{got, bad, both, as-type, many, listed, Format, ListFits}
 use Rattle.formats.specs.Sizes.{total}
-use Rattle.formats.proofs.Most.{most-number, most-both, most-field, most-as, most-headed, most-listed, file-past, Most}
-use Rattle.formats.proofs.Sizes.{sized-number, sized-both, sized-headed, sized-listed, total-same, total-most}
+use Rattle.formats.proofs.Most.{most-number, most-both, most-field, most-as, most-many, most-headed, most-listed}
+use Rattle.formats.proofs.Most.{file-past, Most}
+use Rattle.formats.proofs.Sizes.{sized-number, sized-both, sized-headed, sized-many, sized-listed, total-same}
+use Rattle.formats.proofs.Sizes.{total-most}
 use Rattle.formats.proofs.Sizes.{total-replicate, all-replicate, Sized}
 use Rattle.rules.specs.Limits.{Limits, Sayable}
-use Rattle.rules.specs.Plan.{short, long, regionTo, regionFrom, regionNumbers, regionField, askedTo, askedFrom}
+use Rattle.rules.specs.Fields.{regionNumbers, numbersOf, regionTo, shortSize, longSize, regionSize}
+use Rattle.rules.specs.Plan.{short, long, regionFormat, regionField, askedTo, askedFrom}
 use Rattle.rules.specs.Plan.{askedField, marksTo, marksFrom, marksSection, regionsSection, setFormat, zoneTo}
 use Rattle.rules.specs.Plan.{zoneFrom, zoneFormat, zonesSection, requestsSection, planTo, planFrom, planFormat}
 use Rattle.rules.specs.Plan.{readPlan, encode, RegionFits, AskedFits, ZoneFits, PlanFits, Asked, Plan}
 use Rattle.rules.specs.Regions.{noRegion}
-use Rattle.rules.specs.Sizes.{shortSize, longSize, regionSize, askedSize, marksSize, regionsSize, requestsSize}
+use Rattle.rules.specs.Run.{requestSize}
+use Rattle.rules.specs.Sizes.{marksSize, regionsSize, requestsSize}
 use Rattle.rules.specs.Sizes.{setsSize, zoneSize, planSize, longestSize, leastSize, SizesShown, zoneWith, noAsked}
 use Rattle.rules.specs.Sizes.{planWith}
 use Rattle.rules.specs.Tables.{Zone}
 use Rattle.rules.specs.declared.Region.{Region}
-use Rattle.rules.proofs.Plan.{no-slack}
+use Rattle.rules.proofs.Fields.{numbers-many}
+use Rattle.rules.proofs.Plan.{none-fits, no-slack}
 
 -- ---- what is written
 sized-short : Sized short (λ n. shortSize)
-sized-short = sized-number 4
+sized-short = sized-number shortSize
 
 sized-long : Sized long (λ n. longSize)
-sized-long = sized-number 8
+sized-long = sized-number longSize
 
 pub sized-region : Sized regionField (λ r. regionSize)
 sized-region r =
-    sized-both long (both long long) (λ n. longSize) (λ p. longSize + longSize) sized-long
-    (sized-both long long (λ n. longSize) (λ n. longSize) sized-long sized-long) (r .v .0, (r .p .0, r .size))
+    sized-many long (λ n. longSize) sized-long (numbersOf r) ∙ total-same longSize (numbersOf r)
+    ∙ ap (λ (n : ℕ). n * longSize) (numbers-many r)
 
-sized-asked : Sized askedField (λ a. askedSize)
+sized-asked : Sized askedField (λ a. requestSize)
 sized-asked a =
-    sized-both short (both short regionNumbers) (λ n. shortSize) (λ p. shortSize + regionSize) sized-short
-    (sized-both short regionNumbers (λ n. shortSize) (λ r. regionSize) sized-short sized-region)
+    sized-both short (both short regionFormat) (λ n. shortSize) (λ p. shortSize + regionSize) sized-short
+    (sized-both short regionFormat (λ n. shortSize) (λ r. regionSize) sized-short sized-region)
     (a .kind, (a .zone, a .region))
 
 -- a list of elements of one size
@@ -81,7 +86,7 @@ module _ (l : Limits) where
       (λ t. ofZones (t .0) + ofAsked (t .1)) (sized-list 1 (l .regions) regionSize regionField sized-region)
       (sized-both (zonesSection l) (requestsSection l) ofZones ofAsked
       (sized-listed (zoneFormat l) zoneSize sized-zone 4 0 (l .zones))
-      (sized-list 0 (l .requests) askedSize askedField sized-asked)))
+      (sized-list 0 (l .requests) requestSize askedField sized-asked)))
       (p .marks, (p .regions, (p .zones, p .asked)))
 
   -- ---- between the least and the longest
@@ -131,9 +136,6 @@ module _ {A : Type 0} (P : A → Type 0) (x : A) (h : P x) where
     fits = (refl, all-replicate P n x h);
   }
 
-zero-region : RegionFits noRegion
-zero-region = (omega arith, (omega arith, omega arith))
-
 module _ (l : Limits) (say : Sayable l) (r z c i q : ℕ) where
   pub counts-fit : 1 ≤ r → r ≤ l .regions → z ≤ l .zones → c ≤ l .inSet → i ≤ l .inSet → q ≤ l .requests
       → PlanFits l (planWith r z c i q)
@@ -143,34 +145,34 @@ module _ (l : Limits) (say : Sayable l) (r z c i q : ℕ) where
       let ss : l .inSet < 256 ^ 4 = say .inSet in
       let sq : l .requests < 256 ^ 4 = say .requests in
       let set : (n : ℕ) → n ≤ l .inSet → ListFits 4 0 (l .inSet) RegionFits (replicate n noRegion) =
-      λ n m. full-list RegionFits noRegion zero-region 0 (l .inSet) n (omega arith) m (omega arith) in (
+      λ n m. full-list RegionFits noRegion none-fits 0 (l .inSet) n (omega arith) m (omega arith) in (
         record { said = omega arith; least = omega arith; most = omega arith; fits = (omega arith, omega arith) },
         (
-          full-list RegionFits noRegion zero-region 1 (l .regions) r one mr (omega arith),
+          full-list RegionFits noRegion none-fits 1 (l .regions) r one mr (omega arith),
           (
             full-list (ZoneFits l) (zoneWith c i) (omega arith, (set c mc, set i mi)) 0 (l .zones) z (omega arith) mz
                 (omega arith),
-            full-list AskedFits noAsked (omega arith, (omega arith, zero-region)) 0 (l .requests) q (omega arith) mq
+            full-list AskedFits noAsked (omega arith, (omega arith, none-fits)) 0 (l .requests) q (omega arith) mq
                 (omega arith),
           ),
         ),
       )
 
 -- ---- the most that reading takes
-region-most : Most regionNumbers regionSize
+region-most : Most regionFormat regionSize
 region-most =
-    most-as (both long (both long long)) regionTo regionFrom regionSize
-    (most-both long (both long long) 8 16 (most-number 8) (most-both long long 8 8 (most-number 8) (most-number 8)))
+    most-as (many long regionNumbers) regionTo numbersOf regionSize
+    (most-many long longSize (most-number longSize) regionNumbers)
 
 region-field-most : Most regionField regionSize
-region-field-most = most-field regionNumbers regionSize region-most
+region-field-most = most-field regionFormat regionSize region-most
 
-asked-most : Most askedField askedSize
+asked-most : Most askedField requestSize
 asked-most =
-    most-field (as-type (both short (both short regionNumbers)) askedTo askedFrom) askedSize
-    (most-as (both short (both short regionNumbers)) askedTo askedFrom askedSize
-    (most-both short (both short regionNumbers) 4 (4 + regionSize) (most-number 4)
-    (most-both short regionNumbers 4 regionSize (most-number 4) region-most)))
+    most-field (as-type (both short (both short regionFormat)) askedTo askedFrom) requestSize
+    (most-as (both short (both short regionFormat)) askedTo askedFrom requestSize
+    (most-both short (both short regionFormat) 4 (4 + regionSize) (most-number 4)
+    (most-both short regionFormat 4 regionSize (most-number 4) region-most)))
 
 marks-most : Most marksSection marksSize
 marks-most =
@@ -199,7 +201,7 @@ module _ (l : Limits) where
       (zones + requestsSize (l .requests)) (most-listed 4 1 (l .regions) regionField regionSize region-field-most)
       (most-both (zonesSection l) (requestsSection l) zones (requestsSize (l .requests))
       (most-listed 4 0 (l .zones) (zoneFormat l) (setsSize (l .inSet) (l .inSet)) zone-most)
-      (most-listed 4 0 (l .requests) askedField askedSize asked-most))))
+      (most-listed 4 0 (l .requests) askedField requestSize asked-most))))
 
   -- more than the longest plan is refused, and by the first of those bytes: what lies behind them changes nothing
   pub plan-past : (u v : List ℕ) → longestSize l < length u

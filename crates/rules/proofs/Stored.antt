@@ -11,7 +11,7 @@ use lib.ListN.{length, getD, take, drop, replicate, length-map, length-take, len
 use lib.ListN.{List·getD-map}
 use Rattle.lists.specs.First.{any, all}
 use Rattle.lists.specs.Room.{room}
-use Rattle.lists.specs.Tests.{allOf}
+use Rattle.lists.specs.Tests.{allOf, eachTwo}
 use Rattle.lists.proofs.Every.{all-from, all-map, none-all, all-replicate, map-back}
 use Rattle.lists.proofs.Room.{length-room, room-rest, room-take, room-back, room-after, room-read}
 use Rattle.lists.proofs.Rules.{testOf, quiet-answer, aboveZero, silent-number}
@@ -21,6 +21,7 @@ use Rattle.formats.specs.Formats.{All}
 use Rattle.rules.specs.Applying.{storeSet, storeZone, store, storeConfig}
 use Rattle.rules.specs.Configuration.{configOf, check, isSound, Configuration, StoredConfig}
 use Rattle.rules.specs.Limits.{Limits}
+use Rattle.rules.specs.Fields.{numbersOf}
 use Rattle.rules.specs.Regions.{regionEq, noRegion, used}
 use Rattle.rules.specs.Requests.{refusal, next, standingRules, standing}
 use Rattle.rules.specs.Run.{runFrom}
@@ -39,7 +40,7 @@ read-back : {A : Type 0} (n : ℕ) (y z : A) (xs : List A) → length xs ≤ n �
 read-back n y z xs h = room-take (length xs) y (room n z xs) (omega (arith, length-room n z xs)) ∙ room-back n z xs h
 
 none-used : (n : ℕ) → any used (replicate n noRegion) ≡ false
-unfolding any regionEq allOf
+unfolding any regionEq numbersOf eachTwo allOf
 none-used zero = refl
 none-used (suc n) = none-used n
 
@@ -130,7 +131,7 @@ module _ (lim : Limits) where
 
   -- ---- what is unused is zero
   set-tidy : (c : Configuration) (xs : List Region) → soundSet lim c xs ≡ true → restZero (storeSet lim xs) ≡ true
-  unfolding restZero regionEq allOf
+  unfolding restZero regionEq numbersOf eachTwo allOf
   set-tidy c xs e =
       none-all used (drop (length xs) (room (lim .inSet) noRegion xs))
       ∙ ap (all (λ (r : Region). not (used r))) (room-after (lim .inSet) noRegion xs (set-few c xs e))

@@ -8,6 +8,7 @@ use Rattle.lists.specs.Room.{room}
 use Rattle.rules.specs.Applying.{store, plain, apply, Terminal, Applied}
 use Rattle.rules.specs.Configuration.{configOf, check, StoredConfig}
 use Rattle.rules.specs.Limits.{mostRegions, limits}
+use Rattle.rules.specs.Fields.{regionOf, regionSize}
 use Rattle.rules.specs.Regions.{noRegion}
 use Rattle.rules.specs.Requests.{answers}
 use Rattle.rules.specs.Tables.{emptyZone, sound, Zone}
@@ -17,10 +18,6 @@ use Rattle.rules.specs.declared.Region.{Region}
 use Rattle.rules.specs.declared.Request.{Request}
 use Rattle.rules.specs.declared.Side.{Side}
 use Rattle.rules.specs.declared.Side.the-variants.{Cpu, Iommu}
-
--- a region by its three numbers
-abbrev pub regionOf : ℕ → ℕ → ℕ → Region
-regionOf v p n = record { v = record { 0 = v }; p = record { 0 = p }; size = n }
 
 abbrev pub A : Region
 A = regionOf 0x40000000 0x80000000 0x200000
@@ -78,7 +75,7 @@ wholePlan =
     ∷ 0 ∷ 0 ∷ 0 ∷ 8 ∷ 0 ∷ 0 ∷ 0 ∷ 0
     ∷ 0 ∷ 0 ∷ 1 ∷ 0 ∷ 0 ∷ 0 ∷ 0 ∷ 0
     ∷ 0 ∷ 0 ∷ 0 ∷ 0
-    ∷ 1 ∷ 0 ∷ 0 ∷ 0 ∷ 1 ∷ 0 ∷ 0 ∷ 0 ∷ 5 ∷ 0 ∷ 0 ∷ 0 ∷ replicate 24 0
+    ∷ 1 ∷ 0 ∷ 0 ∷ 0 ∷ 1 ∷ 0 ∷ 0 ∷ 0 ∷ 5 ∷ 0 ∷ 0 ∷ 0 ∷ replicate regionSize 0
 
 -- a terminal with its configuration, edition 0, no zones
 abbrev pub deskTerminal : Terminal

@@ -1,6 +1,7 @@
 -- The rules, in the order of the document: what must be believed.
 pub mod Limits
 pub mod Addresses
+pub mod Fields
 pub mod Regions
 pub mod Configuration
 pub mod Tables

@@ -2,8 +2,10 @@
 -- marks have 4 bytes, region fields 8.
 use Prim.Native.Nat.{ℕ, _^_, _<_}
 use mathlib.Core.List.{List, map}
-use Rattle.formats.specs.Formats.{Out, Format, number, both, field, as-type, headed, listed, readFile, InRange, ListFits}
+use Rattle.formats.specs.Formats.{Out, Format, number, both, field, as-type, many, headed, listed, readFile, InRange}
+use Rattle.formats.specs.Formats.{All, ListFits}
 use Rattle.rules.specs.Limits.{Limits}
+use Rattle.rules.specs.Fields.{regionNumbers, numbersOf, regionTo, shortSize, longSize}
 use Rattle.rules.specs.Run.{makeRequest}
 use Rattle.rules.specs.Tables.{Zone}
 use Rattle.rules.specs.declared.Region.{Region}
@@ -36,25 +38,19 @@ requestsOf p = requestsFrom (p .asked)
 -- ---- fields
 -- a count, a mark, an id or a kind
 abbrev pub short : Format ℕ
-short = number 4
+short = number shortSize
 
 abbrev pub long : Format ℕ
-long = number 8
+long = number longSize
 
--- v, p, size
-abbrev pub regionTo : ℕ × (ℕ × ℕ) → Region
-regionTo t = record { v = record { 0 = t .0 }; p = record { 0 = t .1 .0 }; size = t .1 .1 }
-
-abbrev pub regionFrom : Region → ℕ × (ℕ × ℕ)
-regionFrom r = (r .v .0, (r .p .0, r .size))
-
-abbrev pub regionNumbers : Format Region
-regionNumbers = as-type (both long (both long long)) regionTo regionFrom
+-- a region's numbers, one after another
+abbrev pub regionFormat : Format Region
+regionFormat = as-type (many long regionNumbers) regionTo numbersOf
 
 abbrev pub regionField : Format Region
-regionField = field regionNumbers
+regionField = field regionFormat
 
--- kind, zone id, v, p, size
+-- kind, zone id, region
 abbrev pub askedTo : ℕ × (ℕ × Region) → Asked
 askedTo t = record { kind = t .0; zone = t .1 .0; region = t .1 .1 }
 
@@ -62,7 +58,7 @@ abbrev pub askedFrom : Asked → ℕ × (ℕ × Region)
 askedFrom a = (a .kind, (a .zone, a .region))
 
 abbrev pub askedField : Format Asked
-askedField = field (as-type (both short (both short regionNumbers)) askedTo askedFrom)
+askedField = field (as-type (both short (both short regionFormat)) askedTo askedFrom)
 
 -- ---- sections
 -- marks: count 2; GIC position, base edition
@@ -125,7 +121,7 @@ abbrev pub Long : ℕ → Type 0
 Long n = n < 256 ^ 8
 
 abbrev pub RegionFits : Region → Type 0
-RegionFits r = Long (r .v .0) × (Long (r .p .0) × Long (r .size))
+RegionFits r = All Long (numbersOf r)
 
 abbrev pub AskedFits : Asked → Type 0
 AskedFits a = Short (a .kind) × (Short (a .zone) × RegionFits (a .region))

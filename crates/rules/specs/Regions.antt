@@ -3,12 +3,13 @@ use Prim.Native.Nat.{ℕ, _+_, _%_}
 use mathlib.Core.Bool.{Bool, not}
 use mathlib.Core.List.{[], _∷_}
 use lib.Dec.{ltb, leb, eqb}
-use Rattle.lists.specs.Tests.{allOf}
+use Rattle.lists.specs.Tests.{allOf, eachTwo}
 use Rattle.rules.specs.declared.Region.{Region}
 use Rattle.rules.specs.Limits.{Limits}
 use Rattle.rules.specs.Addresses.{overlaps}
+use Rattle.rules.specs.Fields.{numbersOf, regionBy}
 
--- size above 0, and all three numbers multiples of a page
+-- size above 0; v, p and size multiples of a page
 unfoldable pub wellFormed : ℕ → Region → Bool
 wellFormed page r =
     allOf (ltb 0 (r .size) ∷ eqb (r .v .0 % page) 0 ∷ eqb (r .p .0 % page) 0 ∷ eqb (r .size % page) 0 ∷ [])
@@ -17,9 +18,9 @@ wellFormed page r =
 unfoldable pub inReach : Limits → Region → Bool
 inReach l r = allOf (leb (r .v .0 + r .size) (l .guestReach) ∷ leb (r .p .0 + r .size) (l .physReach) ∷ [])
 
--- all three numbers are equal
+-- all their numbers are equal
 unfoldable pub regionEq : Region → Region → Bool
-regionEq a b = allOf (eqb (a .v .0) (b .v .0) ∷ eqb (a .p .0) (b .p .0) ∷ eqb (a .size) (b .size) ∷ [])
+regionEq a b = allOf (eachTwo eqb (numbersOf a) (numbersOf b))
 
 -- some one physical address is covered by both; some one guest address
 abbrev pub physOverlap : Region → Region → Bool
@@ -30,7 +31,7 @@ guestOverlap a b = overlaps (a .v .0) (a .size) (b .v .0) (b .size)
 
 -- the region whose numbers are all zero, which stands in every unused record
 abbrev pub noRegion : Region
-noRegion = record { v = record { 0 = 0 }; p = record { 0 = 0 }; size = 0 }
+noRegion = regionBy (λ i. 0)
 
 -- not all zero
 abbrev pub used : Region → Bool

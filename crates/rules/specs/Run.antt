@@ -10,6 +10,7 @@ use Rattle.lists.specs.Rules.{_when_, firstRule}
 use Rattle.lists.specs.Words.{part}
 use Rattle.rules.specs.Limits.{Limits}
 use Rattle.rules.specs.Configuration.{configOf, Configuration, StoredConfig}
+use Rattle.rules.specs.Fields.{shortSize, longSize, regionSize, regionBy}
 use Rattle.rules.specs.Regions.{used}
 use Rattle.rules.specs.Requests.{standing, refusal, next}
 use Rattle.rules.specs.Tables.{tableOf, Zone, StoredTable}
@@ -41,22 +42,23 @@ makeKind n r =
 unfoldable pub makeRequest : ℕ → ℕ → Region → Request
 makeRequest kind zone r = record { zone = zone; kind = makeKind kind r }
 
--- ---- requests as bytes: kind, zone id, v, p, size
-abbrev pub requestBytes : ℕ
-requestBytes = 32
+-- ---- requests as bytes: kind, zone id, region
+abbrev pub requestSize : ℕ
+requestSize = 2 * shortSize + regionSize
 
--- the number of so many bytes at a place
+-- the number of so many bytes at a place; the region there, its numbers one after another
 abbrev pub numberAt : ℕ → List ℕ → ℕ → ℕ
 numberAt width b at = little (part at width b)
 
+unfoldable pub regionIn : List ℕ → ℕ → Region
+regionIn b at = regionBy (λ i. numberAt longSize b (at + i * longSize))
+
 unfoldable pub requestFrom : List ℕ → ℕ → Request
-requestFrom b at =
-    makeRequest (numberAt 4 b at) (numberAt 4 b (at + 4))
-    (record { v = record { 0 = numberAt 8 b (at + 8) }; p = record { 0 = numberAt 8 b (at + 16) }; size = numberAt 8 b (at + 24) })
+requestFrom b at = makeRequest (numberAt 4 b at) (numberAt 4 b (at + 4)) (regionIn b (at + 8))
 
 -- all that are wholly there
 unfoldable pub requestsIn : List ℕ → List Request
-requestsIn b = tab (length b / requestBytes) (λ i. requestFrom b (i * requestBytes))
+requestsIn b = tab (length b / requestSize) (λ i. requestFrom b (i * requestSize))
 
 -- ---- a run
 -- how many were accepted before the first refusal, the number of that one or 0, and the table that they leave

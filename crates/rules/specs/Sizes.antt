@@ -4,33 +4,22 @@ use mathlib.Core.Path.{_≡_}
 use lib.ListN.{length, replicate}
 use Rattle.formats.specs.Sizes.{total}
 use Rattle.rules.specs.Limits.{limits, Limits}
+use Rattle.rules.specs.Fields.{shortSize, regionSize}
 use Rattle.rules.specs.Plan.{Asked, Plan}
 use Rattle.rules.specs.Regions.{noRegion}
+use Rattle.rules.specs.Run.{requestSize}
 use Rattle.rules.specs.Tables.{Zone}
 
--- a count, a mark, an id or a kind; a region's field
-abbrev pub shortSize : ℕ
-shortSize = 4
-
-abbrev pub longSize : ℕ
-longSize = 8
-
--- the marks after their count; v, p, size; kind, zone id, v, p, size
+-- the marks after their count
 abbrev pub marksSize : ℕ
 marksSize = 3 * shortSize
-
-abbrev pub regionSize : ℕ
-regionSize = 3 * longSize
-
-abbrev pub askedSize : ℕ
-askedSize = 2 * shortSize + regionSize
 
 -- so many regions after their count, so many requests after theirs
 abbrev pub regionsSize : ℕ → ℕ
 regionsSize n = shortSize + n * regionSize
 
 abbrev pub requestsSize : ℕ → ℕ
-requestsSize n = shortSize + n * askedSize
+requestsSize n = shortSize + n * requestSize
 
 -- a zone: its id, and so many regions in its two sets
 abbrev pub setsSize : ℕ → ℕ → ℕ

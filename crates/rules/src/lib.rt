@@ -1,6 +1,7 @@
 // The vocabulary of the rules as plain data. There is no code: specs/ has every definition, proofs/ the laws about them.
 pub mod limits;
 pub mod numbers;
+pub mod widths;
 
 // An address that a zone uses.
 pub struct Guest(pub u64);

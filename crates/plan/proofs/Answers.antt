@@ -13,7 +13,7 @@ use Rattle.formats.proofs.Formats.{listed-got}
 use Rattle.rules.specs.Limits.{mostRegions, mostZones, mostRequests, limits}
 use Rattle.rules.specs.Plan.{regionField, marksSection, regionsSection, zoneFormat, zonesSection, requestsSection}
 use Rattle.rules.specs.Regions.{noRegion}
-use Rattle.rules.specs.Run.{requestBytes}
+use Rattle.rules.specs.Run.{requestSize}
 use Rattle.rules.specs.declared.Region.{Region}
 use Rattle.rules.proofs.Sections.{sets-few}
 use Rattle.zones.specs.Layout.{regionWords, configWords, tableWords, configCount, configGic, configRecords}
@@ -32,7 +32,7 @@ use Rattle.plan.specs.declared.sections.Zones.{Zones}
 use Rattle.plan.specs.declared.words.Section.{Section}
 use Rattle.plan.specs.declared.words.Section.the-variants.{End, Bad}
 use Rattle.plan.proofs.Agreeing.{Agrees, putAll, storeRecord, storeSet, set-agrees, zones-agree}
-use Rattle.plan.proofs.Fields.{askedIn, fiveNumbers, wide-asked}
+use Rattle.plan.proofs.Fields.{askedIn, askedFormat, wide-asked}
 use Rattle.plan.proofs.Into.{number-within, count-missing, count-out, count-in}
 use Rattle.plan.proofs.Offsets.{place}
 use Rattle.plan.proofs.Passing.{list-none, list-out, list-cut, list-end}
@@ -180,23 +180,23 @@ module _ (s v : List ℕ) (r : Section) (read : Reads s v r (zonesInto (replicat
 -- ---- the requests: all of one width
 module _ (s : List ℕ) (c : Number) (read : NumberRead s 0 (readNumber 4 (drop 0 s)) c) where
   pub requests-none : c ≡ Missing → Bad 20 0 ≡ sectionAnswer (length s) (requestsSection limits .read s)
-  requests-none = list-none fiveNumbers requestBytes askedIn wide-asked 0 mostRequests s 0 c read (omega arith)
+  requests-none = list-none askedFormat requestSize askedIn wide-asked 0 mostRequests s 0 c read (omega arith)
 
   module _ (n : ℕ) (b : Bool) (f : c ≡ Is n) (t : b ≡ within 0 mostRequests n) where
     pub requests-out : not b ≡ true → Bad 21 0 ≡ sectionAnswer (length s) (requestsSection limits .read s)
-    requests-out = list-out fiveNumbers requestBytes askedIn wide-asked 0 mostRequests s 0 c read n b f t (omega arith)
+    requests-out = list-out askedFormat requestSize askedIn wide-asked 0 mostRequests s 0 c read n b f t (omega arith)
 
     module _ (h : not b ≡ false) where
-      pub requests-cut : (length s - 4) / requestBytes < n
-          → Bad 20 (4 + (length s - 4) / requestBytes * requestBytes)
+      pub requests-cut : (length s - 4) / requestSize < n
+          → Bad 20 (4 + (length s - 4) / requestSize * requestSize)
           ≡ sectionAnswer (length s) (requestsSection limits .read s)
       requests-cut g =
           let l : 4 ≤ length s = number-within s 0 c read n f in
-          list-cut fiveNumbers requestBytes askedIn wide-asked 0 mostRequests s 0 c read n b f t h
-          ((length s - 4) / requestBytes) g (omega arith) (omega arith)
+          list-cut askedFormat requestSize askedIn wide-asked 0 mostRequests s 0 c read n b f t h
+          ((length s - 4) / requestSize) g (omega arith) (omega arith)
 
-      pub requests-end : n ≤ (length s - 4) / requestBytes
-          → End (4 + n * requestBytes) ≡ sectionAnswer (length s) (requestsSection limits .read s)
+      pub requests-end : n ≤ (length s - 4) / requestSize
+          → End (4 + n * requestSize) ≡ sectionAnswer (length s) (requestsSection limits .read s)
       requests-end g =
           let l : 4 ≤ length s = number-within s 0 c read n f in
-          list-end fiveNumbers requestBytes askedIn wide-asked 0 mostRequests s 0 c read n b f t h (omega arith)
+          list-end askedFormat requestSize askedIn wide-asked 0 mostRequests s 0 c read n b f t h (omega arith)

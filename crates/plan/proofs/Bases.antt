@@ -14,12 +14,13 @@ use Rattle.lists.specs.Tests.{allOf}
 use Rattle.lists.specs.Words.{part}
 use Rattle.formats.specs.Formats.{Out, got, left}
 use Rattle.formats.proofs.Formats.{Part}
+use Rattle.rules.specs.Fields.{regionSize}
 use Rattle.rules.specs.Applying.{sameList, sameZone, sameConfig}
 use Rattle.rules.specs.Limits.{mostRegions, limits}
-use Rattle.rules.specs.Plan.{regionNumbers, regionsSection, zonesSection, requestsOf, readPlan, Asked, Marks, Plan}
+use Rattle.rules.specs.Plan.{regionFormat, regionsSection, zonesSection, requestsOf, readPlan, Asked, Marks, Plan}
 use Rattle.rules.specs.Regions.{regionEq}
 use Rattle.rules.specs.Requests.{standing}
-use Rattle.rules.specs.Run.{makeRequest, requestBytes, requestFrom, requestsIn}
+use Rattle.rules.specs.Run.{makeRequest, requestSize, regionIn, requestFrom, requestsIn}
 use Rattle.rules.specs.Tables.{tableOf, Zone}
 use Rattle.rules.specs.declared.Region.{Region}
 use Rattle.rules.proofs.Plan.{lawful-marks, lawful-regions, lawful-zones}
@@ -29,11 +30,10 @@ use Rattle.zones.specs.Layout.{configCount, configRecords}
 use Rattle.zones.specs.Records.{recordsAt}
 use Rattle.zones.specs.View.{storedConfig, storedTable, configIn, zonesIn, ConfigPassed}
 use Rattle.zones.proofs.Stepping.{stands-same}
-use Rattle.plan.specs.Fields.{regionBytes}
 use Rattle.plan.specs.Found.{marksBytes}
 use Rattle.plan.specs.Held.{heldAnswer, isHeld, holdsRegions, configHeld, tableHeld}
 use Rattle.plan.specs.declared.comparing.Held.the-variants.{Same, Other}
-use Rattle.plan.proofs.Fields.{askedIn, regionValue, wide-region}
+use Rattle.plan.proofs.Fields.{askedIn, regionValue, wide-region, in-bytes}
 use Rattle.zones.proofs.ConfigReaders.{count-is, gic-is, regions-in}
 use Rattle.plan.proofs.Locating.{marks-got, requests-read}
 use Rattle.plan.proofs.Passing.{Listed, list-read}
@@ -63,12 +63,12 @@ module _ (b : List ℕ) (p : Plan) (t : List ℕ) (e : readPlan limits b ≡ got
       )
 
   -- the requests are the last of its bytes
-  requests-last : (4 + length (p .asked) * requestBytes ≡ length (sections .afterZones))
-      × (drop (length b - length (p .asked) * requestBytes) b ≡ drop 4 (sections .afterZones))
+  requests-last : (4 + length (p .asked) * requestSize ≡ length (sections .afterZones))
+      × (drop (length b - length (p .asked) * requestSize) b ≡ drop 4 (sections .afterZones))
   requests-last =
       let (w, q) = before-requests in
       let u : List ℕ = sections .afterZones in
-      let n : ℕ = length (p .asked) * requestBytes in
+      let n : ℕ = length (p .asked) * requestSize in
       let l : 4 + n + 0 ≡ length u = requests-read u (p .asked) [] (sections .requests) .0 in
       let m : length b ≡ length w + length u = ap length q ∙ length-append w u in
       let k : length b - n ≡ length w + 4 = omega arith in
@@ -84,49 +84,40 @@ module _ (b : List ℕ) (p : Plan) (t : List ℕ) (e : readPlan limits b ≡ got
       let e8 : drop 4 (drop 4 (drop at d)) ≡ drop (at + 8) d =
       (let k : at + 4 + 4 ≡ at + 8 = omega arith in
       ap (drop 4) e4 ∙ drop-drop 4 (at + 4) d ∙ ap (λ (j : ℕ). drop j d) k) in
-      let e16 : drop 8 (drop 4 (drop 4 (drop at d))) ≡ drop (at + 16) d =
-      (let k : at + 8 + 8 ≡ at + 16 = omega arith in
-      ap (drop 8) e8 ∙ drop-drop 8 (at + 8) d ∙ ap (λ (j : ℕ). drop j d) k) in
-      let e24 : drop 8 (drop 8 (drop 4 (drop 4 (drop at d)))) ≡ drop (at + 24) d =
-      (let k : at + 16 + 8 ≡ at + 24 = omega arith in
-      ap (drop 8) e16 ∙ drop-drop 8 (at + 16) d ∙ ap (λ (j : ℕ). drop j d) k) in
-      (λ i. makeRequest (little (take 4 (drop at d)))
-      (little (take 4 (e4 i))) (record {
-        v = record { 0 = little (take 8 (e8 i)) };
-        p = record { 0 = little (take 8 (e16 i)) };
-        size = little (take 8 (e24 i));
-      }))
+      let r : regionValue (drop 4 (drop 4 (drop at d))) ≡ regionIn d (at + 8) =
+      ap regionValue e8 ∙ sym (in-bytes d (at + 8)) in
+      (λ i. makeRequest (little (take 4 (drop at d))) (little (take 4 (e4 i))) (r i))
 
-  pub requests-same : requestsIn (drop (length b - length (p .asked) * requestBytes) b) ≡ requestsOf p
+  pub requests-same : requestsIn (drop (length b - length (p .asked) * requestSize) b) ≡ requestsOf p
   unfolding requestsIn tab
   requests-same =
       let (l, q) = requests-last in
       let d : List ℕ = drop 4 (sections .afterZones) in
       let n : ℕ = length (p .asked) in
-      let asked : p .asked ≡ tab n (λ i. askedIn (drop (i * requestBytes) d)) =
+      let asked : p .asked ≡ tab n (λ i. askedIn (drop (i * requestSize) d)) =
       requests-read (sections .afterZones) (p .asked) [] (sections .requests) .1 in
-      let m : length d / requestBytes ≡ n =
-      (let k : length d ≡ n * requestBytes = omega (arith, length-drop 4 (sections .afterZones)) in
+      let m : length d / requestSize ≡ n =
+      (let k : length d ≡ n * requestSize = omega (arith, length-drop 4 (sections .afterZones)) in
       omega arith) in
       ap requestsIn q
-      ∙ ap (λ (k : ℕ). map (λ i. requestFrom d (i * requestBytes)) (places 0 k)) m
-      ∙ (λ j. map (λ i. sym (one-request d (i * requestBytes)) j) (places 0 n))
+      ∙ ap (λ (k : ℕ). map (λ i. requestFrom d (i * requestSize)) (places 0 k)) m
+      ∙ (λ j. map (λ i. sym (one-request d (i * requestSize)) j) (places 0 n))
       ∙ sym (map-map (λ (a : Asked). makeRequest (a .kind) (a .zone) (a .region))
-      (λ i. askedIn (drop (i * requestBytes) d)) (places 0 n))
+      (λ i. askedIn (drop (i * requestSize) d)) (places 0 n))
       ∙ ap (map (λ (a : Asked). makeRequest (a .kind) (a .zone) (a .region))) (sym asked)
 
 -- ---- where its sections begin
 module _ (b : List ℕ) (p : Plan) (t : List ℕ) (e : readPlan limits b ≡ got p t) where
   abbrev pub zonesAt : ℕ
-  zonesAt = marksBytes + (4 + length (p .regions) * regionBytes)
+  zonesAt = marksBytes + (4 + length (p .regions) * regionSize)
 
   after-marks : (12 ≤ length b) × (sections b p t e .afterMarks ≡ drop 12 b)
   after-marks = marks-got b (p .marks) (sections b p t e .afterMarks) (sections b p t e .marks)
 
-  regions-read : Listed regionNumbers regionBytes regionValue wide-region 1 mostRegions (sections b p t e .afterMarks)
+  regions-read : Listed regionFormat regionSize regionValue wide-region 1 mostRegions (sections b p t e .afterMarks)
       (p .regions) (sections b p t e .afterRegions)
   regions-read =
-      list-read regionNumbers regionBytes regionValue wide-region 1 mostRegions (sections b p t e .afterMarks)
+      list-read regionFormat regionSize regionValue wide-region 1 mostRegions (sections b p t e .afterMarks)
       (p .regions) (sections b p t e .afterRegions) (sections b p t e .regions)
 
   pub marks-within : 12 ≤ length b
@@ -142,8 +133,8 @@ module _ (b : List ℕ) (p : Plan) (t : List ℕ) (e : readPlan limits b ≡ got
   zones-at =
       let q : sections b p t e .afterRegions ≡ drop zonesAt b =
       regions-read .rest
-      ∙ ap (drop (4 + length (p .regions) * regionBytes)) (after-marks .1)
-      ∙ drop-drop (4 + length (p .regions) * regionBytes) 12 b in
+      ∙ ap (drop (4 + length (p .regions) * regionSize)) (after-marks .1)
+      ∙ drop-drop (4 + length (p .regions) * regionSize) 12 b in
       ap (λ (l : List ℕ). zonesSection limits .read l) (sym q) ∙ sections b p t e .zones
 
 -- ---- its base, held against the terminal's words c and w

@@ -1,5 +1,5 @@
 -- Fields, by how many bytes are there: a field is read where its bytes are, and refused with 20 where not.
-use Prim.Native.Nat.{ℕ, _+_, _-_, _≤_, _<_}
+use Prim.Native.Nat.{ℕ, _+_, _-_, _*_, _≤_, _<_}
 use native.Mathlib.Omega.{arith}
 use mathlib.Core.Bool.{false}
 use mathlib.Core.List.{List, [], _∷_}
@@ -9,46 +9,52 @@ use lib.Dec.{leb}
 use lib.ListN.{length, take, drop, length-drop}
 use lib.Seq.{drop-drop}
 use Rattle.lists.specs.Bytes.{little}
+use Rattle.lists.specs.Places.{places, tab}
 use Rattle.lists.specs.Words.{part}
 use Rattle.lists.proofs.Tests.{all-miss, all-pass, all-last}
-use Rattle.formats.specs.Formats.{got, readNumber, within, both, as-type, Format}
+use Rattle.formats.specs.Formats.{got, readNumber, within, both, as-type, many, Format}
 use Rattle.formats.proofs.Widths.{Wide, number-there, number-short, wide-number, wide-both, wide-as, field-there}
-use Rattle.formats.proofs.Widths.{field-short}
-use Rattle.rules.specs.Plan.{short, long, regionTo, regionFrom, regionNumbers, regionField, askedTo, askedFrom, Asked}
-use Rattle.rules.specs.Run.{requestBytes}
+use Rattle.formats.proofs.Widths.{wide-many, field-short}
+use Rattle.rules.specs.Fields.{regionNumbers, numbersOf, regionBy, regionTo, longSize, regionSize}
+use Rattle.rules.specs.Plan.{short, long, regionFormat, regionField, askedTo, askedFrom, Asked}
+use Rattle.rules.specs.Run.{requestSize, regionIn}
 use Rattle.rules.specs.declared.Region.{Region}
-use Rattle.plan.specs.Fields.{regionBytes, numberOut, numberEnd, regionOut, regionEnd, NumberRead, RegionRead}
+use Rattle.zones.proofs.Running.{region-within}
+use Rattle.plan.specs.Fields.{numberOut, numberEnd, regionOut, regionEnd, NumberRead, RegionRead}
 use Rattle.plan.specs.declared.field.Number.the-variants.{Is, Missing}
 use Rattle.plan.specs.declared.field.RegionField.the-variants.{Is as IsRegion, Missing as NoRegion}
 
 -- ---- regions and requests have one width
-abbrev threeNumbers : List ℕ → ℕ × (ℕ × ℕ)
-threeNumbers b = (little (take 8 b), (little (take 8 (drop 8 b)), little (take 8 (drop 8 (drop 8 b)))))
+abbrev longsIn : List ℕ → List ℕ
+longsIn b = tab regionNumbers (λ i. little (take longSize (drop (i * longSize) b)))
+
+unfoldable pub regionValue : List ℕ → Region
+regionValue b = regionTo (longsIn b)
 
 abbrev pub askedIn : List ℕ → Asked
-askedIn b = askedTo (little (take 4 b), (little (take 4 (drop 4 b)), regionTo (threeNumbers (drop 4 (drop 4 b)))))
+askedIn b = askedTo (little (take 4 b), (little (take 4 (drop 4 b)), regionValue (drop 4 (drop 4 b))))
 
-abbrev pub regionValue : List ℕ → Region
-regionValue b = regionTo (threeNumbers b)
-
-pub wide-region : Wide regionNumbers 24 regionValue
+pub wide-region : Wide regionFormat regionSize regionValue
+unfolding regionValue
 wide-region =
-    wide-as (both long (both long long)) regionTo regionFrom 24 threeNumbers
-    (wide-both long (both long long) 8 16 (λ b. little (take 8 b))
-    (λ b. (little (take 8 b), little (take 8 (drop 8 b)))) (wide-number 8)
-    (wide-both long long 8 8 (λ b. little (take 8 b)) (λ b. little (take 8 b)) (wide-number 8) (wide-number 8)))
+    wide-as (many long regionNumbers) regionTo numbersOf regionSize longsIn
+    (wide-many long longSize (λ b. little (take longSize b)) (wide-number longSize) regionNumbers)
 
-abbrev pub fiveNumbers : Format Asked
-fiveNumbers = as-type (both short (both short regionNumbers)) askedTo askedFrom
+abbrev pub askedFormat : Format Asked
+askedFormat = as-type (both short (both short regionFormat)) askedTo askedFrom
 
-pub wide-asked : Wide fiveNumbers requestBytes askedIn
+pub wide-asked : Wide askedFormat requestSize askedIn
 wide-asked =
-    wide-as (both short (both short regionNumbers)) askedTo askedFrom requestBytes
-    (λ b. (little (take 4 b), (little (take 4 (drop 4 b)), regionTo (threeNumbers (drop 4 (drop 4 b))))))
-    (wide-both short (both short regionNumbers) 4 28 (λ b. little (take 4 b))
-    (λ b. (little (take 4 b), regionTo (threeNumbers (drop 4 b)))) (wide-number 4)
-    (wide-both short regionNumbers 4 24 (λ b. little (take 4 b)) (λ b. regionTo (threeNumbers b))
-    (wide-number 4) wide-region))
+    wide-as (both short (both short regionFormat)) askedTo askedFrom requestSize
+    (λ b. (little (take 4 b), (little (take 4 (drop 4 b)), regionValue (drop 4 (drop 4 b)))))
+    (wide-both short (both short regionFormat) 4 (4 + regionSize) (λ b. little (take 4 b))
+    (λ b. (little (take 4 b), regionValue (drop 4 b))) (wide-number 4)
+    (wide-both short regionFormat 4 regionSize (λ b. little (take 4 b)) regionValue (wide-number 4) wide-region))
+
+-- a region at a place is that of the bytes from there on
+pub in-bytes : (s : List ℕ) (at : ℕ) → regionIn s at ≡ regionValue (drop at s)
+unfolding regionIn regionValue part tab places
+in-bytes s at = λ j. regionBy (λ i. little (take longSize (sym (drop-drop (i * longSize) at s) j)))
 
 -- ---- the code's number
 module _ (s : List ℕ) (at : ℕ) (h : at ≤ length s) where
@@ -78,30 +84,20 @@ count-judged lo hi c h =
 
 -- ---- the code's region
 module _ (s : List ℕ) (at : ℕ) (h : at ≤ length s) where
-  pub region-missing : length s - at < regionBytes → RegionRead s at (regionField .read (drop at s)) NoRegion
+  pub region-missing : length s - at < regionSize → RegionRead s at (regionField .read (drop at s)) NoRegion
   unfolding regionOut regionEnd
   region-missing l = record {
-    read = field-short regionNumbers regionBytes regionValue wide-region (drop at s) (omega (arith, length-drop at s));
+    read = field-short regionFormat regionSize regionValue wide-region (drop at s) (omega (arith, length-drop at s));
     within = h;
   }
 
-  pub region-is : regionBytes ≤ length s - at → (v p n : ℕ) → v ≡ little (part at 8 s) → p ≡ little (part (at + 8) 8 s)
-      → n ≡ little (part (at + 16) 8 s)
-      → RegionRead s at (regionField .read (drop at s))
-      (IsRegion (record { v = record { 0 = v }; p = record { 0 = p }; size = n }))
-  unfolding regionOut regionEnd part
-  region-is l v p n ev ep en =
-      let e8 : drop 8 (drop at s) ≡ drop (at + 8) s = drop-drop 8 at s in
-      let e16 : drop 8 (drop 8 (drop at s)) ≡ drop (at + 16) s =
-      (let k : at + 8 + 8 ≡ at + 16 = omega arith in
-      ap (drop 8) e8 ∙ drop-drop 8 (at + 8) s ∙ ap (λ (j : ℕ). drop j s) k) in
-      record {
-        read =
-            field-there regionNumbers regionBytes regionValue wide-region (drop at s) (omega (arith, length-drop at s))
-            ∙ (λ i. got (record {
-              v = record { 0 = sym ev i };
-              p = record { 0 = (ap (λ (b : List ℕ). little (take 8 b)) e8 ∙ sym ep) i };
-              size = (ap (λ (b : List ℕ). little (take 8 b)) e16 ∙ sym en) i;
-            }) (drop-drop regionBytes at s i));
-        within = omega arith;
-      }
+  pub region-is : regionSize ≤ length s - at → (e : ℕ) (r : Region) → at + regionSize ≤ e
+      → r ≡ regionIn (take (e - at) (drop at s)) 0 → RegionRead s at (regionField .read (drop at s)) (IsRegion r)
+  unfolding regionOut regionEnd
+  region-is l e r w q = record {
+    read =
+        field-there regionFormat regionSize regionValue wide-region (drop at s) (omega (arith, length-drop at s))
+        ∙ ap₂ (λ (x : Region) (t : List ℕ). got x t) (sym (q ∙ region-within s at e w ∙ in-bytes s at))
+        (drop-drop regionSize at s);
+    within = omega arith;
+  }

@@ -20,11 +20,12 @@ use Rattle.formats.specs.Formats.{Out, got, bad, left, then, readNumber, within
 use Rattle.formats.specs.Formats.{readBoth, readAs, listed}
 use Rattle.formats.proofs.Formats.{Part, many-got}
 use Rattle.rules.specs.Applying.{sameList, sameZone}
+use Rattle.rules.specs.Fields.{regionSize}
 use Rattle.rules.specs.Limits.{mostZones, mostInSet, limits}
-use Rattle.rules.specs.Plan.{regionNumbers, regionField, setFormat, zoneTo, zoneFormat, regionsSection, zonesSection}
+use Rattle.rules.specs.Plan.{regionFormat, regionField, setFormat, zoneTo, zoneFormat, regionsSection, zonesSection}
 use Rattle.rules.specs.Plan.{RegionFits}
 use Rattle.rules.specs.Regions.{regionEq}
-use Rattle.rules.specs.Run.{numberAt}
+use Rattle.rules.specs.Run.{regionIn}
 use Rattle.rules.specs.Tables.{Zone}
 use Rattle.rules.specs.declared.Region.{Region}
 use Rattle.rules.specs.declared.Side.the-variants.{Cpu, Iommu}
@@ -33,11 +34,12 @@ use Rattle.rules.proofs.Plan.{lawful-region-field, lawful-list, lawful-zone}
 use Rattle.rules.proofs.Regions.{equal-same}
 use Rattle.zones.specs.Layout.{regionWords, setWords, zoneBase, zoneStart, setBase, configCount, configGic}
 use Rattle.zones.specs.Layout.{configRecords}
-use Rattle.zones.specs.Records.{regionAt, recordAt, recordsAt}
+use Rattle.zones.specs.Records.{regionAt, recordAt, recordsAt, holdsAt}
 use Rattle.zones.specs.View.{setIn, zoneIn, zonesIn}
 use Rattle.zones.proofs.Readers.{start-is}
-use Rattle.zones.proofs.Running.{own-number}
-use Rattle.plan.specs.Fields.{regionBytes, regionIn, numberOut, NumberRead}
+use Rattle.zones.proofs.Records.{held-there}
+use Rattle.zones.proofs.Running.{region-within}
+use Rattle.plan.specs.Fields.{numberOut, NumberRead}
 use Rattle.plan.specs.Held.{twoSets, heldAnswer, isHeld, sameRecord, holdsRegions, holdsSets, configHeld}
 use Rattle.plan.specs.Held.{tableHeld}
 use Rattle.plan.specs.Sections.{sectionAnswer}
@@ -47,7 +49,7 @@ use Rattle.plan.specs.declared.field.Number.{Number}
 use Rattle.plan.specs.declared.field.Number.the-variants.{Is, Missing}
 use Rattle.plan.specs.declared.words.Section.{Section}
 use Rattle.plan.specs.declared.words.Section.the-variants.{End, Bad}
-use Rattle.plan.proofs.Fields.{regionValue, wide-region}
+use Rattle.plan.proofs.Fields.{regionValue, wide-region, in-bytes}
 use Rattle.plan.proofs.Into.{number-within, count-missing, count-out, count-in, count-most}
 use Rattle.plan.proofs.Locating.{set-part, zone-part}
 use Rattle.plan.proofs.Offsets.{place, part-in, end-within, ends-with}
@@ -151,24 +153,12 @@ module _ {A B C : Type 0} (n : ℕ) (o : Out A) (g : List ℕ → Out B) (to : A
           ap (λ (b : Bool). cond b (Same (n - length u)) Other) (sym (law x y ∙ ap (λ (b : Bool). b && q y) h))
       by (bad k u) = refl
 
--- ---- a record
-pub region-read : (s : List ℕ) (v p n : ℕ) → v ≡ little (part 0 8 s) → p ≡ little (part 8 8 s) → n ≡ little (part 16 8 s)
-    → _≡_ {A = Region} (record { v = record { 0 = v }; p = record { 0 = p }; size = n }) (regionIn s 0)
-unfolding regionIn
-region-read s v p n ev ep en = (λ i. record { v = record { 0 = ev i }; p = record { 0 = ep i }; size = en i })
-
--- a region that was read from its own bytes, which end at e
-pub record-same : (s w : List ℕ) (at e k : ℕ) (r : Region) (b : Bool) → at + regionBytes ≤ e
-    → r ≡ regionIn (take (e - at) (drop at s)) 0
-    → b ≡ regionEq (record { v = record { 0 = getD w k 0 }; p = record { 0 = getD w (k + 1) 0 }; size = getD w (k + 2) 0 }) r
+-- ---- a record: the region is read from its own bytes, which end at e
+pub record-same : (s w : List ℕ) (at e k : ℕ) (r : Region) (b : Bool) → at + regionSize ≤ e
+    → k + regionWords ≤ length w → r ≡ regionIn (take (e - at) (drop at s)) 0 → b ≡ holdsAt w k r
     → b ≡ regionEq (regionAt w k) (regionIn s at)
-unfolding regionAt regionIn
-record-same s w at e k r b h er eb =
-    let z : at + 0 ≡ at = omega arith in
-    let v : numberAt 8 (take (e - at) (drop at s)) 0 ≡ numberAt 8 s at = own-number s at e 0 8 (omega arith) ∙ ap (numberAt 8 s) z in
-    let p : numberAt 8 (take (e - at) (drop at s)) 8 ≡ numberAt 8 s (at + 8) = own-number s at e 8 8 (omega arith) in
-    let n : numberAt 8 (take (e - at) (drop at s)) 16 ≡ numberAt 8 s (at + 16) = own-number s at e 16 8 (omega arith) in
-    eb ∙ ap (regionEq (regionAt w k)) (er ∙ (λ i. record { v = record { 0 = v i }; p = record { 0 = p i }; size = n i }))
+record-same s w at e k r b h l er eb =
+    held-there w k r b l eb ∙ ap (regionEq (regionAt w k)) (er ∙ region-within s at e h)
 
 -- ---- records one after another
 module _ (s w : List ℕ) (at a n i : ℕ) (R : Bool) (inv : all (sameRecord s at w a) (places i (n - i)) ≡ R) where
@@ -179,7 +169,7 @@ module _ (s w : List ℕ) (at a n i : ℕ) (R : Bool) (inv : all (sameRecord s a
       sym (ap (λ (m : ℕ). all (sameRecord s at w a) (places i m)) e) ∙ inv
 
   module _ (b : Bool) (h : i < n) (e : b ≡ regionEq (regionAt w (a + i * regionWords))
-      (regionIn s (at + i * regionBytes))) where
+      (regionIn s (at + i * regionSize))) where
     told : b ≡ sameRecord s at w a i
     unfolding sameRecord recordAt
     told = e
@@ -220,20 +210,6 @@ unfolding sameList all places
 same-tabs e f g k zero = refl
 same-tabs e f g k (suc n) = ap (λ (b : Bool). e (f k) (g k) && b) (same-tabs e f g (suc k) n)
 
--- a region's bytes
-in-bytes : (s : List ℕ) (j : ℕ) → regionIn s j ≡ regionValue (drop j s)
-unfolding regionIn part
-in-bytes s j =
-    let e8 : drop 8 (drop j s) ≡ drop (j + 8) s = drop-drop 8 j s in
-    let e16 : drop 8 (drop 8 (drop j s)) ≡ drop (j + 16) s =
-    (let m : j + 8 + 8 ≡ j + 16 = omega arith in
-    ap (drop 8) e8 ∙ drop-drop 8 (j + 8) s ∙ ap (λ (i : ℕ). drop i s) m) in
-    (λ i. record {
-      v = record { 0 = little (take 8 (drop j s)) };
-      p = record { 0 = little (take 8 (sym e8 i)) };
-      size = little (take 8 (sym e16 i));
-    })
-
 module _ (s w : List ℕ) (start lo hi k a : ℕ) (r : Section)
     (er : r ≡ sectionAnswer (length s) (listed 4 lo hi regionField .read (drop start s))) where
   abbrev listAt : Out (List Region)
@@ -253,8 +229,8 @@ module _ (s w : List ℕ) (start lo hi k a : ℕ) (r : Section)
     abbrev xs : List Region
     xs = value .0
 
-    facts : Listed regionNumbers regionBytes regionValue wide-region lo hi (drop start s) xs (drop e s)
-    facts = list-read regionNumbers regionBytes regionValue wide-region lo hi (drop start s) xs (drop e s) (value .1)
+    facts : Listed regionFormat regionSize regionValue wide-region lo hi (drop start s) xs (drop e s)
+    facts = list-read regionFormat regionSize regionValue wide-region lo hi (drop start s) xs (drop e s) (value .1)
 
     many : length xs ≡ n
     unfolding part
@@ -263,7 +239,7 @@ module _ (s w : List ℕ) (start lo hi k a : ℕ) (r : Section)
     pub records-room : a + hi * regionWords ≤ length w → a + n * regionWords ≤ length w
     records-room h = omega (arith, many, facts .most)
 
-    pub bytes-there : start + 4 + n * regionBytes ≤ length s
+    pub bytes-there : start + 4 + n * regionSize ≤ length s
     bytes-there = omega (arith, many, facts .there, length-drop start s)
 
     -- as many regions are asked for as the words count, or not
@@ -278,18 +254,18 @@ module _ (s w : List ℕ) (start lo hi k a : ℕ) (r : Section)
 
     -- each is the record's, or not
     same-each : getD w k 0 ≡ n → all (sameRecord s (start + 4) w a) (places 0 n) ≡ holdsRegions w k a xs
-    unfolding holdsRegions recordsAt sameRecord tab regionIn part
+    unfolding holdsRegions recordsAt sameRecord tab
     same-each q =
-        let there : (i : ℕ) → drop (i * regionBytes) (drop 4 (drop start s)) ≡ drop (start + 4 + i * regionBytes) s =
-        λ i. ap (drop (i * regionBytes)) (drop-drop 4 start s) ∙ drop-drop (i * regionBytes) (start + 4) s in
+        let there : (i : ℕ) → drop (i * regionSize) (drop 4 (drop start s)) ≡ drop (start + 4 + i * regionSize) s =
+        λ i. ap (drop (i * regionSize)) (drop-drop 4 start s) ∙ drop-drop (i * regionSize) (start + 4) s in
         let field : (i : ℕ)
-        → regionIn s (start + 4 + i * regionBytes) ≡ regionValue (drop (i * regionBytes) (drop 4 (drop start s))) =
-        λ i. in-bytes s (start + 4 + i * regionBytes) ∙ ap regionValue (sym (there i)) in
+        → regionIn s (start + 4 + i * regionSize) ≡ regionValue (drop (i * regionSize) (drop 4 (drop start s))) =
+        λ i. in-bytes s (start + 4 + i * regionSize) ∙ ap regionValue (sym (there i)) in
         (λ j. all (λ i. regionEq (recordAt w a i) (field i j)) (places 0 n))
-        ∙ sym (same-tabs regionEq (recordAt w a) (λ i. regionValue (drop (i * regionBytes) (drop 4 (drop start s)))) 0
+        ∙ sym (same-tabs regionEq (recordAt w a) (λ i. regionValue (drop (i * regionSize) (drop 4 (drop start s)))) 0
         n)
         ∙ ap₂ (λ (m : ℕ) (ys : List Region). sameList regionEq (tab m (recordAt w a)) ys) (sym q)
-        (ap (λ (m : ℕ). tab m (λ i. regionValue (drop (i * regionBytes) (drop 4 (drop start s))))) (sym many)
+        (ap (λ (m : ℕ). tab m (λ i. regionValue (drop (i * regionSize) (drop 4 (drop start s))))) (sym many)
         ∙ sym (facts .each))
 
     module _ (b : Bool) (q : getD w k 0 ≡ n) (eb : b ≡ all (sameRecord s (start + 4) w a) (places 0 n)) where

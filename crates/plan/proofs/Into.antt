@@ -10,6 +10,7 @@ use lib.Seq.{sets}
 use Rattle.lists.proofs.Tests.{told-on, told-off}
 use Rattle.formats.specs.Formats.{Out, got, bad, when, then, readNumber, within, readCount}
 use Rattle.formats.proofs.Formats.{count-got}
+use Rattle.rules.specs.Fields.{regionSize}
 use Rattle.rules.specs.Limits.{mostInSet, mostZones}
 use Rattle.rules.specs.Plan.{regionField}
 use Rattle.rules.specs.declared.Region.{Region}
@@ -17,7 +18,7 @@ use Rattle.zones.specs.Layout.{regionWords, setWords, tableWords, zoneBase, zon
 use Rattle.zones.specs.Records.{wordsOfRegion, placed}
 use Rattle.zones.proofs.Readers.{start-is}
 use Rattle.zones.proofs.Records.{has-room}
-use Rattle.plan.specs.Fields.{regionBytes, numberOut, numberEnd, regionOut, regionEnd, NumberRead, RegionRead}
+use Rattle.plan.specs.Fields.{numberOut, numberEnd, regionOut, regionEnd, NumberRead, RegionRead}
 use Rattle.plan.specs.Into.{Step, on, stop, given, andThen, times, putRecord, recordInto, putSet, setInto}
 use Rattle.plan.specs.Into.{setsInto, putZone, zoneInto, putZones, zonesInto, stepOf, sectionPlace, Reads}
 use Rattle.plan.specs.declared.field.RegionField.{RegionField}
@@ -112,12 +113,12 @@ module _ (s w : List ℕ) (at a i : ℕ) (o : RegionField) (read : RegionRead s 
       (ap (λ (x : Out Region). given w x (putRecord a i w)) (read .read ∙ ap (regionOut s at) e)) h
 
   pub record-ends : (r : Region) (v : List ℕ) → o ≡ IsRegion r → v ≡ placed w (a + i * regionWords) r
-      → a + (i + 1) * regionWords ≤ length w → Reads s v (End (at + regionBytes)) (recordInto a i w (drop at s))
+      → a + (i + 1) * regionWords ≤ length w → Reads s v (End (at + regionSize)) (recordInto a i w (drop at s))
   unfolding recordInto given regionOut putRecord regionEnd
   record-ends r v e p room =
-      ends-here s v (recordInto a i w (drop at s)) (at + regionBytes)
+      ends-here s v (recordInto a i w (drop at s)) (at + regionSize)
       (ap (λ (x : Out Region). given w x (putRecord a i w)) (read .read ∙ ap (regionOut s at) e)
-      ∙ ap (λ (u : List ℕ). on u (drop (at + regionBytes) s))
+      ∙ ap (λ (u : List ℕ). on u (drop (at + regionSize) s))
       (has-room w (a + i * regionWords) r (sets w (a + i * regionWords) (wordsOfRegion r)) (omega arith) refl ∙ sym p))
       (rw e at (read .within))
 

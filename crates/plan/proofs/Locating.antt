@@ -13,16 +13,17 @@ use Rattle.formats.specs.Formats.{Out, got, bad, left, then, Format, readNumber
 use Rattle.formats.specs.Formats.{readHeaded, readBoth, readAs, atEnd, readFile, number, both, as-type, listed}
 use Rattle.formats.proofs.Formats.{Part, then-got, count-got}
 use Rattle.formats.proofs.Widths.{number-there, number-short, wide-number, wide-both, wide-as, wide-got}
+use Rattle.rules.specs.Fields.{regionSize}
 use Rattle.rules.specs.Limits.{mostRegions, mostZones, mostInSet, mostRequests, limits}
-use Rattle.rules.specs.Plan.{short, regionNumbers, regionField, marksTo, marksFrom, setFormat, zoneTo, zoneFormat}
+use Rattle.rules.specs.Plan.{short, regionFormat, regionField, marksTo, marksFrom, setFormat, zoneTo, zoneFormat}
 use Rattle.rules.specs.Plan.{planTo, marksSection, regionsSection, zonesSection, requestsSection, readPlan, Asked}
 use Rattle.rules.specs.Plan.{Marks, RegionFits}
-use Rattle.rules.specs.Run.{requestBytes}
+use Rattle.rules.specs.Run.{requestSize}
 use Rattle.rules.specs.Tables.{Zone}
 use Rattle.rules.specs.declared.Region.{Region}
 use Rattle.rules.proofs.Plan.{lawful-region-field, lawful-list, lawful-zone, lawful-regions, lawful-zones}
 use Rattle.rules.proofs.Plan.{lawful-requests}
-use Rattle.plan.specs.Fields.{regionBytes, numberOut, NumberRead}
+use Rattle.plan.specs.Fields.{numberOut, NumberRead}
 use Rattle.plan.specs.Held.{twoSets}
 use Rattle.plan.specs.Found.{marksBytes, foundIn, leading, afterRequests, requestsFound, afterZones, zonesFound}
 use Rattle.plan.specs.Found.{afterRegions, regionsFound, afterMarks, marksFound}
@@ -35,7 +36,7 @@ use Rattle.plan.specs.declared.sections.Marks.{Marks as MarksAre}
 use Rattle.plan.specs.declared.sections.Marks.the-variants.{Are, Bad as BadMarks}
 use Rattle.plan.specs.declared.words.Section.{Section}
 use Rattle.plan.specs.declared.words.Section.the-variants.{End, Bad}
-use Rattle.plan.proofs.Fields.{askedIn, fiveNumbers, wide-asked, regionValue, wide-region}
+use Rattle.plan.proofs.Fields.{askedIn, askedFormat, wide-asked, regionValue, wide-region}
 use Rattle.plan.proofs.Into.{number-within, count-missing, count-out, count-in}
 use Rattle.plan.proofs.Offsets.{place, rest-of, part-in, left-within, end-within, bad-within, ends-with}
 use Rattle.plan.proofs.Passing.{Listed, list-read}
@@ -240,15 +241,15 @@ module _ (s : List ℕ) (gic edition base : ℕ) (r : Section)
     unfolding afterRegions
     regions-lead v h =
         let (rs, o) = ends-with s _ regions-part r er e g in
-        let read = list-read regionNumbers regionBytes regionValue wide-region 1 mostRegions s rs (drop e s) o in
+        let read = list-read regionFormat regionSize regionValue wide-region 1 mostRegions s rs (drop e s) o in
         let l : e ≤ length s = regions-end in
-        let at : base + e ≡ base + (4 + length rs * regionBytes) =
+        let at : base + e ≡ base + (4 + length rs * regionSize) =
         omega (
           arith,
           read .there,
           ap length (read .rest),
           length-drop e s,
-          length-drop (4 + length rs * regionBytes) s,
+          length-drop (4 + length rs * regionSize) s,
         ) in
         h ∙ ap (λ (b : List ℕ). zonesFound gic edition (base + e) (base + e + length b) b) (rest-of s e)
         ∙ ap₂ (λ (z n : ℕ). zonesFound gic edition z n (drop e s)) at (next-base s e base l)
@@ -290,11 +291,11 @@ module _ (s : List ℕ) (gic edition base : ℕ) (r : Section)
 
 -- ---- the requests: so many of one width
 pub requests-read : (s : List ℕ) (qs : List Asked) (t : List ℕ) → requestsSection limits .read s ≡ got qs t
-    → (4 + length qs * requestBytes + length t ≡ length s)
-    × (qs ≡ tab (length qs) (λ i. askedIn (drop (i * requestBytes) (drop 4 s))))
+    → (4 + length qs * requestSize + length t ≡ length s)
+    × (qs ≡ tab (length qs) (λ i. askedIn (drop (i * requestSize) (drop 4 s))))
 requests-read s qs t e =
-    let read = list-read fiveNumbers requestBytes askedIn wide-asked 0 mostRequests s qs t e in
-    (omega (arith, read .there, ap length (read .rest), length-drop (4 + length qs * requestBytes) s), read .each)
+    let read = list-read askedFormat requestSize askedIn wide-asked 0 mostRequests s qs t e in
+    (omega (arith, read .there, ap length (read .rest), length-drop (4 + length qs * requestSize) s), read .each)
 
 module _ (s : List ℕ) (base gic edition zones : ℕ) (r : Section)
     (er : r ≡ sectionAnswer (length s) (requestsSection limits .read s)) where
@@ -322,7 +323,7 @@ module _ (s : List ℕ) (base gic edition zones : ℕ) (r : Section)
 
   module _ (e : ℕ) (g : r ≡ End e) where
     found : (qs : List Asked) × (requestsSection limits .read s ≡ got qs (drop e s))
-        × (4 + length qs * requestBytes + length (drop e s) ≡ length s)
+        × (4 + length qs * requestSize + length (drop e s) ≡ length s)
     found = let (qs, o) = ends-with s _ requests-part r er e g in (qs, o, requests-read s qs (drop e s) o .0)
 
     pub requests-start : base + length s < 2 ^ 64 → base + 4 < 2 ^ 64
@@ -357,11 +358,11 @@ module _ (s : List ℕ) (base gic edition zones : ℕ) (r : Section)
         (base + length s) (then x atEnd)) o)
       where
         by : (qs : List Asked) (u : List ℕ) → length u ≡ length s - e
-            → 4 + length qs * requestBytes + length u ≡ length s
+            → 4 + length qs * requestSize + length u ≡ length s
             → At gic edition zones (base + 4) ≡ leading (afterRequests gic edition zones (base + length s))
             (base + length s) (atEnd qs u)
         by qs [] m l =
-            let place : base + 4 ≡ base + length s - length qs * requestBytes = omega arith in
+            let place : base + 4 ≡ base + length s - length qs * requestSize = omega arith in
             ap (At gic edition zones) place
         by qs (x ∷ u) m l = absurd (omega arith)
 
@@ -382,7 +383,7 @@ marks-got s m t e =
 -- a plan is its sections, one after another
 module _ (n : ℕ) where
   with-requests : (m : Marks) (rs : List Region) (zs : List Zone) (o : Out (List Asked))
-      → leading (afterRequests (m .gic) (m .edition) (marksBytes + (4 + length rs * regionBytes)) n) n (then o atEnd)
+      → leading (afterRequests (m .gic) (m .edition) (marksBytes + (4 + length rs * regionSize)) n) n (then o atEnd)
       ≡ foundIn n (then (then (then (then (then o (λ qs t. got (zs, qs) t)) (λ y t. got (rs, y) t))
       (λ y t. got (m, y) t)) (λ x t. got (planTo x) t)) atEnd)
   unfolding then leading atEnd afterRequests foundIn
@@ -391,7 +392,7 @@ module _ (n : ℕ) where
   with-requests m rs zs (bad k u) = refl
 
   with-zones : (m : Marks) (rs : List Region) (o : Out (List Zone))
-      → leading (afterZones (m .gic) (m .edition) (marksBytes + (4 + length rs * regionBytes)) n) n o
+      → leading (afterZones (m .gic) (m .edition) (marksBytes + (4 + length rs * regionSize)) n) n o
       ≡ foundIn n (then (then (then (then (then o
       (λ zs s. then (requestsSection limits .read s) (λ qs t. got (zs, qs) t))) (λ y t. got (rs, y) t))
       (λ y t. got (m, y) t)) (λ x t. got (planTo x) t)) atEnd)

@@ -17,7 +17,7 @@ use Rattle.rules.specs.Configuration.{configOf}
 use Rattle.rules.specs.Limits.{limits}
 use Rattle.rules.specs.Plan.{regionsSection, zonesSection, requestsOf, readPlan, Plan}
 use Rattle.rules.specs.Requests.{standing}
-use Rattle.rules.specs.Run.{requestBytes, requestsIn, run, ended, runAnswer, Run}
+use Rattle.rules.specs.Run.{requestSize, requestsIn, run, ended, runAnswer, Run}
 use Rattle.rules.specs.Tables.{tableOf, Zone}
 use Rattle.rules.specs.declared.Outcome.{Outcome}
 use Rattle.rules.specs.declared.Region.{Region}
@@ -158,7 +158,7 @@ module _ (c t : List ℕ) (ed : ℕ) (b : List ℕ) where
     number = baseNumber c t ed (p .marks .gic) (p .marks .edition) (drop 12 b) (drop (zonesAt b p left e) b)
 
     abbrev stretch : List ℕ
-    stretch = drop (length b - length (p .asked) * requestBytes) b
+    stretch = drop (length b - length (p .asked) * requestSize) b
 
     abbrev done : Run
     done = run limits (configOf (storedConfig c)) (tableOf (storedTable t)) (requestsOf p)
@@ -304,7 +304,7 @@ module _ (b : List ℕ) (r : Found) (er : r ≡ foundIn (length b) (readPlan lim
       pub gic-is : gic ≡ plan .marks .gic
       pub edition-is : edition ≡ plan .marks .edition
       pub zones-is : zones ≡ zonesAt b plan left read
-      pub requests-is : requests ≡ length b - length (plan .asked) * requestBytes
+      pub requests-is : requests ≡ length b - length (plan .asked) * requestSize
 
     whole : Whole
     unfolding foundIn
@@ -313,13 +313,13 @@ module _ (b : List ℕ) (r : Found) (er : r ≡ foundIn (length b) (readPlan lim
         by : (o : Out Plan) → readPlan limits b ≡ o → Whole
         by (got p t) e =
             let q : At (p .marks .gic) (p .marks .edition) (zonesAt b p t e)
-            (length b - length (p .asked) * requestBytes)
+            (length b - length (p .asked) * requestSize)
             ≡ At gic edition zones requests =
             sym (er ∙ ap (foundIn (length b)) e) ∙ f in
             let g : gic ≡ p .marks .gic = cc in
             let d : edition ≡ p .marks .edition = cc in
             let z : zones ≡ zonesAt b p t e = cc in
-            let n : requests ≡ length b - length (p .asked) * requestBytes = cc in
+            let n : requests ≡ length b - length (p .asked) * requestSize = cc in
             record { plan = p; left = t; read = e; gic-is = g; edition-is = d; zones-is = z; requests-is = n }
         by (bad j t) e =
             absurd (let q : BadFound j (length b - length t)
@@ -346,18 +346,18 @@ module _ (b : List ℕ) (r : Found) (er : r ≡ foundIn (length b) (readPlan lim
         let z : take (length b - zones) (drop zones b) ≡ drop (zonesAt b (q .plan) (q .left) (q .read)) b =
         rest-of b zones ∙ ap (λ (i : ℕ). drop i b) (q .zones-is) in
         let n : take (length b - requests) (drop requests b)
-        ≡ drop (length b - length (q .plan .asked) * requestBytes) b =
+        ≡ drop (length b - length (q .plan .asked) * requestSize) b =
         rest-of b requests ∙ ap (λ (i : ℕ). drop i b) (q .requests-is) in
         found-is c w ed b (q .plan) (q .left) (q .read) v u
         (subst (λ (x : ℕ). FoundIn c w ed x (q .plan .marks .edition) (drop 12 b)
         (drop (zonesAt b (q .plan) (q .left) (q .read)) b)
-        (drop (length b - length (q .plan .asked) * requestBytes) b) v u) (q .gic-is)
+        (drop (length b - length (q .plan .asked) * requestSize) b) v u) (q .gic-is)
         (subst (λ (x : ℕ). FoundIn c w ed gic x (drop 12 b) (drop (zonesAt b (q .plan) (q .left) (q .read)) b)
-        (drop (length b - length (q .plan .asked) * requestBytes) b) v u) (q .edition-is)
+        (drop (length b - length (q .plan .asked) * requestSize) b) v u) (q .edition-is)
         (subst (λ (x : List ℕ). FoundIn c w ed gic edition x (drop (zonesAt b (q .plan) (q .left) (q .read)) b)
-        (drop (length b - length (q .plan .asked) * requestBytes) b) v u) (rest-of b 12)
+        (drop (length b - length (q .plan .asked) * requestSize) b) v u) (rest-of b 12)
         (subst (λ (x : List ℕ). FoundIn c w ed gic edition (take (length b - 12) (drop 12 b)) x
-        (drop (length b - length (q .plan .asked) * requestBytes) b) v u) z
+        (drop (length b - length (q .plan .asked) * requestSize) b) v u) z
         (subst (λ (x : List ℕ). FoundIn c w ed gic edition (take (length b - 12) (drop 12 b))
         (take (length b - zones) (drop zones b)) x v u) n h)))))
 
@@ -488,7 +488,7 @@ module _ (b : List ℕ) (r : Read) (er : r ≡ readAnswer (length b) (readPlan l
       by : (o : Out Plan) → readPlan limits b ≡ o
           → _≡_ {A = Outcome} (record { number = k; place = a; inner = 0 }) (answerRead limits b (readPlan limits b))
       by (got p t) e =
-          absurd (let q : End (length b - length (p .asked) * requestBytes)
+          absurd (let q : End (length b - length (p .asked) * requestSize)
           ≡ Bad k a = sym (ap (λ (x : Read). x .requests) (er ∙ ap (readAnswer (length b)) e))
           ∙ f in
           let z : _≡_ {A = ℕ} 0 1 = cc in

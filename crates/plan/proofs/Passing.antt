@@ -14,15 +14,15 @@ use Rattle.lists.proofs.Places.{length-tab}
 use Rattle.formats.specs.Formats.{Out, got, bad, then, Format, readNumber, field, readMany, within, readCount}
 use Rattle.formats.specs.Formats.{readHeaded, listed, number}
 use Rattle.formats.proofs.Formats.{then-got, count-got}
-use Rattle.formats.proofs.Widths.{Wide, number-there, wide-number, wide-got, field-there, field-short, fields-there}
-use Rattle.formats.proofs.Widths.{fields-cut}
-use Rattle.plan.specs.Fields.{regionBytes, NumberRead}
+use Rattle.formats.proofs.Widths.{Wide, number-there, wide-number, wide-got, wide-field, fields-there, fields-cut}
+use Rattle.rules.specs.Fields.{regionSize}
+use Rattle.plan.specs.Fields.{NumberRead}
 use Rattle.plan.specs.Sections.{sectionAnswer}
 use Rattle.plan.specs.declared.field.Number.{Number}
 use Rattle.plan.specs.declared.field.Number.the-variants.{Is, Missing}
 use Rattle.plan.specs.declared.words.Section.{Section}
 use Rattle.plan.specs.declared.words.Section.the-variants.{End, Bad}
-use Rattle.rules.specs.Plan.{regionNumbers}
+use Rattle.rules.specs.Plan.{regionFormat}
 use Rattle.rules.specs.declared.Region.{Region}
 use Rattle.plan.proofs.Fields.{regionValue, wide-region}
 use Rattle.plan.proofs.Into.{count-missing, count-out, count-in, number-within}
@@ -30,9 +30,6 @@ use Rattle.plan.proofs.Offsets.{place}
 
 module _ {A : Type 0} (F : Format A) (k : ℕ) (f : List ℕ → A) (wide : Wide F k f) where
   -- ---- what was read was all there
-  wide-field : Wide (field F) k f
-  wide-field = record { there = field-there F k f wide; short = λ b h. (b, field-short F k f wide b h) }
-
   fields-enough : (n : ℕ) (b : List ℕ) (xs : List A) (t : List ℕ) → readMany (field F) n b ≡ got xs t → n * k ≤ length b
   unfolding readMany
   fields-enough zero b xs t e = omega (arith, zero-mul k)
@@ -40,7 +37,7 @@ module _ {A : Type 0} (F : Format A) (k : ℕ) (f : List ℕ → A) (wide : Wide
       let (x, s, ex, er) =
       then-got (field F .read b) (λ x s. then (readMany (field F) n s) (λ ys u. got (x ∷ ys) u)) xs t e in
       let (ys, u, ey, eu) = then-got (readMany (field F) n s) (λ ys u. got (x ∷ ys) u) xs t er in
-      let (l, es) = wide-got (field F) k f wide-field b x s ex in
+      let (l, es) = wide-got (field F) k f (wide-field F k f wide) b x s ex in
       omega (arith, suc-mul n k, fields-enough n s ys u ey, ap length es, length-drop k b)
 
   pub record Listed (lo hi : ℕ) (b : List ℕ) (xs : List A) (t : List ℕ) : Type 0 where
@@ -115,25 +112,25 @@ module _ {A : Type 0} (F : Format A) (k : ℕ) (f : List ℕ → A) (wide : Wide
 -- ---- regions
 module _ (lo hi : ℕ) (s : List ℕ) (at : ℕ) (c : Number) (read : NumberRead s at (readNumber 4 (drop at s)) c) where
   abbrev regionsAt : Out (List Region)
-  regionsAt = listed 4 lo hi (field regionNumbers) .read (drop at s)
+  regionsAt = listed 4 lo hi (field regionFormat) .read (drop at s)
 
   pub passed-none : at ≤ length s → c ≡ Missing → Bad 20 at ≡ sectionAnswer (length s) regionsAt
-  passed-none = list-none regionNumbers regionBytes regionValue wide-region lo hi s at c read
+  passed-none = list-none regionFormat regionSize regionValue wide-region lo hi s at c read
 
   module _ (n : ℕ) (b : Bool) (e : c ≡ Is n) (t : b ≡ within lo hi n) where
     pub passed-out : at ≤ length s → not b ≡ true → Bad 21 at ≡ sectionAnswer (length s) regionsAt
-    passed-out = list-out regionNumbers regionBytes regionValue wide-region lo hi s at c read n b e t
+    passed-out = list-out regionFormat regionSize regionValue wide-region lo hi s at c read n b e t
 
     module _ (h : not b ≡ false) where
-      pub passed-cut : length s - (at + 4) < n * regionBytes
-          → Bad 20 (at + 4 + (length s - (at + 4)) / regionBytes * regionBytes) ≡ sectionAnswer (length s) regionsAt
+      pub passed-cut : length s - (at + 4) < n * regionSize
+          → Bad 20 (at + 4 + (length s - (at + 4)) / regionSize * regionSize) ≡ sectionAnswer (length s) regionsAt
       passed-cut g =
           let l : at + 4 ≤ length s = number-within s at c read n e in
-          list-cut regionNumbers regionBytes regionValue wide-region lo hi s at c read n b e t h
-          ((length s - (at + 4)) / regionBytes) (omega arith) (omega arith) (omega arith)
+          list-cut regionFormat regionSize regionValue wide-region lo hi s at c read n b e t h
+          ((length s - (at + 4)) / regionSize) (omega arith) (omega arith) (omega arith)
 
-      pub passed-end : n * regionBytes ≤ length s - (at + 4)
-          → End (at + 4 + n * regionBytes) ≡ sectionAnswer (length s) regionsAt
+      pub passed-end : n * regionSize ≤ length s - (at + 4)
+          → End (at + 4 + n * regionSize) ≡ sectionAnswer (length s) regionsAt
       passed-end g =
           let l : at + 4 ≤ length s = number-within s at c read n e in
-          list-end regionNumbers regionBytes regionValue wide-region lo hi s at c read n b e t h (omega arith)
+          list-end regionFormat regionSize regionValue wide-region lo hi s at c read n b e t h (omega arith)

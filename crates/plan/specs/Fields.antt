@@ -3,26 +3,13 @@ use Prim.Native.Nat.{ℕ, _+_, _≤_}
 use mathlib.Core.List.{List}
 use mathlib.Core.Path.{_≡_}
 use lib.ListN.{length, drop}
-use Rattle.lists.specs.Bytes.{little}
-use Rattle.lists.specs.Words.{part}
 use Rattle.formats.specs.Formats.{Out, got, bad}
+use Rattle.rules.specs.Fields.{regionSize}
 use Rattle.rules.specs.declared.Region.{Region}
 use Rattle.plan.specs.declared.field.Number.{Number}
 use Rattle.plan.specs.declared.field.Number.the-variants.{Is, Missing}
 use Rattle.plan.specs.declared.field.RegionField.{RegionField}
 use Rattle.plan.specs.declared.field.RegionField.the-variants.{Is as IsRegion, Missing as NoRegion}
-
--- bytes of a region
-abbrev pub regionBytes : ℕ
-regionBytes = 24
-
--- the region whose bytes begin at a place of s
-unfoldable pub regionIn : List ℕ → ℕ → Region
-regionIn s at = record {
-  v = record { 0 = little (part at 8 s) };
-  p = record { 0 = little (part (at + 8) 8 s) };
-  size = little (part (at + 16) 8 s);
-}
 
 -- a number of 4 bytes at a place of s
 unfoldable pub numberOut : List ℕ → ℕ → Number → Out ℕ
@@ -39,11 +26,11 @@ pub record NumberRead (s : List ℕ) (at : ℕ) (o : Out ℕ) (r : Number) : Typ
 
 -- a region at a place of s
 unfoldable pub regionOut : List ℕ → ℕ → RegionField → Out Region
-regionOut s at (IsRegion x) = got x (drop (at + regionBytes) s)
+regionOut s at (IsRegion x) = got x (drop (at + regionSize) s)
 regionOut s at NoRegion = bad 20 (drop at s)
 
 unfoldable pub regionEnd : ℕ → RegionField → ℕ
-regionEnd at (IsRegion x) = at + regionBytes
+regionEnd at (IsRegion x) = at + regionSize
 regionEnd at NoRegion = at
 
 pub record RegionRead (s : List ℕ) (at : ℕ) (o : Out Region) (r : RegionField) : Type 0 where

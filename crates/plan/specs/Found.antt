@@ -3,12 +3,12 @@ use Prim.Native.Nat.{ℕ, _+_, _-_, _*_}
 use mathlib.Core.List.{List}
 use lib.ListN.{length}
 use Rattle.formats.specs.Formats.{Out, got, bad, readFile}
+use Rattle.rules.specs.Fields.{regionSize}
 use Rattle.rules.specs.Limits.{limits}
 use Rattle.rules.specs.Plan.{marksSection, regionsSection, zonesSection, requestsSection, Asked, Marks, Plan}
-use Rattle.rules.specs.Run.{requestBytes}
+use Rattle.rules.specs.Run.{requestSize}
 use Rattle.rules.specs.Tables.{Zone}
 use Rattle.rules.specs.declared.Region.{Region}
-use Rattle.plan.specs.Fields.{regionBytes}
 use Rattle.plan.specs.declared.finding.Found.{Found}
 use Rattle.plan.specs.declared.finding.Found.the-variants.{At, Bad}
 
@@ -19,8 +19,8 @@ marksBytes = 12
 -- a plan that reads whole: its regions follow the marks, and its requests are the last of its bytes
 unfoldable pub foundIn : ℕ → Out Plan → Found
 foundIn n (got p left) =
-    At (p .marks .gic) (p .marks .edition) (marksBytes + (4 + length (p .regions) * regionBytes))
-    (n - length (p .asked) * requestBytes)
+    At (p .marks .gic) (p .marks .edition) (marksBytes + (4 + length (p .regions) * regionSize))
+    (n - length (p .asked) * requestSize)
 foundIn n (bad k left) = Bad k (n - length left)
 
 -- ---- the same, section by section
@@ -30,7 +30,7 @@ leading f n (got x left) = f x left
 leading f n (bad k left) = Bad k (n - length left)
 
 unfoldable pub afterRequests : ℕ → ℕ → ℕ → ℕ → List Asked → List ℕ → Found
-afterRequests gic e z n asked left = At gic e z (n - length asked * requestBytes)
+afterRequests gic e z n asked left = At gic e z (n - length asked * requestSize)
 
 -- the zones begin at byte z
 abbrev pub requestsFound : ℕ → ℕ → ℕ → ℕ → List ℕ → Found
@@ -44,7 +44,7 @@ zonesFound gic e z n b = leading (afterZones gic e z n) n (zonesSection limits .
 
 -- the regions begin at byte a
 unfoldable pub afterRegions : ℕ → ℕ → ℕ → ℕ → List Region → List ℕ → Found
-afterRegions gic e a n rs left = zonesFound gic e (a + (4 + length rs * regionBytes)) n left
+afterRegions gic e a n rs left = zonesFound gic e (a + (4 + length rs * regionSize)) n left
 
 abbrev pub regionsFound : ℕ → ℕ → ℕ → ℕ → List ℕ → Found
 regionsFound gic e a n b = leading (afterRegions gic e a n) n (regionsSection limits .read b)

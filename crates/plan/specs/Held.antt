@@ -7,14 +7,15 @@ use lib.ListN.{length, getD}
 use Rattle.lists.specs.Tests.{allOf}
 use Rattle.formats.specs.Formats.{Out, got, bad, Format, both}
 use Rattle.rules.specs.Applying.{sameList, sameZone}
+use Rattle.rules.specs.Fields.{regionSize}
 use Rattle.rules.specs.Limits.{limits}
 use Rattle.rules.specs.Plan.{setFormat, regionsSection, zonesSection}
 use Rattle.rules.specs.Regions.{regionEq}
+use Rattle.rules.specs.Run.{regionIn}
 use Rattle.rules.specs.declared.Region.{Region}
 use Rattle.zones.specs.Layout.{setWords, configCount, configGic, configRecords}
 use Rattle.zones.specs.Records.{recordAt, recordsAt}
 use Rattle.zones.specs.View.{zonesIn}
-use Rattle.plan.specs.Fields.{regionBytes, regionIn}
 use Rattle.plan.specs.declared.comparing.Held.{Held}
 use Rattle.plan.specs.declared.comparing.Held.the-variants.{Same, Other}
 
@@ -29,7 +30,7 @@ isHeld Other = false
 
 -- record i of those from word a on is region i of those from byte `at` on
 unfoldable pub sameRecord : List ℕ → ℕ → List ℕ → ℕ → ℕ → Bool
-sameRecord s at w a i = regionEq (recordAt w a i) (regionIn s (at + i * regionBytes))
+sameRecord s at w a i = regionEq (recordAt w a i) (regionIn s (at + i * regionSize))
 
 -- the count in word k, and the records from word a on
 unfoldable pub holdsRegions : List ℕ → ℕ → ℕ → List Region → Bool

@@ -5,7 +5,7 @@ use lib.ListN.{length, drop}
 use Rattle.formats.specs.Formats.{Out, got, bad}
 use Rattle.rules.specs.Limits.{limits}
 use Rattle.rules.specs.Plan.{readPlan, Plan}
-use Rattle.rules.specs.Run.{requestBytes}
+use Rattle.rules.specs.Run.{requestSize}
 use Rattle.plan.specs.Sections.{noConfig, noTable, configFor, tableFor}
 use Rattle.plan.specs.declared.read.Read.{Read}
 use Rattle.plan.specs.declared.words.Section.{Section}
@@ -18,7 +18,7 @@ refusedRead k at = record { requests = Bad k at; edition = 0; config = noConfig;
 -- a plan that reads whole: its requests are the last of its bytes
 unfoldable pub readAnswer : ℕ → Out Plan → Read
 readAnswer n (got p left) = record {
-  requests = End (n - length (p .asked) * requestBytes);
+  requests = End (n - length (p .asked) * requestSize);
   edition = p .marks .edition;
   config = configFor (p .marks .gic) (p .regions);
   table = tableFor (p .zones);

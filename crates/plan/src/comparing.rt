@@ -1,25 +1,22 @@
 // The base that a plan gives, held against lent words: each field is compared where it stands, and nothing is stored.
-use crate::field::NUMBER_BYTES;
 use crate::field::Number;
-use crate::field::REGION_BYTES;
 use crate::field::is_within;
 use crate::field::number_at;
 use crate::finding::pass_regions;
 use crate::words::Section;
 use fields::u32_at;
-use fields::u64_at;
-use region::region_eq;
-use rules::Guest;
-use rules::Phys;
-use rules::Region;
 use rules::limits::MOST_IN_SET;
 use rules::limits::MOST_REGIONS;
 use rules::limits::MOST_ZONES;
+use rules::widths::REGION_BYTES;
+use rules::widths::SHORT_BYTES;
 use zones::CONFIG_COUNT;
 use zones::CONFIG_GIC;
 use zones::CONFIG_RECORDS;
 use zones::REGION_WORDS;
 use zones::SET_WORDS;
+use zones::holds_region;
+use zones::region_in;
 use zones::zone_start;
 ghost use Prim.Native.Nat.{_+_, _*_, _≤_, _<_};
 ghost use mathlib.Core.Path.{_≡_};
@@ -28,13 +25,14 @@ ghost use Rattle.lists.specs.First.{all};
 ghost use Rattle.lists.specs.Places.{places, tab};
 ghost use Rattle.formats.specs.Formats.{listed, readMany};
 ghost use Rattle.rules.specs.Applying.{sameList, sameZone};
+ghost use Rattle.rules.specs.Fields.{regionSize};
 ghost use Rattle.rules.specs.Limits.{mostZones, limits};
 ghost use Rattle.rules.specs.Plan.{regionField, zoneFormat};
 ghost use Rattle.rules.specs.Regions.{regionEq};
+ghost use Rattle.rules.specs.Run.{regionIn};
 ghost use Rattle.zones.specs.Layout.{regionWords, setWords, tableWords, configWords, zoneBase};
 ghost use Rattle.zones.specs.Records.{regionAt};
 ghost use Rattle.zones.specs.View.{zoneIn};
-ghost use Rattle.plan.specs.Fields.{regionBytes, regionIn};
 ghost use Rattle.plan.specs.Held.{twoSets, heldAnswer, isHeld, sameRecord, holdsRegions, holdsSets, configHeld, tableHeld};
 
 // The words hold what is there, which ends at this byte; or they hold something else.
@@ -45,7 +43,7 @@ pub enum Held {
 
 // Whether the n records from word a on are the regions from byte `at` on.
 fn same_records(s: &[u8], at: usize, w: &[u64], a: usize, n: usize) -> bool
-    requires { ⌜ (at + n * regionBytes ≤ length (now s)) × (a + n * regionWords ≤ length (now w)) ⌝ }
+    requires { ⌜ (at + n * regionSize ≤ length (now s)) × (a + n * regionWords ≤ length (now w)) ⌝ }
     ensures { λ b. ⌜ b ≡ all (sameRecord (now (s .entry)) at (now (w .entry)) a) (places 0 n) ⌝ }
 {
     let mut i = 0;
@@ -60,31 +58,11 @@ fn same_records(s: &[u8], at: usize, w: &[u64], a: usize, n: usize) -> bool
 
 // Whether the record at word k is the region at byte `at`.
 fn same_record(s: &[u8], at: usize, w: &[u64], k: usize) -> bool
-    requires { ⌜ (at + regionBytes ≤ length (now s)) × (k + regionWords ≤ length (now w)) ⌝ }
+    requires { ⌜ (at + regionSize ≤ length (now s)) × (k + regionWords ≤ length (now w)) ⌝ }
     ensures { λ b. ⌜ b ≡ regionEq (regionAt (now (w .entry)) k) (regionIn (now (s .entry)) at) ⌝ }
 {
-    let held = Region {
-        v: Guest(w[k]),
-        p: Phys(w[k + 1]),
-        size: w[k + 2],
-    };
     let end = at + REGION_BYTES;
-    region_eq(held, read_region(&s[at..end]))
-}
-
-// The region that the first bytes are. It is lent a region's own bytes, whose number the compiler then knows: no field is asked whether it
-// is there.
-fn read_region(s: &[u8]) -> Region
-    ensures { λ r. ⌜ r ≡ regionIn (now (s .entry)) 0 ⌝ }
-{
-    let v = u64_at(s, 0);
-    let p = u64_at(s, 8);
-    let size = u64_at(s, 16);
-    Region {
-        v: Guest(v),
-        p: Phys(p),
-        size,
-    }
+    holds_region(w, k, region_in(&s[at..end]))
 }
 
 // A count from lo to hi at byte `start` and as many regions, held against the count in word k and the records from word a on.
@@ -100,7 +78,7 @@ fn same_regions(s: &[u8], start: usize, lo: u32, hi: u32, w: &[u64], k: usize, a
     if w[k] != n as u64 {
         return Held::Other;
     }
-    if !same_records(s, start + NUMBER_BYTES, w, a, n as usize) {
+    if !same_records(s, start + SHORT_BYTES, w, a, n as usize) {
         return Held::Other;
     }
     Held::Same(end)
@@ -131,7 +109,7 @@ fn same_zone(s: &[u8], start: usize, w: &[u64], i: usize) -> Held
     if w[z] != id as u64 {
         return Held::Other;
     }
-    same_sets(s, start + NUMBER_BYTES, w, z + 1)
+    same_sets(s, start + SHORT_BYTES, w, z + 1)
 }
 
 // The n zones from byte `start` on, held against the first n of a table's words.
@@ -166,7 +144,7 @@ pub fn same_zones(s: &[u8], w: &[u64]) -> bool
     if w[0] != n as u64 {
         return false;
     }
-    same_zone_list(s, NUMBER_BYTES, n as usize, w)
+    same_zone_list(s, SHORT_BYTES, n as usize, w)
 }
 
 // The regions' section from its count on, and the GIC's position, held against a configuration's words.

@@ -1,20 +1,15 @@
 // Fields among lent bytes: each is wholly there, or refused.
 use fields::u32_at;
-use fields::u64_at;
-use rules::Guest;
-use rules::Phys;
 use rules::Region;
+use rules::widths::REGION_BYTES;
+use rules::widths::SHORT_BYTES;
+use zones::region_in;
 ghost use Prim.Native.Nat.{_≤_};
 ghost use mathlib.Core.Path.{_≡_};
 ghost use lib.ListN.{length, drop};
 ghost use Rattle.formats.specs.Formats.{readNumber, within};
 ghost use Rattle.rules.specs.Plan.{regionField};
 ghost use Rattle.plan.specs.Fields.{NumberRead, RegionRead};
-
-// A count, a mark or an id has 4 bytes; v, p and size of a region have 8 each.
-pub const NUMBER_BYTES: usize = 4;
-
-pub const REGION_BYTES: usize = 24;
 
 // A count, a mark or an id; or not wholly there.
 pub enum Number {
@@ -32,7 +27,7 @@ pub fn number_at(s: &[u8], at: usize) -> Number
     requires { ⌜ at ≤ length (now s) ⌝ }
     ensures { λ r. ⌜ NumberRead (now (s .entry)) at (readNumber 4 (drop at (now (s .entry)))) r ⌝ }
 {
-    if s.len() - at < NUMBER_BYTES {
+    if s.len() - at < SHORT_BYTES {
         return Number::Missing;
     }
     Number::Is(u32_at(s, at))
@@ -55,12 +50,6 @@ pub fn region_field_at(s: &[u8], at: usize) -> RegionField
     if s.len() - at < REGION_BYTES {
         return RegionField::Missing;
     }
-    let v = u64_at(s, at);
-    let p = u64_at(s, at + 8);
-    let size = u64_at(s, at + 16);
-    RegionField::Is(Region {
-        v: Guest(v),
-        p: Phys(p),
-        size,
-    })
+    let end = at + REGION_BYTES;
+    RegionField::Is(region_in(&s[at..end]))
 }

@@ -1,7 +1,5 @@
 // Where the sections of a plan begin: every field is passed over once, and nothing is stored.
-use crate::field::NUMBER_BYTES;
 use crate::field::Number;
-use crate::field::REGION_BYTES;
 use crate::field::is_within;
 use crate::field::number_at;
 use crate::sections::Marks;
@@ -14,6 +12,8 @@ use rules::limits::MOST_ZONES;
 use rules::numbers::COUNT;
 use rules::numbers::CUT;
 use rules::numbers::TRAILING;
+use rules::widths::REGION_BYTES;
+use rules::widths::SHORT_BYTES;
 ghost use Prim.Native.Nat.{_+_, _^_, _≤_, _<_};
 ghost use mathlib.Core.Path.{_≡_};
 ghost use lib.ListN.{length, drop};
@@ -107,7 +107,7 @@ fn find_last(s: &[u8], base: usize, gic: u32, edition: u32, zones: usize) -> Fou
                 gic,
                 edition,
                 zones,
-                requests: base + NUMBER_BYTES,
+                requests: base + SHORT_BYTES,
             }
         }
     }
@@ -132,7 +132,7 @@ pub fn pass_regions(s: &[u8], start: usize, lo: u32, hi: u32) -> Section
             at: start,
         };
     }
-    let first = start + NUMBER_BYTES;
+    let first = start + SHORT_BYTES;
     let bytes = n as usize * REGION_BYTES;
     let there = s.len() - first;
     if there < bytes {
@@ -149,13 +149,13 @@ fn pass_zone(s: &[u8], start: usize) -> Section
     requires { ⌜ start ≤ length (now s) ⌝ }
     ensures { λ r. ⌜ r ≡ sectionAnswer (length (now (s .entry))) (zoneFormat limits .read (drop start (now (s .entry)))) ⌝ }
 {
-    if s.len() - start < NUMBER_BYTES {
+    if s.len() - start < SHORT_BYTES {
         return Section::Bad {
             number: CUT,
             at: start,
         };
     }
-    let cpu = pass_regions(s, start + NUMBER_BYTES, 0, MOST_IN_SET as u32);
+    let cpu = pass_regions(s, start + SHORT_BYTES, 0, MOST_IN_SET as u32);
     let Section::End(at) = cpu else {
         return cpu;
     };
@@ -193,5 +193,5 @@ fn pass_zones(s: &[u8]) -> Section
             at: 0,
         };
     }
-    pass_zone_list(s, NUMBER_BYTES, n as usize)
+    pass_zone_list(s, SHORT_BYTES, n as usize)
 }

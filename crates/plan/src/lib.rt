@@ -13,7 +13,6 @@ pub use applying::State;
 pub use applying::apply;
 pub use applying::apply_alone;
 pub use applying::apply_words;
-pub use field::NUMBER_BYTES;
 pub use finding::Found;
 pub use finding::find_sections;
 pub use read::Read;

@@ -1,6 +1,5 @@
 // The four sections of a plan. Each reader is lent the part of the plan that begins at its section's count, and answers offsets in that
 // part.
-use crate::field::NUMBER_BYTES;
 use crate::field::Number;
 use crate::field::is_within;
 use crate::field::number_at;
@@ -11,12 +10,13 @@ use rules::limits::MOST_REGIONS;
 use rules::limits::MOST_REQUESTS;
 use rules::numbers::COUNT;
 use rules::numbers::CUT;
+use rules::widths::REQUEST_BYTES;
+use rules::widths::SHORT_BYTES;
 use zones::CONFIG_COUNT;
 use zones::CONFIG_GIC;
 use zones::CONFIG_RECORDS;
 use zones::CONFIG_WORDS;
 use zones::Config;
-use zones::REQUEST_BYTES;
 use zones::TABLE_WORDS;
 use zones::Table;
 ghost use mathlib.Core.Path.{_≡_};
@@ -131,12 +131,12 @@ pub fn read_requests(s: &[u8]) -> Section
         };
     }
     let count = n as usize;
-    let whole = (s.len() - NUMBER_BYTES) / REQUEST_BYTES;
+    let whole = (s.len() - SHORT_BYTES) / REQUEST_BYTES;
     if whole < count {
         return Section::Bad {
             number: CUT,
-            at: NUMBER_BYTES + whole * REQUEST_BYTES,
+            at: SHORT_BYTES + whole * REQUEST_BYTES,
         };
     }
-    Section::End(NUMBER_BYTES + count * REQUEST_BYTES)
+    Section::End(SHORT_BYTES + count * REQUEST_BYTES)
 }

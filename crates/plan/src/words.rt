@@ -1,7 +1,5 @@
 // Sections read into lent words: each reader answers where it ends, or refuses.
-use crate::field::NUMBER_BYTES;
 use crate::field::Number;
-use crate::field::REGION_BYTES;
 use crate::field::RegionField;
 use crate::field::is_within;
 use crate::field::number_at;
@@ -10,6 +8,8 @@ use rules::limits::MOST_IN_SET;
 use rules::limits::MOST_ZONES;
 use rules::numbers::COUNT;
 use rules::numbers::CUT;
+use rules::widths::REGION_BYTES;
+use rules::widths::SHORT_BYTES;
 use zones::REGION_WORDS;
 use zones::SET_WORDS;
 use zones::put_region;
@@ -82,7 +82,7 @@ pub fn read_set(
         };
     }
     w[k] = n as u64;
-    read_records(s, start + NUMBER_BYTES, n as usize, w, a)
+    read_records(s, start + SHORT_BYTES, n as usize, w, a)
 }
 
 // The two sets of a zone from byte `start` on, into the words from k on.
@@ -111,7 +111,7 @@ fn read_zone(s: &[u8], start: usize, w: &mut [u64], i: usize) -> Section
     };
     let z = zone_start(i);
     w[z] = id as u64;
-    read_sets(s, start + NUMBER_BYTES, w, z + 1)
+    read_sets(s, start + SHORT_BYTES, w, z + 1)
 }
 
 // The n zones from byte `start` on, into those of a table's words.
@@ -147,5 +147,5 @@ pub fn read_table(s: &[u8], w: &mut [u64]) -> Section
         };
     }
     w[0] = n as u64;
-    read_zone_list(s, NUMBER_BYTES, n as usize, w)
+    read_zone_list(s, SHORT_BYTES, n as usize, w)
 }

@@ -2,17 +2,17 @@
 // parameters are plain; the walker's own functions only take it apart and pass it on.
 use fields::u32_at;
 use plan::MARKS;
-use plan::NUMBER_BYTES;
 use rules::numbers::COUNT;
 use rules::numbers::CUT;
+use rules::widths::SHORT_BYTES;
 ghost use mathlib.Core.Path.{_≡_};
 ghost use Rattle.walker.specs.Walker.{stepAt, startOf, nextOf};
 ghost use Rattle.walker.specs.Edition.{judged, editionOf};
 
 // Where the two marks stand, behind their count.
-const GIC_AT: usize = NUMBER_BYTES;
+const GIC_AT: usize = SHORT_BYTES;
 
-const EDITION_AT: usize = 2 * NUMBER_BYTES;
+const EDITION_AT: usize = 2 * SHORT_BYTES;
 
 pub struct Walker<'a> {
     pub plan: &'a [u8],
@@ -51,14 +51,14 @@ fn step_at(plan: &[u8], at: usize) -> Step
         let found = Found::Missing;
         return Step { found, at };
     }
-    if plan.len() - at < NUMBER_BYTES {
+    if plan.len() - at < SHORT_BYTES {
         let found = Found::Missing;
         return Step { found, at };
     }
     let found = Found::Number(u32_at(plan, at));
     Step {
         found,
-        at: at + NUMBER_BYTES,
+        at: at + SHORT_BYTES,
     }
 }
 

@@ -11,11 +11,12 @@ use lib.Dec.{eqb}
 use lib.ListN.{getD, drop}
 use Rattle.lists.specs.First.{any, all}
 use Rattle.lists.specs.Places.{places, tab}
-use Rattle.lists.specs.Tests.{allOf}
+use Rattle.lists.specs.Tests.{allOf, eachTwo}
 use Rattle.lists.specs.Words.{isZeroAt}
 use Rattle.lists.proofs.Every.{all-both, none-all, all-same, all-map}
 use Rattle.lists.proofs.Places.{one-place, places-shift, places-add, every-block, drop-tab}
-use Rattle.rules.specs.Regions.{regionEq, used}
+use Rattle.rules.specs.Fields.{numbersOf}
+use Rattle.rules.specs.Regions.{regionEq, noRegion, used}
 use Rattle.rules.specs.declared.Region.{Region}
 use Rattle.zones.specs.Layout.{regionWords}
 use Rattle.zones.specs.Packing.{zeros}
@@ -71,12 +72,9 @@ block-end w k n x r inv bits = bits ∙ inv
 
 -- ---- records
 zero-record : (w : List ℕ) (k : ℕ) → zeros w k regionWords ≡ not (used (regionAt w k))
-unfolding all places regionEq regionAt allOf
+unfolding all places regionEq regionAt numbersOf eachTwo allOf
 zero-record w k =
-    let e1 : suc k ≡ k + 1 = omega arith in
-    let e2 : suc (suc k) ≡ k + 2 = omega arith in
-    ap₂ (λ (i j : ℕ). isZeroAt w k && (isZeroAt w i && (isZeroAt w j && true))) e1 e2
-    ∙ sym (Bool·not-not (allOf (isZeroAt w k ∷ isZeroAt w (k + 1) ∷ isZeroAt w (k + 2) ∷ [])))
+    places-shift (isZeroAt w) k regionWords ∙ sym (Bool·not-not (regionEq (regionAt w k) noRegion))
 
 -- those of n from word b on that are past the first c are all zero exactly when their words are
 pub free-zero : (w : List ℕ) (b n c : ℕ) → c ≤ n

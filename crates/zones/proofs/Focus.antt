@@ -14,6 +14,7 @@ use Rattle.lists.proofs.Words.{flat-set, length-flat, length-counted, front, re
 use Rattle.lists.proofs.Words.{element-at}
 use Rattle.rules.specs.Changes.{setAt, withSide, putSet}
 use Rattle.rules.specs.Limits.{mostZones, mostInSet}
+use Rattle.rules.specs.Fields.{numbersOf}
 use Rattle.rules.specs.Regions.{noRegion}
 use Rattle.rules.specs.Tables.{noZone, sideOf, Zone}
 use Rattle.rules.specs.declared.Region.{Region}
@@ -42,7 +43,7 @@ table-wide m = length-counted wordsOfZone zoneWords zone-wide mostZones noZone m
 
 -- what is free is zero
 pub zero-zone : wordsOfZone noZone ≡ replicate zoneWords 0
-unfolding wordsOfZone wordsOfSet counted flatMap room wordsOfRegion
+unfolding wordsOfZone wordsOfSet counted flatMap room wordsOfRegion numbersOf
 zero-zone = refl
 
 -- ---- a zone's words around the set of a side

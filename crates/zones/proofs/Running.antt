@@ -7,23 +7,25 @@ use mathlib.Core.List.{List, [], _∷_, map}
 use mathlib.Core.Path.{_≡_, refl, sym, ap, ap₂, subst, _∙_}
 use borrow.Author.Tests.{eq-eqb, ne-eqb}
 use lib.Dec.{eqb}
-use lib.ListN.{length, take, drop}
+use lib.ListN.{length, take, drop, length-take, length-drop}
 use lib.Seq.{take-take, drop-drop}
 use Rattle.lists.specs.Bytes.{little}
 use Rattle.lists.specs.Places.{places, tab}
 use Rattle.lists.specs.Words.{part}
 use Rattle.lists.proofs.Places.{places-step, places-end}
+use Rattle.rules.specs.Fields.{longSize, regionSize, regionOf}
 use Rattle.rules.specs.Limits.{limits}
 use Rattle.rules.specs.Regions.{used}
 use Rattle.rules.specs.Requests.{refusal, after, next, standing}
-use Rattle.rules.specs.Run.{bare, makeKind, makeRequest, requestBytes, numberAt, requestFrom, requestsIn, runFrom, run}
-use Rattle.rules.specs.Run.{ended, runAnswer, Run}
+use Rattle.rules.specs.Run.{bare, makeKind, makeRequest, requestSize, numberAt, regionIn, requestFrom, requestsIn, runFrom}
+use Rattle.rules.specs.Run.{run, ended, runAnswer, Run}
 use Rattle.rules.specs.Tables.{tableOf, sound, Zone}
 use Rattle.rules.specs.declared.Kind.{Kind}
 use Rattle.rules.specs.declared.Kind.the-variants.{NoRequest}
 use Rattle.rules.specs.declared.Outcome.{Outcome}
 use Rattle.rules.specs.declared.Region.{Region}
 use Rattle.rules.specs.declared.Request.{Request}
+use Rattle.rules.proofs.Fields.{by-same}
 use Rattle.rules.proofs.Keeps.{sound-parts, parts-sound, next-keeps}
 use Rattle.zones.specs.Decide.{Ready}
 use Rattle.zones.specs.Run.{runWords, RanIn}
@@ -45,16 +47,7 @@ pub made : (kind zone : ℕ) (r : Region) (k : Kind) → k ≡ makeKind kind r
 unfolding makeRequest
 made kind zone r k e = λ i. record { zone = zone; kind = e i }
 
-pub request-read : (b : List ℕ) (at kind zone v p size : ℕ) (q : Request) → kind ≡ numberAt 4 b at
-    → zone ≡ numberAt 4 b (at + 4) → v ≡ numberAt 8 b (at + 8) → p ≡ numberAt 8 b (at + 16)
-    → size ≡ numberAt 8 b (at + 24)
-    → q ≡ makeRequest kind zone (record { v = record { 0 = v }; p = record { 0 = p }; size = size })
-    → q ≡ requestFrom b at
-unfolding requestFrom
-request-read b at kind zone v p size q ek ez ev ep es e =
-    e ∙ (λ i. makeRequest (ek i) (ez i) (record { v = record { 0 = ev i }; p = record { 0 = ep i }; size = es i }))
-
--- the request among bytes is that of its own bytes
+-- what stands among bytes is that of its own bytes
 part-take : (k n m : ℕ) (l : List ℕ) → k + n ≤ m → part k n (take m l) ≡ part k n l
 unfolding part
 part-take zero n m l h = take-take n m l (omega arith)
@@ -63,20 +56,51 @@ part-take (suc k) n (suc m) [] h = refl
 part-take (suc k) n (suc m) (x ∷ l) h = part-take k n m l (omega arith)
 
 module _ (b : List ℕ) (at e : ℕ) where
-  pub own-number : (k n : ℕ) → k + n ≤ e - at → numberAt n (take (e - at) (drop at b)) k ≡ numberAt n b (at + k)
+  own-number : (k n : ℕ) → k + n ≤ e - at → numberAt n (take (e - at) (drop at b)) k ≡ numberAt n b (at + k)
   unfolding part
   own-number k n l = ap little (part-take k n (e - at) (drop at b) l ∙ ap (take n) (drop-drop k at b))
 
-  pub request-within : (q : Request) → at + requestBytes ≤ e → q ≡ requestFrom (take (e - at) (drop at b)) 0 → q ≡ requestFrom b at
+  own-region : (k : ℕ) → k + regionSize ≤ e - at → regionIn (take (e - at) (drop at b)) k ≡ regionIn b (at + k)
+  unfolding regionIn
+  own-region k l =
+      by-same (λ i. numberAt longSize (take (e - at) (drop at b)) (k + i * longSize))
+      (λ i. numberAt longSize b (at + k + i * longSize))
+      (λ i h.
+      let m : at + (k + i * longSize) ≡ at + k + i * longSize = omega arith in
+      own-number (k + i * longSize) longSize (omega arith) ∙ ap (numberAt longSize b) m)
+
+  pub region-within : at + regionSize ≤ e → regionIn (take (e - at) (drop at b)) 0 ≡ regionIn b at
+  region-within h =
+      let z : at + 0 ≡ at = omega arith in
+      own-region 0 (omega arith) ∙ ap (regionIn b) z
+
+  pub request-within : (q : Request) → at + requestSize ≤ e → q ≡ requestFrom (take (e - at) (drop at b)) 0
+      → q ≡ requestFrom b at
   unfolding requestFrom
   request-within q h g =
       let z : at + 0 ≡ at = omega arith in
-      let kind : numberAt 4 (take (e - at) (drop at b)) 0 ≡ numberAt 4 b at = own-number 0 4 (omega arith) ∙ ap (numberAt 4 b) z in
+      let kind : numberAt 4 (take (e - at) (drop at b)) 0 ≡ numberAt 4 b at =
+      own-number 0 4 (omega arith) ∙ ap (numberAt 4 b) z in
       let zone : numberAt 4 (take (e - at) (drop at b)) 4 ≡ numberAt 4 b (at + 4) = own-number 4 4 (omega arith) in
-      let v : numberAt 8 (take (e - at) (drop at b)) 8 ≡ numberAt 8 b (at + 8) = own-number 8 8 (omega arith) in
-      let p : numberAt 8 (take (e - at) (drop at b)) 16 ≡ numberAt 8 b (at + 16) = own-number 16 8 (omega arith) in
-      let size : numberAt 8 (take (e - at) (drop at b)) 24 ≡ numberAt 8 b (at + 24) = own-number 24 8 (omega arith) in
-      g ∙ (λ i. makeRequest (kind i) (zone i) (record { v = record { 0 = v i }; p = record { 0 = p i }; size = size i }))
+      let region : regionIn (take (e - at) (drop at b)) 8 ≡ regionIn b (at + 8) = own-region 8 (omega arith) in
+      g ∙ (λ i. makeRequest (kind i) (zone i) (region i))
+
+  pub request-room : at + requestSize ≤ e → e ≤ length b → requestSize ≤ length (take (e - at) (drop at b))
+  request-room h l = omega (arith, length-take (e - at) (drop at b), length-drop at b)
+
+-- a region and a request, from what is read of their own bytes
+pub bytes-read : (b : List ℕ) (v p size : ℕ) → v ≡ little (part 0 8 b) → p ≡ little (part 8 8 b)
+    → size ≡ little (part 16 8 b) → regionOf v p size ≡ regionIn b 0
+unfolding regionIn
+bytes-read b v p size ev ep es = λ i. regionOf (ev i) (ep i) (es i)
+
+pub request-read : (b : List ℕ) (kind zone : ℕ) (r : Region) (q : Request) → kind ≡ little (part 0 4 b)
+    → zone ≡ little (part 4 4 b) → r ≡ regionIn (take (requestSize - 8) (drop 8 b)) 0
+    → q ≡ makeRequest kind zone r → q ≡ requestFrom b 0
+unfolding requestFrom
+request-read b kind zone r q ek ez er e =
+    let region : r ≡ regionIn b 8 = er ∙ region-within b 8 requestSize (omega arith) in
+    e ∙ (λ i. makeRequest (ek i) (ez i) (region i))
 
 -- ---- a step leaves a table that is ready for the next
 module _ (c w u : List ℕ) (q : Request) (r : Ready c w) (e : u ≡ wordsOf (next limits (configIn c) (zonesIn w) q)) where
@@ -164,12 +188,12 @@ module _ (c : List ℕ) (f : ℕ → Request) (n : ℕ) (R : Run) where
     run-leaves r = r .words .words ∙ ap (λ (x : Run). wordsOf (x .table)) (sym done)
 
 -- the requests of the bytes, none of them done
-pub run-starts : (c t b : List ℕ) (n : ℕ) → n ≡ length b / requestBytes
-    → Left c (λ j. requestFrom b (j * requestBytes)) n (run limits (configIn c) (zonesIn t) (requestsIn b)) t 0
+pub run-starts : (c t b : List ℕ) (n : ℕ) → n ≡ length b / requestSize
+    → Left c (λ j. requestFrom b (j * requestSize)) n (run limits (configIn c) (zonesIn t) (requestsIn b)) t 0
 unfolding requestsIn tab
 run-starts c t b n e =
-    let z : n - 0 ≡ length b / requestBytes = omega arith in
-    ap (λ (m : ℕ). runFrom limits (configIn c) 0 (zonesIn t) (map (λ j. requestFrom b (j * requestBytes)) (places 0 m)))
+    let z : n - 0 ≡ length b / requestSize = omega arith in
+    ap (λ (m : ℕ). runFrom limits (configIn c) 0 (zonesIn t) (map (λ j. requestFrom b (j * requestSize)) (places 0 m)))
     z
 
 -- ---- a run from outside

@@ -18,6 +18,7 @@ use Rattle.lists.proofs.Tests.{same-test, parts, whole}
 use Rattle.rules.specs.Addresses.{overlaps}
 use Rattle.rules.specs.Changes.{setAt}
 use Rattle.rules.specs.Limits.{highestId, mostInSet, limits}
+use Rattle.rules.specs.Fields.{regionOf}
 use Rattle.rules.specs.Regions.{inReach, noRegion}
 use Rattle.rules.specs.Requests.{find, standingRules, standing}
 use Rattle.rules.specs.Tables.{hasId, tableOf, configured, soundSet, Zone}
@@ -57,7 +58,7 @@ byte-covers a r =
     overlap-shared a 1 (r .v .0) (r .size) .1 (a, ((omega arith, omega arith), (omega arith, omega arith))))
 
 pub covering-found : (a k : ℕ) (xs : List Region)
-    → k ≡ firstIndex (alikeBy ByGuest (record { v = record { 0 = a }; p = record { 0 = 0 }; size = 1 })) xs
+    → k ≡ firstIndex (alikeBy ByGuest (regionOf a 0 1)) xs
     → k ≡ firstIndex (coversGuest a) xs
 covering-found a k xs e = e ∙ ap (λ (p : Region → Bool). firstIndex p xs) (fun-ext (byte-covers a))
 

@@ -4,11 +4,12 @@ use mathlib.Core.Bool.{cond}
 use lib.Dec.{ltb}
 use Rattle.rules.specs.declared.Side.{Side}
 use Rattle.rules.specs.declared.Side.the-variants.{Cpu, Iommu}
+use Rattle.rules.specs.Fields.{regionNumbers}
 use Rattle.rules.specs.Limits.{mostRegions, mostZones, mostInSet}
 
--- a record is v, p, size
+-- a record is a region's numbers
 abbrev pub regionWords : ℕ
-regionWords = 3
+regionWords = regionNumbers
 
 -- a configuration is its count, the GIC's position, then its records
 abbrev pub configCount : ℕ

@@ -2,9 +2,10 @@
 use rules::limits::MOST_IN_SET;
 use rules::limits::MOST_REGIONS;
 use rules::limits::MOST_ZONES;
+use rules::widths::REGION_NUMBERS;
 
-// A record is v, p, size.
-pub const REGION_WORDS: usize = 3;
+// A record is a region's numbers.
+pub const REGION_WORDS: usize = REGION_NUMBERS;
 
 // A configuration is its count, the GIC's position, then its records.
 pub const CONFIG_COUNT: usize = 0;

@@ -5,28 +5,24 @@ use crate::sound::standing;
 use crate::steps::step_ready;
 use crate::words::count_words;
 use crate::words::is_used;
+use crate::words::region_in;
 use fields::u32_at;
-use fields::u64_at;
-use rules::Guest;
 use rules::Kind;
 use rules::Outcome;
-use rules::Phys;
 use rules::Region;
 use rules::Request;
 use rules::Side;
 use rules::numbers::REQUEST_REFUSED;
-ghost use Prim.Native.Nat.{_*_, _/_, _<_};
+use rules::widths::REQUEST_BYTES;
+ghost use Prim.Native.Nat.{_*_, _/_, _≤_, _<_};
 ghost use mathlib.Core.Path.{_≡_};
 ghost use lib.ListN.{length};
 ghost use Rattle.rules.specs.Limits.{limits};
-ghost use Rattle.rules.specs.Run.{bare, makeKind, makeRequest, requestBytes, requestFrom, requestsIn, run, ended};
+ghost use Rattle.rules.specs.Run.{bare, makeKind, makeRequest, requestSize, requestFrom, requestsIn, run, ended};
 ghost use Rattle.zones.specs.Decide.{Ready};
 ghost use Rattle.zones.specs.Run.{RanIn};
 ghost use Rattle.zones.specs.View.{configIn, zonesIn};
 ghost use Rattle.zones.specs.Words.{wordsOf};
-
-// A request as bytes: kind and zone id in 4 each; v, p and size in 8 each.
-pub const REQUEST_BYTES: usize = 32;
 
 // The requests that the bytes hold, one after another at the lent table. The first refused one ends the run and leaves the table
 // as the earlier ones made it. Bytes after the last whole request are not looked at.
@@ -73,8 +69,8 @@ fn run_ready(c: &[u64; CONFIG_WORDS], t: &mut [u64; TABLE_WORDS], requests: &[u8
 
 // Request i of those that are wholly there.
 fn request_at(s: &[u8], i: usize) -> Request
-    requires { ⌜ i < length (now s) / requestBytes ⌝ }
-    ensures { λ q. ⌜ q ≡ requestFrom (now (s .entry)) (i * requestBytes) ⌝ }
+    requires { ⌜ i < length (now s) / requestSize ⌝ }
+    ensures { λ q. ⌜ q ≡ requestFrom (now (s .entry)) (i * requestSize) ⌝ }
 {
     let at = i * REQUEST_BYTES;
     let end = at + REQUEST_BYTES;
@@ -84,19 +80,12 @@ fn request_at(s: &[u8], i: usize) -> Request
 // The request that the first bytes are. It is lent a request's own bytes, whose number the compiler then knows: no field is asked
 // whether it is there.
 fn read_request(s: &[u8]) -> Request
+    requires { ⌜ requestSize ≤ length (now s) ⌝ }
     ensures { λ q. ⌜ q ≡ requestFrom (now (s .entry)) 0 ⌝ }
 {
     let kind = u32_at(s, 0);
     let zone = u32_at(s, 4);
-    let v = u64_at(s, 8);
-    let p = u64_at(s, 16);
-    let size = u64_at(s, 24);
-    let region = Region {
-        v: Guest(v),
-        p: Phys(p),
-        size,
-    };
-    make_request(kind, zone, region)
+    make_request(kind, zone, region_in(&s[8..REQUEST_BYTES]))
 }
 
 // The request with these numbers, or the one that is refused where they make none.

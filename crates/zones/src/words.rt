@@ -1,5 +1,6 @@
-// Regions among lent words.
+// Regions among lent words, and the region that lent bytes are.
 use crate::layout::REGION_WORDS;
+use fields::u64_at;
 use region::guest_overlap;
 use region::phys_overlap;
 use region::region_eq;
@@ -15,10 +16,11 @@ ghost use Rattle.lists.specs.First.{firstIndex};
 ghost use Rattle.lists.specs.Words.{closed, cleared};
 ghost use Rattle.rules.specs.Applying.{sameList};
 ghost use Rattle.rules.specs.Regions.{used};
+ghost use Rattle.rules.specs.Run.{regionIn};
 ghost use Rattle.zones.specs.Layout.{regionWords};
 ghost use Rattle.zones.specs.Packing.{zeros};
 ghost use Rattle.zones.specs.Alike.{alikeBy};
-ghost use Rattle.zones.specs.Records.{regionAt, recordsAt, wordsOfRegion, placed};
+ghost use Rattle.zones.specs.Records.{regionAt, recordsAt, wordsOfRegion, placed, holdsAt};
 
 // How a region is looked for among records: by equality, or by overlap in physical or in guest addresses.
 pub enum By {
@@ -97,6 +99,34 @@ pub fn put_region(s: &mut [u64], k: usize, r: Region)
         return;
     }
     write_region(s, k, r);
+}
+
+// Whether the record at word k is r's; where it has no room, it is not.
+pub fn holds_region(s: &[u64], k: usize, r: Region) -> bool
+    ensures { λ b. ⌜ b ≡ holdsAt (now (s .entry)) k r ⌝ }
+{
+    if s.len() < REGION_WORDS {
+        return false;
+    }
+    if s.len() - REGION_WORDS < k {
+        return false;
+    }
+    region_eq(read_region(s, k), r)
+}
+
+// The region that the first bytes are. It is lent a region's own bytes, whose number the compiler then knows: no field is asked whether it
+// is there.
+pub fn region_in(s: &[u8]) -> Region
+    ensures { λ r. ⌜ r ≡ regionIn (now (s .entry)) 0 ⌝ }
+{
+    let v = u64_at(s, 0);
+    let p = u64_at(s, 8);
+    let size = u64_at(s, 16);
+    Region {
+        v: Guest(v),
+        p: Phys(p),
+        size,
+    }
 }
 
 // The number of lent words. An array behind `&mut` does not tell the proof its length, and one that is lent as a slice does; so who goes

@@ -1,6 +1,6 @@
--- Two cases: fewer bytes than a region's are left, or its three numbers are there.
-use Rattle.plan.proofs.Fields.{region-missing, region-is}
+-- Two cases: fewer bytes than a region's are left, or it is read from its own.
 use borrow.Author.Needs.{needs}
+use Rattle.plan.proofs.Fields.{region-missing, region-is}
 use Rattle.plan.proofs.field.region_field_at.Statement.{statement}
 use Rattle.plan.proofs.field.region_field_at.Tie as tie
 
@@ -10,20 +10,20 @@ sub-if1 c = search needs
 returns : tie.Need-returns
 returns c = search (region-missing, needs)
 
-u64-at-requires : tie.Need-u64-at-requires
-u64-at-requires c κs = search needs
+add-end : tie.Need-add-end
+add-end c = search needs
 
-add-u64-at : tie.Need-add-u64-at
-add-u64-at c = search needs
+sub-region-in : tie.Need-sub-region-in
+sub-region-in c = search needs
 
-u64-at-requires-2 : tie.Need-u64-at-requires-2
-u64-at-requires-2 c κs = search needs
+part-region-in-start : tie.Need-part-region-in-start
+part-region-in-start c = search needs
 
-add-u64-at-2 : tie.Need-add-u64-at-2
-add-u64-at-2 c = search needs
+part-region-in-end : tie.Need-part-region-in-end
+part-region-in-end c = search needs
 
-u64-at-requires-3 : tie.Need-u64-at-requires-3
-u64-at-requires-3 c κs = search needs
+region-in-requires : tie.Need-region-in-requires
+region-in-requires c κs = search needs
 
 returns-2 : tie.Need-returns-2
 returns-2 c = search (region-is, needs)
@@ -34,9 +34,9 @@ region-field-at-spec =
     (tie.spec
     sub-if1
     returns
-    u64-at-requires
-    add-u64-at
-    u64-at-requires-2
-    add-u64-at-2
-    u64-at-requires-3
+    add-end
+    sub-region-in
+    part-region-in-start
+    part-region-in-end
+    region-in-requires
     returns-2)

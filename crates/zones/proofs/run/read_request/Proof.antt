@@ -1,4 +1,4 @@
--- The fields lie one behind the other from the first byte on.
+-- Kind and zone id come first, and the region is read from its own bytes.
 use borrow.Author.Needs.{needs}
 use Rattle.zones.proofs.Running.{request-read}
 use Rattle.zones.proofs.run.read_request.Statement.{statement}
@@ -10,14 +10,17 @@ u32-at-requires c κs = search needs
 u32-at-requires-2 : tie.Need-u32-at-requires-2
 u32-at-requires-2 c κs = search needs
 
-u64-at-requires : tie.Need-u64-at-requires
-u64-at-requires c κs = search needs
+sub-region-in : tie.Need-sub-region-in
+sub-region-in c = search needs
 
-u64-at-requires-2 : tie.Need-u64-at-requires-2
-u64-at-requires-2 c κs = search needs
+part-region-in-start : tie.Need-part-region-in-start
+part-region-in-start c = search needs
 
-u64-at-requires-3 : tie.Need-u64-at-requires-3
-u64-at-requires-3 c κs = search needs
+part-region-in-end : tie.Need-part-region-in-end
+part-region-in-end c = search needs
+
+region-in-requires : tie.Need-region-in-requires
+region-in-requires c κs = search needs
 
 make-request-requires : tie.Need-make-request-requires
 make-request-requires c κs = search needs
@@ -31,8 +34,9 @@ read-request-spec =
     (tie.spec
     u32-at-requires
     u32-at-requires-2
-    u64-at-requires
-    u64-at-requires-2
-    u64-at-requires-3
+    sub-region-in
+    part-region-in-start
+    part-region-in-end
+    region-in-requires
     make-request-requires
     returns)

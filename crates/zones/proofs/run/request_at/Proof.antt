@@ -1,6 +1,6 @@
 -- A request below the number of whole ones lies within the bytes, and is read from its own.
 use borrow.Author.Needs.{needs}
-use Rattle.zones.proofs.Running.{request-within}
+use Rattle.zones.proofs.Running.{request-room, request-within}
 use Rattle.zones.proofs.run.request_at.Statement.{statement}
 use Rattle.zones.proofs.run.request_at.Tie as tie
 
@@ -20,7 +20,7 @@ part-read-request-end : tie.Need-part-read-request-end
 part-read-request-end c = search needs
 
 read-request-requires : tie.Need-read-request-requires
-read-request-requires c κs = search needs
+read-request-requires c κs = search (request-room, needs)
 
 returns : tie.Need-returns
 returns c = search (request-within, needs)

@@ -2,7 +2,7 @@
 use Prim.Native.Nat.{_-_, _*_, _≤_}
 use borrow.Author.Needs.{needs}
 use Rattle.rules.specs.Limits.{limits}
-use Rattle.rules.specs.Run.{requestBytes, requestFrom, requestsIn, run}
+use Rattle.rules.specs.Run.{requestSize, requestFrom, requestsIn, run}
 use Rattle.zones.specs.Decide.{Ready}
 use Rattle.zones.specs.View.{configIn, zonesIn}
 use Rattle.zones.proofs.Running.{ready-on, Left, run-on, run-stops, run-stays, run-ends, run-leaves, run-starts}
@@ -12,7 +12,7 @@ use Rattle.zones.proofs.run.run_ready.Tie as tie
 abbrev Inv-loop : tie.InvT-loop
 Inv-loop c t₀ requests n i₀ t i =
     (Ready c t × (i ≤ n))
-    × Left c (λ j. requestFrom requests (j * requestBytes)) n
+    × Left c (λ j. requestFrom requests (j * requestSize)) n
     (run limits (configIn c) (zonesIn t₀) (requestsIn requests)) t i
 
 abbrev μ-loop : tie.MeasureT-loop

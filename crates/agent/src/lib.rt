@@ -28,6 +28,7 @@ use zones::translate_in;
 ghost use mathlib.Core.List.{[], _∷_};
 ghost use mathlib.Core.Path.{_≡_};
 ghost use lib.ListN.{length, getD};
+ghost use Rattle.rules.specs.Fields.{regionOf};
 ghost use Rattle.rules.specs.Limits.{limits};
 ghost use Rattle.rules.specs.Configuration.{check, checkNumber};
 ghost use Rattle.rules.specs.Run.{makeRequest};
@@ -107,7 +108,7 @@ pub extern "C" fn peatmitten_request(
     p: u64,
     size: u64,
 ) -> u32
-    ensures { λ n. ⌜ Stepped (now (config .entry)) (now (table .entry)) (makeRequest kind zone (record { v = record { 0 = v }; p = record { 0 = p }; size = size })) n (now (table .exit)) ⌝ }
+    ensures { λ n. ⌜ Stepped (now (config .entry)) (now (table .entry)) (makeRequest kind zone (regionOf v p size)) n (now (table .exit)) ⌝ }
 {
     let region = Region {
         v: Guest(v),

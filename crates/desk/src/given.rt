@@ -8,6 +8,7 @@ use zones::CONFIG_RECORDS;
 use zones::CONFIG_WORDS;
 use zones::REGION_WORDS;
 use zones::TABLE_WORDS;
+use zones::put_region;
 use zones::zone_start;
 
 // ---- regions
@@ -75,10 +76,7 @@ pub fn region(letter: u8) -> Region {
 // Puts a region at a position, counted or not.
 fn put(words: &mut [u64; CONFIG_WORDS], position: usize, letter: u8) {
     let k = CONFIG_RECORDS + position % LETTERS * REGION_WORDS;
-    let r = region(letter);
-    words[k] = r.v.0;
-    words[k + 1] = r.p.0;
-    words[k + 2] = r.size;
+    put_region(words, k, region(letter));
 }
 
 // A, B, C and the GIC, then D and E where more than four are counted; and one more region put at a position.

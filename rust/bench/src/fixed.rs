@@ -6,8 +6,8 @@
 use ordinary::limits::{GUEST_REACH, MAX_ID, MAX_IN_SET, MAX_REGIONS, MAX_REQUESTS, MAX_ZONES, PAGE, PHYS_REACH};
 
 const MARKS: usize = 2;
-const REGION_BYTES: usize = 24;
-const REQUEST_BYTES: usize = 32;
+const REGION_BYTES: usize = Region::NUMBERS * 8;
+const REQUEST_BYTES: usize = 4 + 4 + REGION_BYTES;
 
 /// A number of the document and its two places, 0 where unused.
 pub type Answer = (u32, [u64; 2]);
@@ -73,7 +73,13 @@ pub struct Request {
 }
 
 impl Region {
-    pub const ZERO: Region = Region { v: 0, p: 0, size: 0 };
+    pub const NUMBERS: usize = 3;
+
+    pub const ZERO: Region = Region::from_numbers([0; Region::NUMBERS]);
+
+    pub const fn from_numbers([v, p, size]: [u64; Region::NUMBERS]) -> Region {
+        Region { v, p, size }
+    }
 
     fn is_well_formed(&self) -> bool {
         self.size > 0 && (self.v | self.p | self.size) % PAGE == 0
@@ -492,7 +498,7 @@ fn u64_at(bytes: &[u8], at: usize) -> u64 {
 }
 
 fn region_at(bytes: &[u8], at: usize) -> Region {
-    Region { v: u64_at(bytes, at), p: u64_at(bytes, at + 8), size: u64_at(bytes, at + 16) }
+    Region::from_numbers(std::array::from_fn(|number| u64_at(bytes, at + number * 8)))
 }
 
 /// Whether the records are these regions.
@@ -554,7 +560,7 @@ fn zone(next: &mut impl FnMut() -> u64) -> Zone {
 }
 
 fn records<const N: usize>(next: &mut impl FnMut() -> u64) -> [Region; N] {
-    std::array::from_fn(|_| Region { v: next(), p: next(), size: next() })
+    std::array::from_fn(|_| Region::from_numbers(std::array::from_fn(|_| next())))
 }
 
 #[cfg(test)]
@@ -571,10 +577,14 @@ mod tests {
             words.push(zone.id);
             for set in [&zone.cpu, &zone.iommu] {
                 words.push(set.count);
-                words.extend(set.records.iter().flat_map(|region| [region.v, region.p, region.size]));
+                words.extend(set.records.iter().flat_map(numbers_of));
             }
         }
         words
+    }
+
+    fn numbers_of(region: &Region) -> [u64; Region::NUMBERS] {
+        [region.v, region.p, region.size]
     }
 
     fn ask(case: &Case, state: &mut State) -> Answer {
@@ -587,8 +597,8 @@ mod tests {
             Question::Config => state.config.check().err().unwrap_or((0, [0, 0])),
             Question::Table => (state.table.check(&state.config).is_ok().into(), [0, 0]),
             Question::Request => {
-                let [_, _, v, p, size] = case.numbers;
-                let request = Request { kind: case.number(0), zone: case.number(1), region: Region { v, p, size } };
+                let ordinary::Record { kind, zone, region } = case.record();
+                let request = Request { kind, zone, region: Region::from_numbers(region.numbers()) };
                 (number_of(state.table.request(&state.config, &request)), [0, 0])
             }
             Question::Translate => {

@@ -189,7 +189,7 @@ fn for_other_zones(name: &str, mut terminal: Terminal, requests: &[Record]) -> J
 /// Two requests from outside, each of which checks the configuration and the table.
 fn two_requests(name: &str, terminal: Terminal) -> Job {
     let records = one_region(&terminal, 2);
-    let numbers: Vec<_> = records.iter().map(|record| (record.kind, record.zone, numbers_of(&record.region))).collect();
+    let numbers: Vec<_> = records.iter().map(|record| (record.kind, record.zone, record.region.numbers())).collect();
     let requests: Vec<_> = records.iter().map(fixed_request).collect();
     let Terminal { mut library, mut vectors, mut fixed } = terminal;
     Job {
@@ -218,13 +218,8 @@ fn two_requests(name: &str, terminal: Terminal) -> Job {
     }
 }
 
-fn numbers_of(region: &Region) -> [u64; 3] {
-    [region.v.0, region.p.0, region.size]
-}
-
 fn fixed_request(record: &Record) -> fixed::Request {
-    let [v, p, size] = numbers_of(&record.region);
-    fixed::Request { kind: record.kind, zone: record.zone, region: fixed::Region { v, p, size } }
+    fixed::Request { kind: record.kind, zone: record.zone, region: fixed::Region::from_numbers(record.region.numbers()) }
 }
 
 fn check_config(name: &str, config: ordinary::Config, answer: Answer) -> Job {

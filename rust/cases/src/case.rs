@@ -17,14 +17,17 @@ pub enum Question {
     Apply,
 }
 
+/// How many numbers a question can take: a request has its kind, its zone and those of its region.
+pub const NUMBERS: usize = 2 + Region::NUMBERS;
+
 /// A question and its input. What the question does not take is zero or empty.
 #[derive(Clone, Debug, PartialEq, Eq)]
 pub struct Case {
     pub question: Question,
     pub config: ConfigWords,
     pub table: TableWords,
-    /// Of a request its kind, zone, v, p and size; of a translation its zone, side and address; of a plan the terminal's edition.
-    pub numbers: [u64; 5],
+    /// Of a request its kind, its zone and its region's numbers; of a translation its zone, side and address; of a plan the terminal's edition.
+    pub numbers: [u64; NUMBERS],
     pub plan: Vec<u8>,
 }
 
@@ -59,37 +62,41 @@ impl From<Result<usize, PlanRefusal>> for Outcome {
 }
 
 impl Case {
-    fn new(question: Question, config: ConfigWords, table: TableWords, numbers: [u64; 5], plan: Vec<u8>) -> Case {
+    /// The numbers that are not given are 0.
+    fn new(question: Question, config: ConfigWords, table: TableWords, given: &[u64], plan: Vec<u8>) -> Case {
+        let mut numbers = [0; NUMBERS];
+        numbers[..given.len()].copy_from_slice(given);
         Case { question, config, table, numbers, plan }
     }
 
     pub fn config(config: ConfigWords) -> Case {
-        Case::new(Question::Config, config, [0; TABLE_WORDS], [0; 5], Vec::new())
+        Case::new(Question::Config, config, [0; TABLE_WORDS], &[], Vec::new())
     }
 
     pub fn table(config: ConfigWords, table: TableWords) -> Case {
-        Case::new(Question::Table, config, table, [0; 5], Vec::new())
+        Case::new(Question::Table, config, table, &[], Vec::new())
     }
 
     pub fn request(config: ConfigWords, table: TableWords, record: Record) -> Case {
         let Record { kind, zone, region } = record;
-        Case::new(Question::Request, config, table, [kind.into(), zone.into(), region.v.0, region.p.0, region.size], Vec::new())
+        let numbers = [&[kind.into(), zone.into()], &region.numbers()[..]].concat();
+        Case::new(Question::Request, config, table, &numbers, Vec::new())
     }
 
     pub fn translate(config: ConfigWords, table: TableWords, zone: u32, side: u32, address: u64) -> Case {
-        Case::new(Question::Translate, config, table, [zone.into(), side.into(), address, 0, 0], Vec::new())
+        Case::new(Question::Translate, config, table, &[zone.into(), side.into(), address], Vec::new())
     }
 
     pub fn base_edition(plan: Vec<u8>) -> Case {
-        Case::new(Question::Edition, [0; CONFIG_WORDS], [0; TABLE_WORDS], [0; 5], plan)
+        Case::new(Question::Edition, [0; CONFIG_WORDS], [0; TABLE_WORDS], &[], plan)
     }
 
     pub fn read(plan: Vec<u8>) -> Case {
-        Case::new(Question::Read, [0; CONFIG_WORDS], [0; TABLE_WORDS], [0; 5], plan)
+        Case::new(Question::Read, [0; CONFIG_WORDS], [0; TABLE_WORDS], &[], plan)
     }
 
     pub fn apply(config: ConfigWords, table: TableWords, edition: u32, plan: Vec<u8>) -> Case {
-        Case::new(Question::Apply, config, table, [edition.into(), 0, 0, 0, 0], plan)
+        Case::new(Question::Apply, config, table, &[edition.into()], plan)
     }
 
     /// One of the numbers that the function takes as 32 bits.
@@ -107,8 +114,8 @@ impl Case {
 
     /// The request's numbers.
     pub fn record(&self) -> Record {
-        let [_, _, v, p, size] = self.numbers;
-        Record { kind: self.number(0), zone: self.number(1), region: Region::new(v, p, size) }
+        let [_, _, region @ ..] = self.numbers;
+        Record { kind: self.number(0), zone: self.number(1), region: Region::from_numbers(region) }
     }
 
     /// The answer that leaves everything as it was.

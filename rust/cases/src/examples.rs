@@ -21,17 +21,18 @@ pub fn add(files: &mut PlanFiles) {
 #[cfg(test)]
 mod tests {
     use super::*;
+    use ordinary::layout::REGION_BYTES;
 
-    /// Document 01's whole plan as it is printed there, without its 24 zero bytes.
+    /// Document 01's whole plan as it is printed there, without the zero bytes of its last region.
     const FIRST_PRINTED: &str = "02000000 00000000 00000000 01000000 0000000800000000 0000000800000000 0000010000000000 \
                                  00000000 01000000 01000000 05000000";
 
     #[test]
     fn the_first_is_the_documents() {
         let bytes = first().bytes();
-        let (printed, zeros) = bytes.split_at(bytes.len() - 24);
+        let (printed, zeros) = bytes.split_at(bytes.len() - REGION_BYTES);
         let digits: String = FIRST_PRINTED.split_whitespace().collect();
         assert_eq!(printed.iter().map(|byte| format!("{byte:02x}")).collect::<String>(), digits);
-        assert_eq!(zeros, [0; 24]);
+        assert_eq!(zeros, [0; REGION_BYTES]);
     }
 }

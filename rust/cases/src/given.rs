@@ -1,7 +1,7 @@
 //! What many cases are made from: the document's regions, and short ways to write words, zones and requests.
 
 use ordinary::limits::{GUEST_REACH, MAX_ZONES, PAGE, PHYS_REACH};
-use ordinary::{Config, ConfigWords, Record, Region, Table, TableWords, Zone};
+use ordinary::{Config, ConfigWords, Guest, Phys, Record, Region, Table, TableWords, Zone};
 
 // The desk's regions; G is the GIC's.
 pub const A: Region = Region::new(0x4000_0000, 0x8000_0000, 0x20_0000);
@@ -89,11 +89,11 @@ pub fn with_word<const N: usize>(mut words: [u64; N], at: usize, word: u64) -> [
 // The same region but for one of its numbers.
 
 pub fn with_v(region: Region, v: u64) -> Region {
-    Region::new(v, region.p.0, region.size)
+    Region { v: Guest(v), ..region }
 }
 
 pub fn with_p(region: Region, p: u64) -> Region {
-    Region::new(region.v.0, p, region.size)
+    Region { p: Phys(p), ..region }
 }
 
 pub fn with_size(region: Region, size: u64) -> Region {

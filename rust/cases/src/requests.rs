@@ -475,13 +475,12 @@ fn regions_in_order(book: &mut Book) {
 // ---- random runs
 
 fn poked(rng: &mut Rng, region: Region) -> Region {
-    let mut numbers = [region.v.0, region.p.0, region.size];
-    let at = rng.below(3);
+    let mut numbers = region.numbers();
+    let at = rng.below(numbers.len());
     let more = numbers[at].wrapping_add(PAGE);
     let reach = reach_of(at);
     numbers[at] = *rng.pick(&[0, 1, PAGE, more, reach - PAGE, reach, reach + 1, LAST_PAGE, u64::MAX]);
-    let [v, p, size] = numbers;
-    Region::new(v, p, size)
+    Region::from_numbers(numbers)
 }
 
 /// A request of one of these kinds, for one of these zones, with one of these regions; now and then with another number.

@@ -74,7 +74,7 @@ fn ask_library(case: &Case, state: &mut Lent) -> (u32, [u64; 2]) {
         Question::Table => (raw::check_table(&state.config, &state.table), [0, 0]),
         Question::Request => {
             let Record { kind, zone, region } = case.record();
-            (raw::request(&state.config, &mut state.table, kind, zone, [region.v.0, region.p.0, region.size]), [0, 0])
+            (raw::request(&state.config, &mut state.table, kind, zone, region.numbers()), [0, 0])
         }
         Question::Translate => raw::translate_words(&state.config, &state.table, case.number(0), case.number(1), case.numbers[2]),
         Question::Edition => {

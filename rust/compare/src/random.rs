@@ -135,10 +135,9 @@ fn zone_id(rng: &mut Rng, table: &Table) -> u32 {
 }
 
 fn altered(rng: &mut Rng, region: Region) -> Region {
-    let mut numbers = [region.v.0, region.p.0, region.size];
-    numbers[rng.below(3)] = number(rng);
-    let [v, p, size] = numbers;
-    Region::new(v, p, size)
+    let mut numbers = region.numbers();
+    numbers[rng.below(numbers.len())] = number(rng);
+    Region::from_numbers(numbers)
 }
 
 fn configured(rng: &mut Rng, config: &Config) -> Region {

@@ -66,7 +66,7 @@ mod tests {
         let small = shrink(&case, holds);
         assert_eq!(small.config.iter().sum::<u64>(), 7);
         assert_eq!(small.table.iter().sum::<u64>(), 7);
-        assert_eq!(small.numbers, [0; 5]);
+        assert_eq!(small.numbers, [0; cases::NUMBERS]);
         assert_eq!((small.plan.len(), small.plan.iter().filter(|&&byte| byte != 0).count()), (13, 1));
     }
 

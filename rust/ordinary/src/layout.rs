@@ -1,17 +1,20 @@
-//! Where numbers stand among the words of a configuration and of a table, and how long records are in a plan. A record is v, p and size.
+//! Where numbers stand among the words of a configuration and of a table, and how long records are in a plan. A record is a region's numbers.
 
 use crate::limits::MAX_IN_SET;
+use crate::region::Region;
 use crate::table::Side;
 
 /// How many words a record is.
-pub const REGION_WORDS: usize = 3;
+pub const REGION_WORDS: usize = Region::NUMBERS;
 /// How many words a set is: its count, then its records.
 pub const SET_WORDS: usize = 1 + MAX_IN_SET * REGION_WORDS;
 /// How many words a zone is: its id, then its CPU and its IOMMU set.
 pub const ZONE_WORDS: usize = 1 + 2 * SET_WORDS;
 
-/// How many bytes a region is in a plan: each of its numbers has 8.
-pub const REGION_BYTES: usize = REGION_WORDS * 8;
+/// How many bytes a number of a region is in a plan.
+pub const NUMBER_BYTES: usize = 8;
+/// How many bytes a region is in a plan: its numbers.
+pub const REGION_BYTES: usize = Region::NUMBERS * NUMBER_BYTES;
 /// How many bytes a request is in a plan: its kind and its zone id have 4 each, then its region.
 pub const REQUEST_BYTES: usize = 4 + 4 + REGION_BYTES;
 

@@ -1,7 +1,7 @@
 use std::ops::RangeInclusive;
 
 use crate::config::Config;
-use crate::layout::{REGION_BYTES, REQUEST_BYTES};
+use crate::layout::{NUMBER_BYTES, REGION_BYTES, REQUEST_BYTES};
 use crate::limits::{MAX_IN_SET, MAX_REGIONS, MAX_REQUESTS, MAX_ZONES};
 use crate::region::Region;
 use crate::request::Record;
@@ -185,7 +185,7 @@ fn u64_at(bytes: &[u8], at: usize) -> u64 {
 }
 
 fn region_at(bytes: &[u8], at: usize) -> Region {
-    Region::new(u64_at(bytes, at), u64_at(bytes, at + 8), u64_at(bytes, at + 16))
+    Region::from_numbers(std::array::from_fn(|number| u64_at(bytes, at + number * NUMBER_BYTES)))
 }
 
 /// The plan that asks this of a terminal in this state.
@@ -215,7 +215,7 @@ fn put_u32(plan: &mut Vec<u8>, number: u32) {
 }
 
 fn put_region(plan: &mut Vec<u8>, region: &Region) {
-    for number in [region.v.0, region.p.0, region.size] {
+    for number in region.numbers() {
         plan.extend_from_slice(&number.to_le_bytes());
     }
 }

@@ -20,15 +20,28 @@ pub struct Region {
 }
 
 impl Region {
-    /// The region whose three numbers are 0.
-    pub const ZERO: Region = Region::new(0, 0, 0);
+    /// How many numbers a region has.
+    pub const NUMBERS: usize = 3;
 
-    /// A region from its three numbers.
+    /// The region whose numbers are all 0.
+    pub const ZERO: Region = Region::from_numbers([0; Region::NUMBERS]);
+
+    /// A region from its numbers.
     pub const fn new(v: u64, p: u64, size: u64) -> Region {
         Region { v: Guest(v), p: Phys(p), size }
     }
 
-    /// Whether the size is above 0 and all three numbers are multiples of a page.
+    /// A region from its numbers, in the order in which they stand among words and bytes.
+    pub const fn from_numbers([v, p, size]: [u64; Region::NUMBERS]) -> Region {
+        Region::new(v, p, size)
+    }
+
+    /// Its numbers, in that order.
+    pub const fn numbers(&self) -> [u64; Region::NUMBERS] {
+        [self.v.0, self.p.0, self.size]
+    }
+
+    /// Whether the size is above 0, and v, p and size are multiples of a page.
     pub fn is_well_formed(&self) -> bool {
         self.size > 0 && (self.v.0 | self.p.0 | self.size) % PAGE == 0
     }

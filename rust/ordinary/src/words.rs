@@ -86,7 +86,7 @@ fn is_zero(words: &[u64]) -> bool {
 }
 
 fn regions(words: &[u64]) -> impl Iterator<Item = Region> + '_ {
-    words.chunks_exact(REGION_WORDS).map(|record| Region::new(record[0], record[1], record[2]))
+    words.chunks_exact(REGION_WORDS).map(|record| Region::from_numbers(record.try_into().expect("a record's words")))
 }
 
 fn put_set(words: &mut [u64], set: &[Region]) {
@@ -96,13 +96,14 @@ fn put_set(words: &mut [u64], set: &[Region]) {
 
 fn put_regions(words: &mut [u64], regions: &[Region]) {
     for (region, record) in regions.iter().zip(words.chunks_exact_mut(REGION_WORDS)) {
-        record.copy_from_slice(&[region.v.0, region.p.0, region.size]);
+        record.copy_from_slice(&region.numbers());
     }
 }
 
 #[cfg(test)]
 mod tests {
     use super::*;
+    use crate::layout::config_record;
 
     fn gic_only() -> Config {
         Config { regions: vec![Region::new(0x0800_0000, 0x0800_0000, 0x1_0000)], gic: 0 }
@@ -130,7 +131,7 @@ mod tests {
         assert_eq!(with(0, u64::MAX), Err(ConfigFault::Count));
         assert_eq!(with(1, 1), Err(ConfigFault::GicPosition));
         assert_eq!(with(1, 1 << 32), Err(ConfigFault::GicPosition));
-        assert_eq!(with(5, 1), Err(ConfigFault::NotZero { place: 1 }));
+        assert_eq!(with(config_record(1), 1), Err(ConfigFault::NotZero { place: 1 }));
         assert_eq!(with(CONFIG_WORDS - 1, 1), Err(ConfigFault::NotZero { place: MAX_REGIONS - 1 }));
     }
 

@@ -4,6 +4,7 @@
 
 use crate::config::Config;
 use crate::plan::State;
+use crate::region::Region;
 use crate::table::Table;
 
 mod library {
@@ -65,7 +66,7 @@ pub fn check_table(config: &Config, table: &Table) -> u32 {
 }
 
 /// The number of a request's refusal, or 0. The region is v, p, size.
-pub fn request(config: &Config, table: &mut Table, kind: u32, zone: u32, [v, p, size]: [u64; 3]) -> u32 {
+pub fn request(config: &Config, table: &mut Table, kind: u32, zone: u32, [v, p, size]: [u64; Region::WORDS]) -> u32 {
     unsafe { library::peatmitten_request(config, table, kind, zone, v, p, size) }
 }
 

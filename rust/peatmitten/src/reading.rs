@@ -175,7 +175,7 @@ impl Fields<'_> {
 
     fn region(&mut self, field: impl FnOnce(Region) -> Field) -> Option<()> {
         let region = self.take_region()?;
-        self.found(24, field(region));
+        self.found(Region::BYTES, field(region));
         Some(())
     }
 
@@ -183,13 +183,16 @@ impl Fields<'_> {
         let kind = u32::from_le_bytes(self.take()?);
         let zone = u32::from_le_bytes(self.take()?);
         let region = self.take_region()?;
-        self.found(32, Field::Request(Request::from_numbers(kind, zone, region)));
+        self.found(4 + 4 + Region::BYTES, Field::Request(Request::from_numbers(kind, zone, region)));
         Some(())
     }
 
     fn take_region(&mut self) -> Option<Region> {
-        let [v, p, size] = [self.take()?, self.take()?, self.take()?].map(u64::from_le_bytes);
-        Some(Region::new(v, p, size))
+        let mut words = [0; Region::WORDS];
+        for word in &mut words {
+            *word = u64::from_le_bytes(self.take()?);
+        }
+        Some(Region::from_words(words))
     }
 
     fn take<const N: usize>(&mut self) -> Option<[u8; N]> {

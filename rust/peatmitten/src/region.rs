@@ -36,12 +36,19 @@ impl Region {
         Region { v: Guest(v), p: Physical(p), size }
     }
 
+    /// How many bytes a region is in a plan: each word is 8.
+    pub(crate) const BYTES: u64 = Region::WORDS as u64 * 8;
+
+    pub(crate) const fn from_words([v, p, size]: [u64; Region::WORDS]) -> Region {
+        Region::new(v, p, size)
+    }
+
     pub(crate) fn words(&self) -> [u64; Region::WORDS] {
         [self.v.0, self.p.0, self.size]
     }
 
     /// The regions that stand in these words, one after the other.
     pub(crate) fn in_words(words: &[u64]) -> impl Iterator<Item = Region> + '_ {
-        words.chunks_exact(Region::WORDS).map(|record| Region::new(record[0], record[1], record[2]))
+        words.chunks_exact(Region::WORDS).map(|record| Region::from_words(record.try_into().expect("a record's words")))
     }
 }

@@ -34,7 +34,7 @@ pub struct Request {
 }
 
 impl Request {
-    const NO_REGION: Region = Region::new(0, 0, 0);
+    const NO_REGION: Region = Region::from_words([0; Region::WORDS]);
 
     /// Adds an empty zone.
     pub const fn add_zone(zone: u32) -> Request {

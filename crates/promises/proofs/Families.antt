@@ -209,7 +209,7 @@ pub old-terminals-refuse : OldTerminalsRefuse
 unfolding countsAbove
 old-terminals-refuse s b p m =
     let refused = above-is-refused oldLimits limits s b p m in
-    let behind : zonesAt p ≡ 16 + length (p .regions) * 24 = omega arith in (
+    let behind : zonesAt p ≡ 16 + length (p .regions) * regionSize = omega arith in (
       λ r. refused 0 (record { there = omega arith; holds = lt-ltb _ _ r; earlier = λ j l. absurd (omega arith) }),
       λ (r, z). subst (Refuses21 oldLimits s b) behind
           (refused 1 (record { there = omega arith; holds = lt-ltb _ _ z; earlier = λ j l. first r j l })),

@@ -17,9 +17,9 @@
  * written by another thread meanwhile: while a plan is applied, its table may hold what earlier requests of the plan made of it.
  *
  * Stack: PEATMITTEN_STACK bytes are enough. tests/stack.sh measures it: it calls every function on a stack filled with a pattern, over the
- * stored plans, looks how deep the pattern is gone, and prints it for each function. Measured were on x86-64 4,544 bytes for
- * peatmitten_apply_words and on aarch64 4,464, and less for the others: no function has a table, a configuration or a plan on its stack, but
- * a number for each configured region, twice at a time. Nothing is allocated.
+ * stored plans, looks how deep the pattern is gone, and prints it for each function. Measured were on x86-64 6,784 bytes for
+ * peatmitten_end_words and on aarch64 6,672, for peatmitten_apply_words 4,640 and 4,528, and less for the others: no function has a table, a
+ * configuration or a plan on its stack, but a number for each configured region, two or three times at a time. Nothing is allocated.
  *
  * Imports: memset, and nothing else. The code is called as Linux does on its processor (System V on x86-64, AAPCS64 on aarch64, lowest byte
  * first); no other system is supported. Every function takes and gives pointers and whole numbers of 32 and 64 bits, so none is declared
@@ -93,10 +93,16 @@ typedef struct peatmitten_state {
 
 /* What peatmitten_apply answers, and peatmitten_apply_words in three numbers. */
 typedef struct peatmitten_outcome {
-    uint32_t number; /* a peatmitten_answer: 0, 1, 2 or 20 to 27 */
+    uint32_t number; /* a peatmitten_answer: 0, 1, 2 or 20 to 27; of peatmitten_end also 28 */
     size_t place;    /* on 0 how many requests the plan had, on 20 to 22 an offset, on 27 the index of the refused request, else 0 */
     uint32_t inner;  /* on 27 why that request is refused, else 0 */
 } peatmitten_outcome;
+
+/* What takes a plan in pieces. Zeros are one that is empty. */
+typedef struct peatmitten_receiver {
+    uint64_t stored; /* how many bytes of the buffer are stored */
+    uint64_t more;   /* 0 unless more came than the longest plan has */
+} peatmitten_receiver;
 
 /* What peatmitten_translate answers, and peatmitten_translate_words in three numbers. */
 typedef struct peatmitten_translated {
@@ -183,7 +189,8 @@ enum peatmitten_answer {
     PEATMITTEN_OTHER_EDITION = 24,    /* (plan) the edition differs: most often a repeated or an overtaken plan */
     PEATMITTEN_NO_NEXT_EDITION = 25,  /* (plan) the edition is 2^32 - 1: there is no next one */
     PEATMITTEN_OTHER_ZONES = 26,      /* (plan) the base zones differ, order included */
-    PEATMITTEN_REQUEST_REFUSED = 27   /* (plan) a request is refused; place: its index from 0; inner: its number, 3 to 17 */
+    PEATMITTEN_REQUEST_REFUSED = 27,  /* (plan) a request is refused; place: its index from 0; inner: its number, 3 to 17 */
+    PEATMITTEN_BUFFER_SHORT = 28      /* (lent buffer) it is too short */
 };
 
 /*
@@ -264,6 +271,58 @@ static inline peatmitten_outcome peatmitten_apply(peatmitten_state *state, const
     outcome.number = peatmitten_apply_words(state->config, state->table, &state->edition, plan, length, places);
     outcome.place = (size_t)places[0];
     outcome.inner = (uint32_t)places[1];
+    return outcome;
+}
+
+/*
+ * Takes a piece of a plan, of any length, into a buffer. Answers 0; or 28 where the buffer is shorter than PEATMITTEN_LONGEST_PLAN, and then
+ * neither it nor the receiver changes. Pieces of one plan go to one receiver and one buffer, in their order, and peatmitten_end_words answers
+ * for all of them: nothing is applied before.
+ * receiver[0] is how many bytes are stored, and receiver[1] is 0 unless more came than the longest plan has. An empty receiver is two zeros.
+ * Only the bytes that are added to the buffer are written; bytes past the longest plan are not stored. Between calls the buffer is the
+ * caller's to keep as it is.
+ * Words that no call left are taken too: where receiver[1] is not 0, or receiver[0] is above PEATMITTEN_LONGEST_PLAN, the receiver counts as
+ * one to which more came than the longest plan has. It then stores nothing, and its end call accepts nothing.
+ * `buffer` and `piece` point to as many bytes as their lengths say; neither is null even where its length is 0.
+ */
+uint32_t peatmitten_take_piece(uint64_t receiver[2], uint8_t *buffer, size_t buffer_length, const uint8_t *piece, size_t length);
+
+/*
+ * Ends a plan that came in pieces: applies it to a terminal's state, exactly as peatmitten_apply_words applies the whole plan, however it was
+ * cut. Answers also 28, where the buffer is shorter than PEATMITTEN_LONGEST_PLAN: then neither state nor receiver changes. After every other
+ * answer, refusals among them, the receiver is empty. The buffer is not written.
+ */
+uint32_t peatmitten_end_words(const uint64_t config[PEATMITTEN_CONFIG_WORDS], uint64_t table[PEATMITTEN_TABLE_WORDS], uint32_t *edition,
+                              uint64_t receiver[2], const uint8_t *buffer, size_t buffer_length, uint64_t places[2]);
+
+/* The same two with receiver, state and answer in one piece. */
+static inline uint32_t peatmitten_take(peatmitten_receiver *receiver, uint8_t *buffer, size_t buffer_length, const uint8_t *piece,
+                                       size_t length)
+{
+    uint64_t words[2];
+    uint32_t number;
+
+    words[0] = receiver->stored;
+    words[1] = receiver->more;
+    number = peatmitten_take_piece(words, buffer, buffer_length, piece, length);
+    receiver->stored = words[0];
+    receiver->more = words[1];
+    return number;
+}
+
+static inline peatmitten_outcome peatmitten_end(peatmitten_state *state, peatmitten_receiver *receiver, const uint8_t *buffer,
+                                                size_t buffer_length)
+{
+    uint64_t words[2], places[2];
+    peatmitten_outcome outcome;
+
+    words[0] = receiver->stored;
+    words[1] = receiver->more;
+    outcome.number = peatmitten_end_words(state->config, state->table, &state->edition, words, buffer, buffer_length, places);
+    outcome.place = (size_t)places[0];
+    outcome.inner = (uint32_t)places[1];
+    receiver->stored = words[0];
+    receiver->more = words[1];
     return outcome;
 }
 

@@ -66,6 +66,8 @@ static inline const char *peatmitten_words(uint32_t number)
         return "the plan is for other zones, or for these in another order";
     case PEATMITTEN_REQUEST_REFUSED:
         return "a request is refused, and the whole plan is undone";
+    case PEATMITTEN_BUFFER_SHORT:
+        return "the buffer that was lent is too short";
     default:
         return "no number of the library";
     }

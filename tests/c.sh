@@ -13,7 +13,7 @@ build() {
     local folder=$1 example
     shift
     mkdir "$folder"
-    for example in apply_plan copy_stretch; do
+    for example in apply_plan copy_stretch receive_plan; do
         "$CC" -std=c11 -Wall -Wextra -Wpedantic -Werror -O1 -g -I"$root/include" "$@" \
             "$root/examples/c/$example.c" "$ARCHIVE" -o "$folder/$example" || say_failed "$example does not build"
     done
@@ -63,6 +63,14 @@ run_cases() {
     expect 1 '0x40002fff: 1 bytes from 0x80000fff' "$program" 0x40002fff 2
     expect 1 '' "$program" 0x3fffffff 2
     expect_error 'usage: copy_stretch ADDRESS COUNT' "$program" 0x40000000
+
+    program=$1/receive_plan
+    expect 0 '1 pieces, 80 bytes: 0 1 0, edition 1' "$program" 4096 <"$plans/first.plan"
+    expect 0 '80 pieces, 80 bytes: 0 1 0, edition 1' "$program" 1 <"$plans/first.plan"
+    expect 1 '12 pieces, 80 bytes: 23 0 0, edition 0' "$program" 7 <"$work/other.plan"
+    expect 1 '0 pieces, 0 bytes: 20 0 0, edition 0' "$program" 7 </dev/null
+    expect 1 '18 pieces, 70000 bytes: 22 80 0, edition 0' "$program" 4000 <"$work/long.plan"
+    expect_error 'usage: receive_plan MOST' "$program" 0
 }
 
 # The header's limits are the library's, and its layout function's name says them.
@@ -116,6 +124,10 @@ check_cpp() {
     "$1" -std=c++11 -Wall -Wextra -Wpedantic -Werror -fsyntax-only -I"$root/include" "$work/header.cpp" ||
         say_failed "the headers do not compile as C++"
 }
+
+# first.plan with another position of the GIC, and with so many bytes behind it that it is longer than the longest plan
+{ head -c 4 "$root/examples/first.plan" && printf '\1' && tail -c +6 "$root/examples/first.plan"; } >"$work/other.plan"
+{ cat "$root/examples/first.plan" && head -c 69920 /dev/zero; } >"$work/long.plan"
 
 build "$work/plain"
 run_cases "$work/plain"

@@ -21,14 +21,15 @@
 #define PATTERN 0xa5
 #define PATTERN_WORD (UINT64_MAX / 0xff * PATTERN)
 
-enum { CHECK_CONFIG, CHECK_TABLE, REQUEST, TRANSLATE, EDITION, READ, APPLY, LAYOUT, FUNCTIONS };
+enum { CHECK_CONFIG, CHECK_TABLE, REQUEST, TRANSLATE, EDITION, READ, APPLY, TAKE, END, LAYOUT, FUNCTIONS };
 
 #define NAME_OF(symbol) #symbol
 #define TEXT_OF(symbol) NAME_OF(symbol)
 
 static const char *const names[FUNCTIONS] = {
     "peatmitten_check_config", "peatmitten_check_table", "peatmitten_request",     "peatmitten_translate_words",
-    "peatmitten_edition",      "peatmitten_read",        "peatmitten_apply_words", TEXT_OF(peatmitten_layout)};
+    "peatmitten_edition",      "peatmitten_read",        "peatmitten_apply_words", "peatmitten_take_piece",
+    "peatmitten_end_words",    TEXT_OF(peatmitten_layout)};
 
 static uint64_t stack[STACK_WORDS] __attribute__((aligned(64)));
 static ucontext_t here, there;
@@ -37,6 +38,8 @@ static uint8_t plan[PEATMITTEN_LONGEST_PLAN + 1];
 static size_t length;
 static uint32_t kind;
 static uint64_t answers[2];
+static uint64_t receiver[2];
+static uint8_t buffer[PEATMITTEN_LONGEST_PLAN];
 
 static void nothing(void)
 {
@@ -82,6 +85,16 @@ static void read_only(void)
 static void apply(void)
 {
     peatmitten_apply_words(state.config, state.table, &state.edition, plan, length, answers);
+}
+
+static void take_piece(void)
+{
+    peatmitten_take_piece(receiver, buffer, sizeof buffer, plan, length);
+}
+
+static void end_words(void)
+{
+    peatmitten_end_words(state.config, state.table, &state.edition, receiver, buffer, sizeof buffer, answers);
 }
 
 static void layout(void)
@@ -149,6 +162,11 @@ static void measure(size_t most[FUNCTIONS], const char *state_path, const char *
     }
     state = before;
     keep_most(most, APPLY, apply);
+    state = before;
+    keep_most(most, TAKE, take_piece);
+    keep_most(most, END, end_words);
+    receiver[1] = 1;
+    keep_most(most, END, end_words);
 }
 
 int main(int argc, char **argv)

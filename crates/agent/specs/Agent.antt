@@ -8,8 +8,10 @@ use lib.ListN.{length, getD}
 use Rattle.rules.specs.Configuration.{checkPlace, checkEarlier}
 use Rattle.rules.specs.Limits.{mostRegions, mostZones, mostInSet, mostRequests, limits}
 use Rattle.rules.specs.Plan.{readPlan}
+use Rattle.rules.specs.Receiving.{takePiece}
 use Rattle.rules.specs.Sizes.{longestSize}
 use Rattle.rules.specs.declared.Checked.{Checked}
+use Rattle.rules.specs.declared.Receiver.{Receiver}
 use Rattle.rules.specs.declared.Side.{Side}
 use Rattle.rules.specs.declared.Side.the-variants.{Cpu, Iommu}
 use Rattle.rules.specs.declared.Translated.{Translated}
@@ -19,6 +21,7 @@ use Rattle.plan.specs.Into.{sectionPlace}
 use Rattle.plan.specs.Read.{readAnswer}
 use Rattle.plan.specs.declared.words.Section.{Section}
 use Rattle.plan.specs.declared.words.Section.the-variants.{End, Bad}
+use Rattle.receiver.specs.Words.{endedIn, TakesIn}
 use Rattle.terminal.specs.Terminal.{Applies}
 use Rattle.walker.specs.declared.Edition.{Edition}
 use Rattle.walker.specs.declared.Edition.the-variants.{Is, Bad as BadEdition}
@@ -77,3 +80,46 @@ abbrev pub PartsAreAState : Type 0
 PartsAreAState =
     (c t : List ℕ) (e : ℕ) (b : List ℕ) (n : ℕ) (u : List ℕ) (d : ℕ) (a : List ℕ) → AppliesWords c t e b n u d a
     → Applies (stateIn c t e) b (stateIn c u d) (record { number = n; place = getD a 0 0; inner = getD a 1 0 })
+
+-- ---- a plan in pieces
+-- the receiver that two words are, and its words
+abbrev pub receiverIn : List ℕ → Receiver
+receiverIn k = record { stored = getD k 0 0; more = getD k 1 0 }
+
+abbrev pub wordsOfReceiver : Receiver → List ℕ
+wordsOfReceiver r = r .stored ∷ r .more ∷ []
+
+-- a piece call: the number, and what then lies at the receiver and in the buffer
+pub record TakesWords (k w p : List ℕ) (n : ℕ) (j v : List ℕ) : Type 0 where
+  pub number : n ≡ takePiece limits (receiverIn k) w p .number
+  pub receiver : j ≡ wordsOfReceiver (takePiece limits (receiverIn k) w p .receiver)
+  pub buffer : v ≡ takePiece limits (receiverIn k) w p .buffer
+
+-- the end call: the number, what then lies at the table, at the edition and at the receiver, and the place and inner
+-- number
+pub record EndsWords (c t : List ℕ) (e : ℕ) (k w : List ℕ) (n : ℕ) (u : List ℕ) (d : ℕ) (j a : List ℕ) : Type 0 where
+  pub number : n ≡ endedIn (stateIn c t e) (receiverIn k) w .outcome .number
+  pub table : u ≡ endedIn (stateIn c t e) (receiverIn k) w .state .table .words
+  pub edition : d ≡ endedIn (stateIn c t e) (receiverIn k) w .state .edition
+  pub receiver : j ≡ wordsOfReceiver (endedIn (stateIn c t e) (receiverIn k) w .receiver)
+  pub places : a
+      ≡ endedIn (stateIn c t e) (receiverIn k) w .outcome .place
+      ∷ endedIn (stateIn c t e) (receiverIn k) w .outcome .inner ∷ []
+
+-- so the words are a receiver's and the three parts a state: what is proved of piece calls and end calls is true of
+-- such calls
+abbrev pub WordsAreAPiece : Type 0
+WordsAreAPiece =
+    (k w p : List ℕ) (n : ℕ) (j v : List ℕ) → TakesWords k w p n j v
+    → TakesIn (receiverIn k) w p (record { number = n; receiver = receiverIn j }) v
+
+abbrev pub WordsAreAnEnd : Type 0
+WordsAreAnEnd =
+    (c t : List ℕ) (e : ℕ) (k w : List ℕ) (n : ℕ) (u : List ℕ) (d : ℕ) (j a : List ℕ)
+    → EndsWords c t e k w n u d j a
+    → record {
+      outcome = record { number = n; place = getD a 0 0; inner = getD a 1 0 };
+      state = stateIn c u d;
+      receiver = receiverIn j;
+    }
+    ≡ endedIn (stateIn c t e) (receiverIn k) w

@@ -4,8 +4,11 @@ use plan::Found;
 use plan::LONGEST_PLAN;
 use plan::apply_words;
 use plan::find_sections;
+use receiver::end_words;
+use receiver::take_piece;
 use rules::Guest;
 use rules::Phys;
+use rules::Receiver;
 use rules::Region;
 use rules::Side;
 use rules::limits::MOST_IN_SET;
@@ -37,7 +40,7 @@ ghost use Rattle.rules.specs.Translation.{translated};
 ghost use Rattle.zones.specs.Step.{Stepped};
 ghost use Rattle.zones.specs.View.{storedConfig, storedTable};
 ghost use Rattle.walker.specs.Edition.{editionOf};
-ghost use Rattle.agent.specs.Agent.{layout, placesOf, yesOrNo, sideAsked, stretchOf, readingNumber, readingPlace, editionNumber, editionValue, AppliesWords};
+ghost use Rattle.agent.specs.Agent.{layout, placesOf, yesOrNo, sideAsked, stretchOf, readingNumber, readingPlace, editionNumber, editionValue, receiverIn, AppliesWords, TakesWords, EndsWords};
 
 // What a header must have for this library, one number at a time; 0 past the last. Its name says them too, so that a program with the
 // header of another library does not link.
@@ -166,6 +169,62 @@ pub extern "C" fn peatmitten_apply_words(
         *edition = held + 1;
     }
     outcome.number
+}
+
+// Takes a piece of a plan into the buffer that is lent at each call: 0, or 28 where that is shorter than the longest plan.
+#[no_mangle]
+pub extern "C" fn peatmitten_take_piece(
+    receiver: &mut [u64; 2],
+    buffer: &mut [u8],
+    piece: &[u8],
+) -> u32
+    ensures { λ n. ⌜ TakesWords (now (receiver .entry)) (now (buffer .entry)) (now (piece .entry)) n (now (receiver .exit)) (now (buffer .exit)) ⌝ }
+{
+    let held = receiver_in(receiver);
+    let taking = take_piece(held, buffer, piece);
+    put_two(
+        receiver,
+        taking.receiver.stored as u64,
+        taking.receiver.more,
+    );
+    taking.number
+}
+
+// Applies what came in pieces, as `peatmitten_apply_words` applies a whole plan.
+#[no_mangle]
+pub extern "C" fn peatmitten_end_words(
+    config: &[u64; CONFIG_WORDS],
+    table: &mut [u64; TABLE_WORDS],
+    edition: &mut u32,
+    receiver: &mut [u64; 2],
+    buffer: &[u8],
+    places: &mut [u64; 2],
+) -> u32
+    ensures { λ n. ⌜ EndsWords (now (config .entry)) (now (table .entry)) (now (edition .entry)) (now (receiver .entry)) (now (buffer .entry)) n (now (table .exit)) (now (edition .exit)) (now (receiver .exit)) (now (places .exit)) ⌝ }
+{
+    let at = *edition;
+    let held = receiver_in(receiver);
+    let ending = end_words(config, table, at, held, buffer);
+    put_two(
+        receiver,
+        ending.receiver.stored as u64,
+        ending.receiver.more,
+    );
+    let outcome = ending.outcome;
+    put_two(places, outcome.place as u64, outcome.inner as u64);
+    if ending.outcome.number == 0 {
+        *edition = at + 1;
+    }
+    outcome.number
+}
+
+fn receiver_in(words: &[u64; 2]) -> Receiver
+    ensures { λ r. ⌜ r ≡ receiverIn (now (words .entry)) ⌝ }
+{
+    Receiver {
+        stored: words[0] as usize,
+        more: words[1],
+    }
 }
 
 // Reads a plan and applies nothing: 20, 21 or 22 with its offset, or 0 with the offset of the first request.

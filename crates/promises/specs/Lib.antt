@@ -12,4 +12,5 @@ pub mod Stretches
 pub mod Editions
 pub mod Terminals
 pub mod Past
+pub mod Receiving
 pub mod Families

@@ -13,6 +13,7 @@ pub mod Translation
 pub mod Plan
 pub mod Sizes
 pub mod Applying
+pub mod Receiving
 pub mod Planner
 pub mod Computing
 pub mod Desk

@@ -190,7 +190,7 @@ module _ (l : Limits) where
       (most-number 4)
       (most-both (setFormat l) (setFormat l) (regionsSize (l .inSet)) (regionsSize (l .inSet)) set-most set-most))
 
-  plan-most : Most (planFormat l) (longestSize l)
+  pub plan-most : Most (planFormat l) (longestSize l)
   plan-most =
       let zones : ℕ = shortSize + l .zones * setsSize (l .inSet) (l .inSet) in
       most-as (both marksSection (both (regionsSection l) (both (zonesSection l) (requestsSection l)))) planTo planFrom

@@ -12,6 +12,7 @@ pub mod Translation
 pub mod Plan
 pub mod Sizes
 pub mod Applying
+pub mod Receiving
 pub mod Planner
 pub mod Desk
 pub mod Story

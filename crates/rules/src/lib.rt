@@ -63,3 +63,9 @@ pub struct Translated {
     pub phys: Phys,
     pub remaining: u64,
 }
+
+// What takes a plan in pieces: how many bytes are stored, and 0 unless more came than the longest plan has.
+pub struct Receiver {
+    pub stored: usize,
+    pub more: u64,
+}

@@ -55,6 +55,9 @@ pub const OTHER_ZONES: u32 = 26;
 
 pub const REQUEST_REFUSED: u32 = 27;
 
+// A lent buffer.
+pub const BUFFER_SHORT: u32 = 28;
+
 // C1 to C6, of a configuration.
 pub const C1_COUNT: u32 = 1;
 

@@ -611,7 +611,7 @@ mod tests {
                 with_place(read.map(|plan| plan.requests_at as u64).map_err(|(number, at)| (number, at as u64)))
             }
             Question::Apply => state.apply(&case.plan),
-            Question::Edition => unreachable!("no job asks it"),
+            Question::Edition | Question::Pieces => unreachable!("no job asks it"),
         }
     }
 
@@ -621,7 +621,7 @@ mod tests {
         let named = cases::named().into_iter().map(|named| (named.name, named.case));
         let files = cases::plan_files().into_iter().map(|file| (file.name.clone(), file.case()));
         let mut asked = 0;
-        for (name, case) in named.chain(files).filter(|(_, case)| case.question != Question::Edition) {
+        for (name, case) in named.chain(files).filter(|(_, case)| !matches!(case.question, Question::Edition | Question::Pieces)) {
             let mut state = State::from_words(&case.config, &case.table, case.edition());
             let answer = ask(&case, &mut state);
             let expected = case.ordinary();

@@ -35,7 +35,7 @@ impl Named {
             Question::Table => (if number == 1 { "yes" } else { "no" }).into(),
             Question::Request => format!("{number} {left}"),
             Question::Edition | Question::Read => format!("{number} {place}"),
-            Question::Apply => format!("{number} {place} {other} {edition} {left}"),
+            Question::Apply | Question::Pieces => format!("{number} {place} {other} {edition} {left}"),
         };
         format!("{}: {answer}", self.name)
     }
@@ -97,11 +97,27 @@ impl Book {
     }
 
     pub fn ask_plan(&mut self, name: impl Into<String>, plan: Vec<u8>) -> &mut Named {
-        let case = Case::apply(self.config, self.table, self.edition, plan);
+        self.deliver(name.into(), Case::apply(self.config, self.table, self.edition, plan))
+    }
+
+    /// The plan in pieces of these lengths and the rest of it, into a buffer of so many bytes.
+    pub fn ask_pieces(
+        &mut self,
+        name: impl Into<String>,
+        receiver: [u64; 2],
+        lengths: &[usize],
+        room: usize,
+        plan: Vec<u8>,
+    ) -> &mut Named {
+        let whole = Case::apply(self.config, self.table, self.edition, plan);
+        self.deliver(name.into(), Case::pieces(whole, receiver, lengths.to_vec(), vec![0xa5; room]))
+    }
+
+    fn deliver(&mut self, name: String, case: Case) -> &mut Named {
         let after = case.ordinary();
         self.table = after.table;
         self.edition = after.edition;
-        self.ask(name.into(), case)
+        self.ask(name, case)
     }
 
     fn ask(&mut self, name: String, case: Case) -> &mut Named {

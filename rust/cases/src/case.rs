@@ -2,7 +2,10 @@
 
 use std::fmt;
 
-use ordinary::{base_edition, Config, ConfigWords, Guest, Plan, PlanRefusal, Record, Region, Side, State, Table, TableWords};
+use ordinary::TableWords;
+use ordinary::{
+    base_edition, BufferShort, Config, ConfigWords, Guest, Plan, PlanRefusal, Receiver, Record, Region, Side, State, Table,
+};
 use ordinary::{CONFIG_WORDS, TABLE_WORDS};
 
 /// Which function is asked.
@@ -15,6 +18,7 @@ pub enum Question {
     Edition,
     Read,
     Apply,
+    Pieces,
 }
 
 /// How many numbers a question can take: a request has its kind, its zone and those of its region.
@@ -26,9 +30,21 @@ pub struct Case {
     pub question: Question,
     pub config: ConfigWords,
     pub table: TableWords,
-    /// Of a request its kind, its zone and its region's numbers; of a translation its zone, side and address; of a plan the terminal's edition.
+    /// Of a request its kind, its zone and its region's numbers; of a translation its zone, side and address; of a plan the terminal's edition,
+    /// and where it comes in pieces also the two words of the receiver.
     pub numbers: [u64; NUMBERS],
     pub plan: Vec<u8>,
+    /// Where the plan comes in pieces: how long they are, one after another, the rest of the plan being the last one; and the buffer.
+    pub lengths: Vec<usize>,
+    pub buffer: Vec<u8>,
+}
+
+/// What a call of a receiver leaves: its number, the receiver's words and the buffer.
+#[derive(Clone, Debug, PartialEq, Eq)]
+pub struct Left {
+    pub number: u32,
+    pub receiver: [u64; 2],
+    pub buffer: Vec<u8>,
 }
 
 /// What is answered, and what the configuration, the table and the edition then are.
@@ -39,6 +55,8 @@ pub struct Answer {
     pub config: ConfigWords,
     pub table: TableWords,
     pub edition: u32,
+    /// Of a plan in pieces what each call leaves, the end call last.
+    pub left: Vec<Left>,
 }
 
 /// What is answered to a plan: the number, the place and the inner number.
@@ -66,7 +84,7 @@ impl Case {
     fn new(question: Question, config: ConfigWords, table: TableWords, given: &[u64], plan: Vec<u8>) -> Case {
         let mut numbers = [0; NUMBERS];
         numbers[..given.len()].copy_from_slice(given);
-        Case { question, config, table, numbers, plan }
+        Case { question, config, table, numbers, plan, lengths: Vec::new(), buffer: Vec::new() }
     }
 
     pub fn config(config: ConfigWords) -> Case {
@@ -99,6 +117,26 @@ impl Case {
         Case::new(Question::Apply, config, table, &[edition.into()], plan)
     }
 
+    /// The same plan in pieces of these lengths.
+    pub fn pieces(apply: Case, receiver: [u64; 2], lengths: Vec<usize>, buffer: Vec<u8>) -> Case {
+        let mut numbers = apply.numbers;
+        numbers[1..3].copy_from_slice(&receiver);
+        Case { question: Question::Pieces, numbers, lengths, buffer, ..apply }
+    }
+
+    /// The pieces, which together are the plan.
+    pub fn cut(&self) -> Vec<&[u8]> {
+        let mut rest = &self.plan[..];
+        let mut pieces = Vec::new();
+        for &length in &self.lengths {
+            let (piece, behind) = rest.split_at(length.min(rest.len()));
+            pieces.push(piece);
+            rest = behind;
+        }
+        pieces.push(rest);
+        pieces
+    }
+
     /// One of the numbers that the function takes as 32 bits.
     pub fn number(&self, at: usize) -> u32 {
         u32::try_from(self.numbers[at]).expect("a 32-bit number")
@@ -107,7 +145,7 @@ impl Case {
     /// The terminal's edition, where a plan is applied.
     pub fn edition(&self) -> u32 {
         match self.question {
-            Question::Apply => self.number(0),
+            Question::Apply | Question::Pieces => self.number(0),
             _ => 0,
         }
     }
@@ -120,7 +158,7 @@ impl Case {
 
     /// The answer that leaves everything as it was.
     fn unchanged(&self, number: u32, places: [u64; 2]) -> Answer {
-        Answer { number, places, config: self.config, table: self.table, edition: self.edition() }
+        Answer { number, places, config: self.config, table: self.table, edition: self.edition(), left: Vec::new() }
     }
 
     /// What the ordinary implementation answers.
@@ -146,7 +184,26 @@ impl Case {
                 Ok(state) => self.ask_ordinary(state),
                 Err(number) => self.unchanged(number, [0, 0]),
             },
+            Question::Pieces => self.pieces_ordinary(),
         }
+    }
+
+    /// The plan taken in pieces, and then applied whole.
+    fn pieces_ordinary(&self) -> Answer {
+        let mut buffer = self.buffer.clone();
+        let [_, stored, more, ..] = self.numbers;
+        let mut receiver = Receiver { stored, more };
+        let mut left = Vec::new();
+        for piece in self.cut() {
+            let number = receiver.take(&mut buffer, piece).map_or_else(|short| short.number(), |()| 0);
+            left.push(Left { number, receiver: [receiver.stored, receiver.more], buffer: buffer.clone() });
+        }
+        let answer = match receiver.end(&buffer) {
+            Err(short @ BufferShort) => self.unchanged(short.number(), [0, 0]),
+            Ok(plan) => Case { question: Question::Apply, plan, ..self.clone() }.ordinary(),
+        };
+        left.push(Left { number: answer.number, receiver: [receiver.stored, receiver.more], buffer });
+        Answer { left, ..answer }
     }
 
     /// The state that the words are, or the first of 1 and 2 where they are none. Whether a state is sound, whatever is asked next says
@@ -177,7 +234,7 @@ impl Case {
                 (number, [place as u64, inner.into()])
             }
         };
-        Answer { number, places, config: self.config, table: state.table.to_words(), edition: state.edition }
+        Answer { number, places, config: self.config, table: state.table.to_words(), edition: state.edition, left: Vec::new() }
     }
 }
 
@@ -192,7 +249,11 @@ impl fmt::Display for Answer {
         writeln!(f, "number {}, places {:#x} {:#x}", self.number, self.places[0], self.places[1])?;
         write_words(f, "  config", &self.config)?;
         write_words(f, "  table", &self.table)?;
-        writeln!(f, "  edition {}", self.edition)
+        writeln!(f, "  edition {}", self.edition)?;
+        for (at, left) in self.left.iter().enumerate() {
+            writeln!(f, "  call {at}: number {}, receiver {:?}, buffer {}", left.number, left.receiver, hex(&left.buffer))?;
+        }
+        Ok(())
     }
 }
 
@@ -202,12 +263,24 @@ impl fmt::Display for Case {
         write_words(f, "  config", &self.config)?;
         write_words(f, "  table", &self.table)?;
         write_words(f, "  numbers", &self.numbers)?;
-        write!(f, "  plan of {} bytes:", self.plan.len())?;
-        for byte in &self.plan {
-            write!(f, " {byte:02x}")?;
+        writeln!(f, "  plan of {} bytes: {}", self.plan.len(), hex(&self.plan))?;
+        if self.question == Question::Pieces {
+            writeln!(
+                f,
+                "  in pieces of {:?} bytes and the rest, into a buffer of {}: {}",
+                self.lengths,
+                self.buffer.len(),
+                hex(&self.buffer)
+            )?;
         }
-        writeln!(f)
+        Ok(())
     }
+}
+
+/// All bytes up to the last that is not zero.
+fn hex(bytes: &[u8]) -> String {
+    let end = bytes.iter().rposition(|&byte| byte != 0).map_or(0, |last| last + 1);
+    bytes[..end].iter().map(|byte| format!("{byte:02x}")).collect::<Vec<_>>().join(" ")
 }
 
 /// The words that are not zero, each with its index.

@@ -24,7 +24,7 @@ mod terminals;
 mod translations;
 
 pub use book::Named;
-pub use case::{Answer, Case, Outcome, Question, NUMBERS};
+pub use case::{Answer, Case, Left, Outcome, Question, NUMBERS};
 pub use files::PlanFile;
 
 use book::Book;

@@ -1,6 +1,6 @@
 //! Cases for plans at a terminal: each number, the order of the numbers, the state afterwards, and random runs.
 
-use ordinary::layout::{config_record, set_record, zone_id, CONFIG_COUNT, CONFIG_GIC, TABLE_COUNT};
+use ordinary::layout::{config_record, set_record, zone_id, CONFIG_COUNT, CONFIG_GIC, LONGEST_PLAN, REQUEST_BYTES, TABLE_COUNT};
 use ordinary::limits::{MAX_ID, MAX_REGIONS, MAX_ZONES, PAGE};
 use ordinary::{Config, Record, Region, Side, State, Table, Zone, CONFIG_WORDS, TABLE_WORDS};
 
@@ -30,6 +30,7 @@ pub fn add(book: &mut Book, rng: &mut Rng) {
     there_and_back(book);
     empty_plans(book);
     long_plans(book);
+    in_pieces(book);
     runs(book, rng);
 }
 
@@ -302,6 +303,41 @@ fn long_plans(book: &mut Book) {
     let shorter = sound.clone().with_requests(&sound.requests[..1]);
     book.ask_plan("the same edition again", shorter.bytes()).known(24);
     ask(book, &sound, 26, "the longest plan", longest());
+}
+
+// ---- plans in pieces
+
+fn in_pieces(book: &mut Book) {
+    let plan = first().bytes();
+    let end = plan.len();
+    let with_more = |plan: &[u8], more: usize| [plan, &vec![0; more]].concat();
+    let cut_request = plan[..end - 1].to_vec();
+    let longest = longest().bytes();
+    let (to_the_longest, and_thousands) = (LONGEST_PLAN - end, LONGEST_PLAN - end + 5000);
+    let most = LONGEST_PLAN as u64;
+
+    let mut ask = |name: &str, receiver: [u64; 2], lengths: &[usize], room: usize, plan: Vec<u8>, number: u32, place: usize| {
+        stand_at(book, &least());
+        book.ask_pieces(format!("in pieces: {name}"), receiver, lengths, room, plan).known_with(number, [place as u64, 0]);
+    };
+    let empty = [0, 0];
+    ask("all at once", empty, &[], LONGEST_PLAN, plan.clone(), 0, 1);
+    ask("byte by byte", empty, &vec![1; end], LONGEST_PLAN, plan.clone(), 0, 1);
+    ask("empty ones between", empty, &[0, 3, 0, 0, 9, 0], LONGEST_PLAN, plan.clone(), 0, 1);
+    ask("across the fields", empty, &[6, 4, 7, 30], LONGEST_PLAN, plan.clone(), 0, 1);
+    ask("a longer buffer", empty, &[end / 2], LONGEST_PLAN + 100, plan.clone(), 0, 1);
+    ask("nothing came", empty, &[0], LONGEST_PLAN, Vec::new(), 20, 0);
+    ask("the last byte is missing", empty, &[1, end - 3], LONGEST_PLAN, cut_request, 20, end - REQUEST_BYTES);
+    ask("a byte behind the plan", empty, &[end], LONGEST_PLAN, with_more(&plan, 1), 22, end);
+    ask("bytes up to the longest plan", empty, &[end], LONGEST_PLAN, with_more(&plan, to_the_longest), 22, end);
+    ask("thousands past the longest plan", empty, &[end, 9000], LONGEST_PLAN, with_more(&plan, and_thousands), 22, end);
+    ask("the longest plan and a byte", empty, &[5, LONGEST_PLAN - 5], LONGEST_PLAN, with_more(&longest, 1), 22, LONGEST_PLAN);
+    ask("the same in a longer buffer", empty, &[5], LONGEST_PLAN + 100, with_more(&longest, 1), 22, LONGEST_PLAN);
+    ask("a buffer one byte too short", empty, &[7], LONGEST_PLAN - 1, plan.clone(), 28, 0);
+    ask("a buffer of no bytes", empty, &[], 0, Vec::new(), 28, 0);
+    ask("behind a byte of another", [1, 0], &[], LONGEST_PLAN, plan.clone(), 21, 0);
+    ask("more came, as no call says it", [0, 2], &[7], LONGEST_PLAN, plan.clone(), 21, 0);
+    ask("a length that no call leaves", [most + 1, 0], &[7], LONGEST_PLAN, plan, 21, 0);
 }
 
 // ---- random runs of plans

@@ -3,7 +3,7 @@
 use std::fmt;
 use std::hint::black_box;
 
-use cases::{Answer, Case, Named, Outcome, PlanFile, Question};
+use cases::{Answer, Case, Left, Named, Outcome, PlanFile, Question};
 use ordinary::Record;
 use peatmitten::raw;
 
@@ -57,7 +57,8 @@ impl Lent {
 fn library(case: &Case) -> Option<Answer> {
     let mut lent = Lent::new(case);
     // Only parts are lent, by which a compiler may take the rest for unchanged without a look.
-    let (number, places) = ask_library(case, black_box(&mut lent));
+    let mut left = Vec::new();
+    let (number, places) = ask_library(case, black_box(&mut lent), &mut left);
     let lent = black_box(&lent);
     lent.is_kept_beside().then(|| Answer {
         number,
@@ -65,10 +66,11 @@ fn library(case: &Case) -> Option<Answer> {
         config: *lent.config.words(),
         table: *lent.table.words(),
         edition: lent.edition,
+        left,
     })
 }
 
-fn ask_library(case: &Case, state: &mut Lent) -> (u32, [u64; 2]) {
+fn ask_library(case: &Case, state: &mut Lent, left: &mut Vec<Left>) -> (u32, [u64; 2]) {
     match case.question {
         Question::Config => raw::check_config(&state.config),
         Question::Table => (raw::check_table(&state.config, &state.table), [0, 0]),
@@ -86,6 +88,18 @@ fn ask_library(case: &Case, state: &mut Lent) -> (u32, [u64; 2]) {
             (number, [place, 0])
         }
         Question::Apply => raw::apply_words(&state.config, &mut state.table, &mut state.edition, &case.plan),
+        Question::Pieces => {
+            let mut buffer = case.buffer.clone();
+            let [_, stored, more, ..] = case.numbers;
+            let mut receiver = [stored, more];
+            for piece in case.cut() {
+                let number = raw::take_piece(&mut receiver, &mut buffer, piece);
+                left.push(Left { number, receiver, buffer: buffer.clone() });
+            }
+            let (number, places) = raw::end_words(&state.config, &mut state.table, &mut state.edition, &mut receiver, &buffer);
+            left.push(Left { number, receiver, buffer });
+            (number, places)
+        }
     }
 }
 

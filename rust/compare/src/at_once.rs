@@ -51,7 +51,7 @@ mod tests {
 
     fn count(tally: &mut Tally) -> Result<(), Trouble> {
         let (config, table) = ([0; CONFIG_WORDS], [0; TABLE_WORDS]);
-        tally.add(&Case::config(config), &Answer { number: 1, places: [0, 0], config, table, edition: 0 })
+        tally.add(&Case::config(config), &Answer { number: 1, places: [0, 0], config, table, edition: 0, left: Vec::new() })
     }
 
     #[test]

@@ -1,7 +1,7 @@
 //! Cases on both sides of every boundary. They are the same in every run and reach every number.
 
 use cases::Case;
-use ordinary::layout::{config_record, set_count, set_record, zone_id, CONFIG_COUNT, CONFIG_GIC, TABLE_COUNT};
+use ordinary::layout::{config_record, set_count, set_record, zone_id, CONFIG_COUNT, CONFIG_GIC, LONGEST_PLAN, TABLE_COUNT};
 use ordinary::limits::{GUEST_REACH, MAX_IN_SET, MAX_REGIONS, MAX_REQUESTS, MAX_ZONES, PAGE, PHYS_REACH};
 use ordinary::{encode, Config, ConfigWords, Record, Region, Side, State, Table, TableWords, Zone, CONFIG_WORDS, TABLE_WORDS};
 
@@ -13,7 +13,7 @@ const C: Region = Region::new(0x4010_0000, 0x9000_0000, 0x20_0000);
 const G: Region = Region::new(0x0800_0000, 0x0800_0000, 0x1_0000);
 
 /// All cases, in parts: of all at once the words would take a gigabyte.
-pub const PARTS: [fn() -> Vec<Case>; 11] = [
+pub const PARTS: [fn() -> Vec<Case>; 12] = [
     config_cases,
     table_cases,
     request_cases,
@@ -25,6 +25,7 @@ pub const PARTS: [fn() -> Vec<Case>; 11] = [
     plans_for_others,
     refused_plans,
     unsound_terminals,
+    plans_in_pieces,
 ];
 
 fn zone(id: u32, cpu: &[Region], iommu: &[Region]) -> Zone {
@@ -386,6 +387,60 @@ fn unsound_terminals() -> Vec<Case> {
     cases
 }
 
+/// Plans that end at, before and behind the longest plan's length, cut on either side of it and of their fields, with buffers and receivers on
+/// either side too.
+fn plans_in_pieces() -> Vec<Case> {
+    let state = desk(&[zone(5, &[A], &[A, G])]);
+    let (config, table) = (state.config.to_words(), state.table.to_words());
+    let plan = encode(&state, &[record(3, 5, B), record(1, 7, Region::ZERO)]);
+    let longest = longest_plan();
+    let mut plans =
+        vec![Vec::new(), plan.clone(), encode(&state, &[record(1, 7, Region::ZERO)]), longest[..LONGEST_PLAN - 1].to_vec()];
+    for more in [0, 1, 2, 5000] {
+        plans.push([&longest[..], &vec![0xff; more]].concat());
+        plans.push([&plan[..], &vec![0xff; LONGEST_PLAN - plan.len() + more]].concat());
+    }
+    // A count that is out of range, behind which more comes than the longest plan has.
+    plans.push([&plan[..12], &vec![0xff; LONGEST_PLAN]].concat());
+    let cuts: [&[usize]; 8] = [
+        &[],
+        &[0, 0],
+        &[1, 1, 1, 1, 1, 0],
+        &[4, 4, 4],
+        &[3, 6, 11, 24],
+        &[LONGEST_PLAN - 1, 1],
+        &[LONGEST_PLAN, 1],
+        &[LONGEST_PLAN - 1, 2, 0, 7],
+    ];
+    let most = LONGEST_PLAN as u64;
+    let mut cases = Vec::new();
+    for plan in &plans {
+        let apply = Case::apply(config, table, state.edition, plan.clone());
+        for cut in cuts {
+            for room in [0, LONGEST_PLAN - 1, LONGEST_PLAN, LONGEST_PLAN + 1, LONGEST_PLAN + 100] {
+                cases.push(Case::pieces(apply.clone(), [0, 0], cut.to_vec(), vec![0xa5; room]));
+            }
+        }
+        for receiver in
+            [[1, 0], [most - 1, 0], [most, 0], [most + 1, 0], [u64::MAX, 0], [0, 1], [most, 1], [most - 1, 2], [7, u64::MAX]]
+        {
+            cases.push(Case::pieces(apply.clone(), receiver, vec![2], [&longest[..], &[0xa5; 3]].concat()));
+        }
+    }
+    let broken = broken_tables().into_iter().map(|table| Case::apply(config, table, 0, plan.clone()));
+    cases.extend(broken.map(|apply| Case::pieces(apply, [0, 0], vec![9], vec![0; LONGEST_PLAN])));
+    let apply = Case::apply([0; CONFIG_WORDS], [u64::MAX; TABLE_WORDS], 0, plan);
+    cases.extend([LONGEST_PLAN - 1, LONGEST_PLAN].map(|room| Case::pieces(apply.clone(), [0, 0], vec![9], vec![0; room])));
+    cases
+}
+
+/// A plan with as many of everything as there can be.
+fn longest_plan() -> Vec<u8> {
+    let zones = vec![zone(0, &[A; MAX_IN_SET], &[A; MAX_IN_SET]); MAX_ZONES];
+    let base = State { config: Config { regions: vec![A; MAX_REGIONS], gic: 0 }, table: Table { zones }, edition: 0 };
+    encode(&base, &[record(1, 9, Region::ZERO); MAX_REQUESTS])
+}
+
 #[cfg(test)]
 mod tests {
     use super::*;
@@ -393,5 +448,10 @@ mod tests {
     #[test]
     fn the_states_are_sound() {
         assert!(states().iter().all(|state| state.table.is_sound(&state.config)));
+    }
+
+    #[test]
+    fn the_longest_plan_is_as_long_as_it_can_be() {
+        assert_eq!(longest_plan().len(), LONGEST_PLAN);
     }
 }

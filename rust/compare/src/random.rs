@@ -2,6 +2,7 @@
 
 use cases::rng::Rng;
 use cases::Case;
+use ordinary::layout::LONGEST_PLAN;
 use ordinary::limits::{GUEST_REACH, MAX_IN_SET, MAX_REGIONS, MAX_REQUESTS, MAX_ZONES, PAGE, PHYS_REACH};
 use ordinary::{encode, Config, ConfigWords, Record, Region, State, Table, TableWords, Zone};
 
@@ -254,6 +255,20 @@ fn other_base(rng: &mut Rng, state: &State) -> State {
     base
 }
 
+/// How long the pieces of so many bytes are: none or one cut, single bytes, fields, or anything.
+fn cutting(rng: &mut Rng, bytes: usize) -> Vec<usize> {
+    let kind = rng.below(6);
+    let any = rng.below(1 + bytes);
+    let piece = |rng: &mut Rng| match kind {
+        0 => bytes,
+        1 => rng.below(2),
+        2 => *rng.pick(&[4, 8, 24, 32]),
+        3 => LONGEST_PLAN - rng.below(3),
+        _ => *rng.pick(&[0, 1, 3, 7, 100, bytes / 2, any]),
+    };
+    (0..rng.below(7)).map(|_| piece(rng)).collect()
+}
+
 /// No zone; or, so that a table fills up, empty ones, nearly as many as there can be.
 fn first_table(rng: &mut Rng) -> Table {
     let count = if rng.one_in(3) { MAX_ZONES - rng.below(4) } else { 0 };
@@ -284,13 +299,14 @@ impl World {
     pub fn case(&mut self, rng: &mut Rng) -> Case {
         self.change(rng, 3);
         self.state.edition = edition(rng);
-        match rng.below(20) {
+        match rng.below(21) {
             0..=2 => self.config_case(rng),
             3..=5 => self.table_case(rng),
             6..=10 => self.request_case(rng),
             11..=12 => self.translate_case(rng),
             13 => Case::base_edition(self.plan_begun(rng)),
             14 => Case::read(self.plan(rng)),
+            15 => self.pieces_case(rng),
             _ => self.apply_case(rng),
         }
     }
@@ -391,6 +407,29 @@ impl World {
     fn apply_case(&self, rng: &mut Rng) -> Case {
         let (config, table) = self.base(rng);
         Case::apply(config, table, self.state.edition, self.plan(rng))
+    }
+
+    /// A plan, now and then with so many bytes behind it that it is as long as the longest or longer, cut anywhere.
+    fn pieces_case(&self, rng: &mut Rng) -> Case {
+        let mut apply = self.apply_case(rng);
+        if rng.one_in(4) {
+            let end = LONGEST_PLAN + *rng.pick(&[0, 0, 1, 1, 2, 3000]) - rng.below(2);
+            apply.plan.resize(end.max(apply.plan.len()), rng.word() as u8);
+        }
+        let room = match rng.below(16) {
+            0 => rng.below(LONGEST_PLAN),
+            1 => LONGEST_PLAN - 1,
+            2 => LONGEST_PLAN + 1 + rng.below(5000),
+            _ => LONGEST_PLAN,
+        };
+        let receiver = match rng.below(24) {
+            0 => [number(rng), number(rng)],
+            1 => [(LONGEST_PLAN - rng.below(3)) as u64, 0],
+            2 => [rng.below(100) as u64, 0],
+            _ => [0, 0],
+        };
+        let lengths = cutting(rng, apply.plan.len());
+        Case::pieces(apply, receiver, lengths, vec![rng.word() as u8; room])
     }
 }
 

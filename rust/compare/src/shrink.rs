@@ -20,6 +20,8 @@ fn smaller(case: &Case, holds: &impl Fn(&Case) -> bool) -> Option<Case> {
     zero_each(&mut smaller, holds, |case| &mut case.table);
     zero_each(&mut smaller, holds, |case| &mut case.numbers);
     zero_each(&mut smaller, holds, |case| &mut case.plan);
+    zero_each(&mut smaller, holds, |case| &mut case.lengths);
+    zero_each(&mut smaller, holds, |case| &mut case.buffer);
     (smaller != *case).then_some(smaller)
 }
 

@@ -1,5 +1,5 @@
 //! The rules of document 01, as the landed requests of document 02 amend them, in ordinary Rust: regions, configurations, tables,
-//! requests, translation, plans and terminals.
+//! requests, translation, plans, terminals and receivers.
 //!
 //! It is the second reading of the rules, written from the document alone and sharing nothing with the proved code, so that the
 //! two can be compared (`rust/compare`) and measured against each other (`rust/bench`). By it `rust/cases` makes the stored plan
@@ -11,6 +11,7 @@
 mod config;
 pub mod layout;
 mod plan;
+mod receiver;
 mod region;
 mod request;
 mod table;
@@ -19,6 +20,7 @@ mod words;
 
 pub use config::{Config, ConfigFault};
 pub use plan::{base_edition, encode, Plan, ReadFault, Requests};
+pub use receiver::{BufferShort, Receiver};
 pub use region::{Guest, Phys, Region};
 pub use request::{Action, Record, Refusal};
 pub use table::{Side, Table, Translated, Zone};

@@ -252,7 +252,7 @@ impl fmt::Display for ReadFault {
 
 impl Error for ReadFault {}
 
-/// Why a plan is refused: 1, 2, 20 to 27.
+/// Why a plan is refused: 1, 2, 20 to 27; and 28 of one that came in pieces.
 #[derive(Clone, Copy, Debug, PartialEq, Eq, Hash)]
 pub enum PlanRefusal {
     /// 1: the terminal's own configuration is unsound.
@@ -276,6 +276,8 @@ pub enum PlanRefusal {
         /// Why.
         refusal: Refusal,
     },
+    /// 28: the buffer of its pieces is shorter than the longest plan.
+    BufferShort,
 }
 
 impl PlanRefusal {
@@ -289,6 +291,7 @@ impl PlanRefusal {
             25 => PlanRefusal::NoNextEdition,
             26 => PlanRefusal::OtherZones,
             27 => PlanRefusal::Request { index: place, refusal: inner_refusal(inner) },
+            28 => PlanRefusal::BufferShort,
             _ => return ReadFault::from_library(number, place).map_err(PlanRefusal::Read),
         })
     }
@@ -304,6 +307,7 @@ impl PlanRefusal {
             PlanRefusal::NoNextEdition => 25,
             PlanRefusal::OtherZones => 26,
             PlanRefusal::Request { .. } => 27,
+            PlanRefusal::BufferShort => BufferShort.number(),
         }
     }
 
@@ -336,11 +340,39 @@ impl fmt::Display for PlanRefusal {
             PlanRefusal::NoNextEdition => write!(f, "the terminal is at the last edition"),
             PlanRefusal::OtherZones => write!(f, "the plan is for other zones"),
             PlanRefusal::Request { index, refusal } => write!(f, "request {index} is refused: {refusal}"),
+            PlanRefusal::BufferShort => BufferShort.fmt(f),
         }
     }
 }
 
 impl Error for PlanRefusal {}
+
+/// 28: a buffer that was lent is too short.
+#[derive(Clone, Copy, Debug, PartialEq, Eq, Hash)]
+pub struct BufferShort;
+
+impl BufferShort {
+    pub(crate) fn from_library(number: u32) -> Result<(), BufferShort> {
+        match number {
+            0 => Ok(()),
+            28 => Err(BufferShort),
+            _ => not_an_answer(number),
+        }
+    }
+
+    /// The document's number.
+    pub fn number(&self) -> u32 {
+        28
+    }
+}
+
+impl fmt::Display for BufferShort {
+    fn fmt(&self, f: &mut fmt::Formatter) -> fmt::Result {
+        write!(f, "the buffer that was lent is too short")
+    }
+}
+
+impl Error for BufferShort {}
 
 fn inner_refusal(inner: u64) -> Refusal {
     let number = u32::try_from(inner).unwrap_or(u32::MAX);

@@ -41,15 +41,17 @@ pub mod limits;
 mod plan;
 pub mod raw;
 mod reading;
+mod receiver;
 mod region;
 mod request;
 mod store;
 mod table;
 
-pub use answers::{ConfigFault, PlanRefusal, ReadFault, Refusal};
+pub use answers::{BufferShort, ConfigFault, PlanRefusal, ReadFault, Refusal};
 pub use config::{Config, CONFIG_WORDS};
 pub use plan::{base_edition, read_plan, State};
 pub use reading::{Counted, Field, Reading};
+pub use receiver::Receiver;
 pub use region::{ByteCount, Guest, Physical, Region};
 pub use request::{Request, Side};
 pub use store::STATE_BYTES;

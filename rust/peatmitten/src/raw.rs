@@ -34,6 +34,22 @@ mod library {
             length: usize,
             places: *mut [u64; 2],
         ) -> u32;
+        pub fn peatmitten_take_piece(
+            receiver: *mut [u64; 2],
+            buffer: *mut u8,
+            buffer_length: usize,
+            piece: *const u8,
+            length: usize,
+        ) -> u32;
+        pub fn peatmitten_end_words(
+            config: *const Config,
+            table: *mut Table,
+            edition: *mut u32,
+            receiver: *mut [u64; 2],
+            buffer: *const u8,
+            buffer_length: usize,
+            places: *mut [u64; 2],
+        ) -> u32;
     }
 }
 
@@ -102,4 +118,23 @@ pub fn apply_words(config: &Config, table: &mut Table, edition: &mut u32, plan: 
 /// The same of a whole state.
 pub fn apply(state: &mut State, plan: &[u8]) -> (u32, [u64; 2]) {
     apply_words(&state.config, &mut state.table, &mut state.edition, plan)
+}
+
+/// 0, or 28 where the buffer is shorter than the longest plan. The receiver is how many bytes are stored, and 0 unless more came.
+pub fn take_piece(receiver: &mut [u64; 2], buffer: &mut [u8], piece: &[u8]) -> u32 {
+    unsafe { library::peatmitten_take_piece(receiver, buffer.as_mut_ptr(), buffer.len(), piece.as_ptr(), piece.len()) }
+}
+
+/// The number of the refusal of what came in pieces, or 0, its place and its inner number. Table and edition change only where the number
+/// is 0; the receiver is emptied unless it is 28.
+pub fn end_words(config: &Config, table: &mut Table, edition: &mut u32, receiver: &mut [u64; 2], buffer: &[u8]) -> (u32, [u64; 2]) {
+    let mut places = [UNWRITTEN; 2];
+    let number =
+        unsafe { library::peatmitten_end_words(config, table, edition, receiver, buffer.as_ptr(), buffer.len(), &mut places) };
+    (number, places)
+}
+
+/// The same of a whole state.
+pub fn end(state: &mut State, receiver: &mut [u64; 2], buffer: &[u8]) -> (u32, [u64; 2]) {
+    end_words(&state.config, &mut state.table, &mut state.edition, receiver, buffer)
 }

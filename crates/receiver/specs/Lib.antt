@@ -1,0 +1,2 @@
+-- What the receiver's calls answer where the state is words.
+pub mod Words

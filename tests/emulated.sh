@@ -14,7 +14,7 @@ need_library
 need_c
 need_rust
 need_work
-cases=40000
+cases=50000
 
 check_example() {
     local printed

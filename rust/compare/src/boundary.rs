@@ -442,6 +442,12 @@ fn plans_in_pieces() -> Vec<Case> {
     }
     let broken = broken_tables().into_iter().map(|table| Case::apply(config, table, 0, plan.clone()));
     cases.extend(broken.map(|apply| Case::pieces(apply, [0, 0], vec![9], vec![0; LONGEST_PLAN])));
+    // For another edition, for the last one, and for other zones.
+    let last = State { edition: u32::MAX, ..state.clone() };
+    for (edition, base) in [(0, State { edition: 1, ..state.clone() }), (u32::MAX, last), (0, desk(&[]))] {
+        let apply = Case::apply(config, table, edition, encode(&base, &[]));
+        cases.push(Case::pieces(apply, [0, 0], vec![9], vec![0; LONGEST_PLAN]));
+    }
     let apply = Case::apply([0; CONFIG_WORDS], [u64::MAX; TABLE_WORDS], 0, plan);
     cases.extend([LONGEST_PLAN - 1, LONGEST_PLAN].map(|room| Case::pieces(apply.clone(), [0, 0], vec![9], vec![0; room])));
     cases

@@ -17,8 +17,8 @@
  * written by another thread meanwhile: while a plan is applied, its table may hold what earlier requests of the plan made of it.
  *
  * Stack: PEATMITTEN_STACK bytes are enough. tests/stack.sh measures it: it calls every function on a stack filled with a pattern, over the
- * stored plans, looks how deep the pattern is gone, and prints it for each function. Measured were on x86-64 6,784 bytes for
- * peatmitten_end_words and on aarch64 6,672, for peatmitten_apply_words 4,640 and 4,528, and less for the others: no function has a table, a
+ * stored plans, looks how deep the pattern is gone, and prints it for each function. Measured were on x86-64 6,816 bytes for
+ * peatmitten_end_words and on aarch64 6,736, for peatmitten_apply_words 4,672 and 4,592, and less for the others: no function has a table, a
  * configuration or a plan on its stack, but a number for each configured region, two or three times at a time. Nothing is allocated.
  *
  * Imports: memset, and nothing else. The code is called as Linux does on its processor (System V on x86-64, AAPCS64 on aarch64, lowest byte
@@ -50,9 +50,9 @@ enum {
     PEATMITTEN_MOST_REGIONS = 256,  /* regions of a configuration */
     PEATMITTEN_MOST_ZONES = 32,     /* zones of a table */
     PEATMITTEN_MOST_IN_SET = 16,    /* regions of one set of a zone */
-    PEATMITTEN_MOST_REQUESTS = 1024, /* requests of a plan */
+    PEATMITTEN_MOST_REQUESTS = 512, /* requests of a plan */
     PEATMITTEN_HIGHEST_ID = 255,    /* the highest zone id */
-    PEATMITTEN_LONGEST_PLAN = 63896 /* bytes; a longer file is no plan */
+    PEATMITTEN_LONGEST_PLAN = 61852 /* bytes; a longer file is no plan */
 };
 
 /* Bytes of stack that are enough for every function. */
@@ -61,14 +61,15 @@ enum { PEATMITTEN_STACK = 8192 };
 /*
  * Where things stand among words.
  *
- * A region is three words: v, its guest (virtual) start; p, its physical start; its size in bytes. All are multiples of 4,096.
+ * A region is four words: v, its guest (virtual) start; p, its physical start; its size in bytes; its rights. The first three are
+ * multiples of 4,096, and the rights a sum of peatmitten_right, at least one.
  *
  * A configuration is how many regions it has, the position of the GIC's region among them (from 0), then PEATMITTEN_MOST_REGIONS regions.
  * A table is how many zones it has, then PEATMITTEN_MOST_ZONES zones: the id, how many CPU regions, PEATMITTEN_MOST_IN_SET regions, how
  * many IOMMU regions, as many regions again. Regions and zones past their count are all zero.
  */
 enum {
-    PEATMITTEN_REGION_WORDS = 3,
+    PEATMITTEN_REGION_WORDS = 4,
     PEATMITTEN_CONFIG_COUNT = 0,
     PEATMITTEN_CONFIG_GIC = 1,
     PEATMITTEN_CONFIG_REGIONS = 2,
@@ -123,8 +124,8 @@ PEATMITTEN_ASSERT(sizeof(size_t) == 8, "the library is for a 64-bit machine");
  * of a region; each file that includes this header refers to it, so that with the library of another layout a program does not link.
  * It answers these numbers, one for each peatmitten_layout_number, and 0 for any other.
  */
-#define peatmitten_layout peatmitten_layout_256_32_16_1024_3
-uint64_t peatmitten_layout_256_32_16_1024_3(uint32_t which);
+#define peatmitten_layout peatmitten_layout_256_32_16_512_4
+uint64_t peatmitten_layout_256_32_16_512_4(uint32_t which);
 
 enum peatmitten_layout_number {
     PEATMITTEN_LAYOUT_REGIONS = 0,
@@ -143,7 +144,7 @@ enum peatmitten_config_fault {
     PEATMITTEN_C1_COUNT = 1,    /* no region, or more than PEATMITTEN_MOST_REGIONS */
     PEATMITTEN_C2_GIC = 2,      /* the GIC's position is not below the count */
     PEATMITTEN_C3_NOT_ZERO = 3, /* a region past the count is not all zero */
-    PEATMITTEN_C4_FORM = 4,     /* the size is 0, or a number is no multiple of 4,096 */
+    PEATMITTEN_C4_FORM = 4,     /* the size is 0; v, p or size is no multiple of 4,096; or the rights are not 1 to 7 */
     PEATMITTEN_C5_REACH = 5,    /* it ends above 2^40 in guest addresses, or above 2^48 in physical ones */
     PEATMITTEN_C6_OVERLAP = 6   /* it overlaps an earlier region physically */
 };
@@ -157,6 +158,9 @@ enum peatmitten_kind {
     PEATMITTEN_IOMMU_INSERT = 5,
     PEATMITTEN_IOMMU_REMOVE = 6
 };
+
+/* What may be done with a region. */
+enum peatmitten_right { PEATMITTEN_READ = 1, PEATMITTEN_WRITE = 2, PEATMITTEN_EXECUTE = 4 };
 
 /* Sides of a zone. Any number but 0 is the IOMMU. */
 enum peatmitten_side { PEATMITTEN_CPU = 0, PEATMITTEN_IOMMU = 1 };
@@ -182,14 +186,15 @@ enum peatmitten_answer {
     PEATMITTEN_SET_FULL = 16,         /* that set has as many regions as it can */
     PEATMITTEN_NO_REGION = 17,        /* the region is not in that set */
     PEATMITTEN_NOT_COVERED = 18,      /* (translation) no region covers the address */
+    PEATMITTEN_TOO_MANY_RIGHTS = 19,  /* a CPU region with write and execute, or an IOMMU region with execute */
     PEATMITTEN_CUT = 20,              /* (plan) a field is not wholly there; place: its offset */
-    PEATMITTEN_COUNT = 21,            /* (plan) a count is out of range; place: its offset */
+    PEATMITTEN_COUNT = 21,            /* (plan) a count is out of range, or another format's third mark; place: its offset */
     PEATMITTEN_TRAILING = 22,         /* (plan) bytes after the last section; place: the first one's offset */
     PEATMITTEN_OTHER_CONFIG = 23,     /* (plan) configuration or GIC position differs from the terminal's */
     PEATMITTEN_OTHER_EDITION = 24,    /* (plan) the edition differs: most often a repeated or an overtaken plan */
     PEATMITTEN_NO_NEXT_EDITION = 25,  /* (plan) the edition is 2^32 - 1: there is no next one */
     PEATMITTEN_OTHER_ZONES = 26,      /* (plan) the base zones differ, order included */
-    PEATMITTEN_REQUEST_REFUSED = 27,  /* (plan) a request is refused; place: its index from 0; inner: its number, 3 to 17 */
+    PEATMITTEN_REQUEST_REFUSED = 27,  /* (plan) a request is refused; place: its index from 0; inner: its number, 3 to 17 or 19 */
     PEATMITTEN_BUFFER_SHORT = 28      /* (lent buffer) it is too short */
 };
 
@@ -203,11 +208,11 @@ uint32_t peatmitten_check_config(const uint64_t config[PEATMITTEN_CONFIG_WORDS],
 uint32_t peatmitten_check_table(const uint64_t config[PEATMITTEN_CONFIG_WORDS], const uint64_t table[PEATMITTEN_TABLE_WORDS]);
 
 /*
- * Makes one request of the table. Answers a peatmitten_answer, 0 to 17: the first that applies in the order of the request's kind.
- * On 0 the table is changed where it lies; else it is untouched. Kinds 1 and 2 take no region: v, p and size are 0.
+ * Makes one request of the table. Answers a peatmitten_answer, 0 to 17 or 19: the first that applies in the order of the request's kind.
+ * On 0 the table is changed where it lies; else it is untouched. Kinds 1 and 2 take no region: v, p, size and rights are 0.
  */
 uint32_t peatmitten_request(const uint64_t config[PEATMITTEN_CONFIG_WORDS], uint64_t table[PEATMITTEN_TABLE_WORDS], uint32_t kind,
-                            uint32_t zone, uint64_t v, uint64_t p, uint64_t size);
+                            uint32_t zone, uint64_t v, uint64_t p, uint64_t size, uint64_t rights);
 
 /*
  * Says where a guest address of a zone comes out, and how far that goes on. Answers 0, 1, 2, 4, 6 or 18 (peatmitten_answer). stretch[0]
@@ -235,7 +240,7 @@ static inline peatmitten_translated peatmitten_translate(const uint64_t config[P
 /*
  * Says which base edition a plan is for, before anything else of it is looked at: a terminal at a lower edition has missed the plans
  * between. Answers 0, 20 or 21 (peatmitten_answer). answer[0] is the edition on 0, else the offset of the fault.
- * The plan's marks alone are read, its first 12 bytes; what follows them may still be no plan.
+ * The plan's marks alone are read, its first 16 bytes; what follows them may still be no plan.
  * `plan` points to `length` bytes; it must not be null even where the length is 0.
  */
 uint32_t peatmitten_edition(const uint8_t *plan, size_t length, uint64_t answer[1]);

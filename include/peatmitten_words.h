@@ -16,7 +16,7 @@ static inline const char *peatmitten_words(uint32_t number)
         return "the configuration is unsound: its check finds one of C1 to C6";
     case PEATMITTEN_UNSOUND_TABLE:
         return "the table is unsound: a count or an id is too high, two ids are equal, something unused is not "
-               "zero, a region is not configured, or two regions overlap that must not";
+               "zero, a region is not configured or has too many rights, or two regions overlap that must not";
     case PEATMITTEN_NO_REQUEST:
         return "no request: the kind is not 1 to 6, or a region came with adding or removing a zone";
     case PEATMITTEN_ZONE_ID_TOO_HIGH:
@@ -30,7 +30,8 @@ static inline const char *peatmitten_words(uint32_t number)
     case PEATMITTEN_ZONE_IN_USE:
         return "the zone still holds a region, in its CPU set or in its IOMMU set";
     case PEATMITTEN_FORM:
-        return "the region is not well formed: its size is 0, or one of its three numbers is no multiple of 4,096";
+        return "the region is not well formed: its size is 0, its v, p or size is no multiple of 4,096, or its "
+               "rights are not 1 to 7";
     case PEATMITTEN_REACH:
         return "the region is out of reach: its guest end is above 2^40, or its physical end above 2^48";
     case PEATMITTEN_NOT_CONFIGURED:
@@ -50,10 +51,13 @@ static inline const char *peatmitten_words(uint32_t number)
         return "the region is not in that set";
     case PEATMITTEN_NOT_COVERED:
         return "no region on that side of the zone covers the address";
+    case PEATMITTEN_TOO_MANY_RIGHTS:
+        return "the region has too many rights: a CPU region both writable and executable, or an IOMMU region "
+               "executable";
     case PEATMITTEN_CUT:
         return "the plan ends before a field is wholly there";
     case PEATMITTEN_COUNT:
-        return "a count is out of range";
+        return "a count is out of range, or the third mark is another format's";
     case PEATMITTEN_TRAILING:
         return "the plan goes on after its last section";
     case PEATMITTEN_OTHER_CONFIG:
@@ -86,7 +90,8 @@ static inline const char *peatmitten_config_words(uint32_t fault)
     case PEATMITTEN_C3_NOT_ZERO:
         return "a record past the count is not all zero";
     case PEATMITTEN_C4_FORM:
-        return "a region is not well formed: its size is 0, or one of its three numbers is no multiple of 4,096";
+        return "a region is not well formed: its size is 0, its v, p or size is no multiple of 4,096, or its "
+               "rights are not 1 to 7";
     case PEATMITTEN_C5_REACH:
         return "a region is out of reach: its guest end is above 2^40, or its physical end above 2^48";
     case PEATMITTEN_C6_OVERLAP:

@@ -42,7 +42,7 @@ run_cases() {
     local program=$1/apply_plan plans=$root/examples state=$work/state
     rm -f "$state"
     expect 1 $'0 1 0, edition 1\n24 0 0, edition 1' "$program" "$plans/first.plan" "$plans/first.plan"
-    expect 1 '20 48 0, edition 0' "$program" "$plans/cut.plan"
+    expect 1 '20 60 0, edition 0' "$program" "$plans/cut.plan"
     expect 1 '20 0 0, edition 0' "$program" /dev/null
     expect 1 '23 0 0, edition 0' "$program" "$plans/refused.plan"
     expect 0 '0 1 0, edition 1' "$program" -s "$state" "$plans/first.plan"
@@ -65,11 +65,11 @@ run_cases() {
     expect_error 'usage: copy_stretch ADDRESS COUNT' "$program" 0x40000000
 
     program=$1/receive_plan
-    expect 0 '1 pieces, 80 bytes: 0 1 0, edition 1' "$program" 4096 <"$plans/first.plan"
-    expect 0 '80 pieces, 80 bytes: 0 1 0, edition 1' "$program" 1 <"$plans/first.plan"
-    expect 1 '12 pieces, 80 bytes: 23 0 0, edition 0' "$program" 7 <"$work/other.plan"
+    expect 0 '1 pieces, 100 bytes: 0 1 0, edition 1' "$program" 4096 <"$plans/first.plan"
+    expect 0 '100 pieces, 100 bytes: 0 1 0, edition 1' "$program" 1 <"$plans/first.plan"
+    expect 1 '15 pieces, 100 bytes: 23 0 0, edition 0' "$program" 7 <"$work/other.plan"
     expect 1 '0 pieces, 0 bytes: 20 0 0, edition 0' "$program" 7 </dev/null
-    expect 1 '18 pieces, 70000 bytes: 22 80 0, edition 0' "$program" 4000 <"$work/long.plan"
+    expect 1 '18 pieces, 70000 bytes: 22 100 0, edition 0' "$program" 4000 <"$work/long.plan"
     expect_error 'usage: receive_plan MOST' "$program" 0
 }
 
@@ -127,7 +127,7 @@ check_cpp() {
 
 # first.plan with another position of the GIC, and with so many bytes behind it that it is longer than the longest plan
 { head -c 4 "$root/examples/first.plan" && printf '\1' && tail -c +6 "$root/examples/first.plan"; } >"$work/other.plan"
-{ cat "$root/examples/first.plan" && head -c 69920 /dev/zero; } >"$work/long.plan"
+{ cat "$root/examples/first.plan" && head -c 69900 /dev/zero; } >"$work/long.plan"
 
 build "$work/plain"
 run_cases "$work/plain"

@@ -42,7 +42,7 @@ grouped() {
 # The shortest and the longest plan, as `SizesShown` has them, are said by both documents.
 check_sizes() {
     local sizes size document
-    sizes=$(sed -n 's/^SizesShown = (leastSize ≡ \([0-9]*\)) × (longestSize limits ≡ \([0-9]*\))$/\1 \2/p' "$root/crates/rules/specs/Sizes.antt")
+    sizes=$(sed -n 's/^SizesShown = (leastSize limits ≡ \([0-9]*\)) × (longestSize limits ≡ \([0-9]*\))$/\1 \2/p' "$root/crates/rules/specs/Sizes.antt")
     [ -n "$sizes" ] || say_failed "crates/rules/specs/Sizes.antt does not say how long a plan can be"
     for document in README.md docs/RULES.md; do
         for size in $sizes; do

@@ -1,5 +1,5 @@
 #!/usr/bin/env bash
-# On another processor than x86-64: the library for x86-64, under an emulator. It is compared with the ordinary implementation on 40,000
+# On another processor than x86-64: the library for x86-64, under an emulator. It is compared with the ordinary implementation on 50,000
 # cases, and the C example is run. On x86-64 the other tests do this, and more of it, without an emulator.
 set -euo pipefail
 test_name=emulated
@@ -14,7 +14,7 @@ need_library
 need_c
 need_rust
 need_work
-cases=40000
+cases=50000
 
 check_example() {
     local printed

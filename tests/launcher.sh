@@ -38,9 +38,10 @@ check_changed_plans() {
         grep -q "\`${answer//_/ }\`" "$root/docs/RULES.md" || say_failed "docs/RULES.md does not speak of ${answer//_/ }"
         expect 0 "${answer//_/ }" '' apply "$work/changed.plan"
     done <<'TEXT'
-21_0_0 0 3
-22_80_0 80 0
-27_0_3 48 7
+21_0_0 0 2
+21_12_0 12 3
+22_100_0 100 0
+27_0_3 60 7
 TEXT
 }
 
@@ -61,10 +62,12 @@ check_explain() {
     expect 0 $'27: a request is refused*; place: the index*\n14: a forbidden*' '' explain 27 14
     expect 0 '24: the plan is for another edition' '' explain 24 0 0
     expect 0 'C6: a region overlaps*' '' explain C6
-    expect 2 '' 'peatmitten: no number 19; *' explain 19
+    expect 0 '19: the region has too many rights*' '' explain 19
+    expect 2 '' 'peatmitten: no number 29; *' explain 29
     expect 2 '' 'peatmitten: the place at 24 is always 0' explain 24 3 0
     expect 2 '' 'peatmitten: only 27 has an inner number*' explain 24 0 5
     expect 2 '' 'peatmitten: no inner number 18; *' explain 27 0 18
+    expect 0 $'27: a request is refused*\nplace 0: *\n19: the region has*' '' explain 27 0 19
 }
 
 check_rest() {

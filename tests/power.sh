@@ -33,10 +33,10 @@ build_tool() {
 write_second_plan() {
     local number
     {
-        for number in 2 0 1 1; do printf '%b\0\0\0' "\\x$number"; done
-        printf '\0\0\0\x8\0\0\0\0\0\0\0\x8\0\0\0\0\0\0\x1\0\0\0\0\0'
+        for number in 3 0 1 2 1; do printf '%b\0\0\0' "\\x$number"; done
+        printf '\0\0\0\x8\0\0\0\0\0\0\0\x8\0\0\0\0\0\0\x1\0\0\0\0\0\x3\0\0\0\0\0\0\0'
         for number in 1 5 0 0 1 2 5; do printf '%b\0\0\0' "\\x$number"; done
-        head -c 24 /dev/zero
+        head -c 32 /dev/zero
     } >"$second"
 }
 

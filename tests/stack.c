@@ -63,7 +63,8 @@ static void request(void)
 
     if (kind == PEATMITTEN_ADD_ZONE || kind == PEATMITTEN_REMOVE_ZONE)
         region = none;
-    peatmitten_request(state.config, state.table, kind, (uint32_t)state.table[PEATMITTEN_TABLE_ZONES], region[0], region[1], region[2]);
+    peatmitten_request(state.config, state.table, kind, (uint32_t)state.table[PEATMITTEN_TABLE_ZONES], region[0], region[1], region[2],
+                       region[3]);
 }
 
 static void translate(void)

@@ -37,7 +37,7 @@ check_run() {
     make_state "$plans/first.plan"
     expect 1 $'0 1 0, edition 1\n24 0 0, edition 1' '' run "$state" "$plans/first.plan" "$plans/first.plan"
     cp "$state" "$work/before"
-    expect 1 $'23 0 0, edition 1: the plan is for another configuration\n20 48 0, edition 1: the field at offset 48 *' '' \
+    expect 1 $'23 0 0, edition 1: the plan is for another configuration\n20 60 0, edition 1: the field at offset 60 *' '' \
         run --words "$state" "$plans/refused.plan" "$plans/cut.plan"
     expect 1 '20 0 0, edition 1' '' run "$state" - </dev/null
     cmp -s "$state" "$work/before" || say_failed "a refused plan changed the state file"
@@ -48,9 +48,9 @@ check_run() {
 # A plan for the right edition and other zones: first.plan as if zone 5 were there already.
 check_other_zones() {
     {
-        head -c 40 "$plans/first.plan"
+        head -c 52 "$plans/first.plan"
         printf '\1\0\0\0\5\0\0\0\0\0\0\0\0\0\0\0'
-        tail -c 36 "$plans/first.plan"
+        tail -c 44 "$plans/first.plan"
     } >"$work/zones.plan"
     make_state "$plans/first.plan"
     expect 1 '26 0 0, edition 0: the plan is for other zones' '' run --words "$state" "$work/zones.plan"
@@ -65,7 +65,7 @@ check_faults() {
     expect 2 '' "peatmitten: cannot read $plans: Is a directory *" run "$state" "$plans"
     expect 2 '' "peatmitten: $plans/first.plan is no state file: a state has $(stat -c %s "$state") bytes" run "$plans/first.plan" "$plans/first.plan"
     expect 1 '' "peatmitten: $plans/unsound.plan has no base: 2 0 0: *" base "$plans/unsound.plan"
-    expect 1 '' "peatmitten: $plans/cut.plan has no base: 20 48 0: *" base "$plans/cut.plan"
+    expect 1 '' "peatmitten: $plans/cut.plan has no base: 20 60 0: *" base "$plans/cut.plan"
     expect 2 '' "peatmitten: cannot open $work/none: No such file *" show "$work/none"
     if "$launcher" show "$plans/first.plan" >/dev/full 2>"$work/errors"; then
         say_failed "show: status 0 where standard output is full"
@@ -75,9 +75,9 @@ check_faults() {
 }
 
 check_show() {
-    expect 0 '*'$'\n    48  request 0: add zone 5\n    80  end: the plan reads whole' '' show "$plans/first.plan"
-    expect 1 '*'$'\n    44  requests: 1\n    48  stops here with 20: *' '' show "$plans/cut.plan"
-    expect 0 '*    88  region 3: v 0x8000000, p 0x8000000, size 0x10000, the GIC*   236  request 1: zone 6, CPU insert: v 0x40000000*' '' \
+    expect 0 '*'$'\n    12  format: 2\n*\n    60  request 0: add zone 5\n   100  end: the plan reads whole' '' show "$plans/first.plan"
+    expect 1 '*'$'\n    56  requests: 1\n    60  stops here with 20: *' '' show "$plans/cut.plan"
+    expect 0 '*   116  region 3: v 0x8000000, p 0x8000000, size 0x10000, rights 3, the GIC*   304  request 1: zone 6, CPU insert: v 0x40000000*' '' \
         show "$plans/refused.plan"
 }
 

@@ -107,7 +107,7 @@ static void sync_folder_of(const char *path)
 
 static void start_state(peatmitten_state *state)
 {
-    static const uint64_t gic[PEATMITTEN_REGION_WORDS] = {0x08000000, 0x08000000, 0x10000};
+    static const uint64_t gic[PEATMITTEN_REGION_WORDS] = {0x08000000, 0x08000000, 0x10000, PEATMITTEN_READ | PEATMITTEN_WRITE};
 
     memset(state, 0, sizeof *state);
     state->config[PEATMITTEN_CONFIG_COUNT] = 1;

@@ -18,21 +18,21 @@
 
 #include "peatmitten.h"
 
-enum { ZONE = 5, PAGE = 4096, MEMORY = 3 * PAGE };
+enum { ZONE = 5, PAGE = 4096, MEMORY = 3 * PAGE, RIGHTS = PEATMITTEN_READ | PEATMITTEN_WRITE };
 
 #define MEMORY_START UINT64_C(0x80000000)
 
 /* The second region lies before the first, and the first ends where the memory does. */
-static const uint64_t gic[] = {0x08000000, 0x08000000, 0x10000};
-static const uint64_t first[] = {0x40000000, MEMORY_START + PAGE, 2 * PAGE};
-static const uint64_t second[] = {0x40000000 + 2 * PAGE, MEMORY_START, PAGE};
+static const uint64_t gic[] = {0x08000000, 0x08000000, 0x10000, RIGHTS};
+static const uint64_t first[] = {0x40000000, MEMORY_START + PAGE, 2 * PAGE, RIGHTS};
+static const uint64_t second[] = {0x40000000 + 2 * PAGE, MEMORY_START, PAGE, RIGHTS};
 
 static peatmitten_state terminal;
 static uint8_t memory[MEMORY];
 
 static void ask(uint32_t kind, const uint64_t region[PEATMITTEN_REGION_WORDS])
 {
-    uint32_t number = peatmitten_request(terminal.config, terminal.table, kind, ZONE, region[0], region[1], region[2]);
+    uint32_t number = peatmitten_request(terminal.config, terminal.table, kind, ZONE, region[0], region[1], region[2], region[3]);
 
     if (number != PEATMITTEN_ACCEPTED) {
         fprintf(stderr, "copy_stretch: request %" PRIu32 " is refused with %" PRIu32 "\n", kind, number);

@@ -23,7 +23,7 @@
 
 #include "peatmitten.h"
 
-static const uint64_t gic[] = {0x08000000, 0x08000000, 0x10000};
+static const uint64_t gic[] = {0x08000000, 0x08000000, 0x10000, PEATMITTEN_READ | PEATMITTEN_WRITE};
 
 static peatmitten_state terminal;
 static uint8_t buffer[PEATMITTEN_LONGEST_PLAN];

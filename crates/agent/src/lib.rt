@@ -10,6 +10,7 @@ use rules::Guest;
 use rules::Phys;
 use rules::Receiver;
 use rules::Region;
+use rules::Rights;
 use rules::Side;
 use rules::limits::MOST_IN_SET;
 use rules::limits::MOST_REGIONS;
@@ -45,7 +46,7 @@ ghost use Rattle.agent.specs.Agent.{layout, placesOf, yesOrNo, sideAsked
 // What a header must have for this library, one number at a time; 0 past the last. Its name says them too, so that a program with the
 // header of another library does not link.
 #[no_mangle]
-pub extern "C" fn peatmitten_layout_256_32_16_1024_3(which: u32) -> u64
+pub extern "C" fn peatmitten_layout_256_32_16_512_4(which: u32) -> u64
     ensures { λ n. ⌜ n ≡ getD layout which 0 ⌝ }
 {
     if which == 0 {
@@ -110,13 +111,15 @@ pub extern "C" fn peatmitten_request(
     v: u64,
     p: u64,
     size: u64,
+    rights: u64,
 ) -> u32
-    ensures { λ n. ⌜ Stepped (now (config .entry)) (now (table .entry)) (makeRequest kind zone (regionOf v p size)) n (now (table .exit)) ⌝ }
+    ensures { λ n. ⌜ Stepped (now (config .entry)) (now (table .entry)) (makeRequest kind zone (regionOf v p size rights)) n (now (table .exit)) ⌝ }
 {
     let region = Region {
         v: Guest(v),
         p: Phys(p),
         size,
+        rights: Rights(rights),
     };
     let request = make_request(kind, zone, region);
     step_in(config, table, request)

@@ -10,4 +10,5 @@ fn main() {
     checks::examples();
     requests::examples();
     requests::more_examples();
+    requests::rights_examples();
 }

@@ -34,10 +34,12 @@ pub fn say(asked: &[u8], holds: bool) {
     }
 }
 
-fn numbers(v: u64, p: u64, size: u64) {
+fn numbers(v: u64, p: u64, size: u64, rights: u64) {
     hex(b" (v 0x", v);
     hex(b" p 0x", p);
     hex(b" size 0x", size);
+    text(b" rights");
+    number(rights);
     text(b")");
 }
 
@@ -50,7 +52,7 @@ pub fn name(letter: u8) {
 }
 
 fn of_numbers(r: Region) {
-    numbers(r.v.0, r.p.0, r.size);
+    numbers(r.v.0, r.p.0, r.size, r.rights.0);
 }
 
 // ---- tables, a line for each zone in order
@@ -98,5 +100,5 @@ fn show_set(t: &[u64; TABLE_WORDS], b: usize)
 fn show_region(t: &[u64; TABLE_WORDS], k: usize)
     requires { ⌜ k + regionWords ≤ tableWords ⌝ }
 {
-    numbers(t[k], t[k + 1], t[k + 2]);
+    numbers(t[k], t[k + 1], t[k + 2], t[k + 3]);
 }

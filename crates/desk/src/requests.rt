@@ -51,11 +51,43 @@ pub fn more_examples() {
     run(4, 4, 256, b"17F ");
 }
 
+pub fn rights_examples() {
+    // A with each of the rights, on both sides.
+    run_with(0, b'1', b"351 551 ");
+    run_with(0, b'2', b"352 552 ");
+    run_with(0, b'3', b"353 553 ");
+    run_with(0, b'4', b"354 554 ");
+    run_with(0, b'5', b"355 555 ");
+    run_with(0, b'6', b"356 556 ");
+    run_with(0, b'7', b"357 557 ");
+    // No right, and a bit more than there are.
+    run_with(0, b'A', b"350 358 359 ");
+    // Too many rights: not asked where the region is not configured, and asked before the GIC.
+    run_with(3, b'g', b"357 35g 55g 35A 35A ");
+    // What is held, named with other rights; and rights alone, where a zone is added or removed.
+    run_with(0, b'A', b"35A 351 451 45A 17f 26f ");
+}
+
 // So many regions configured, the GIC at a position, two empty zones of which the second is 6; then requests, and the table that they
 // leave.
 fn run(configured: u64, gic: u64, first: u64, requests: &[u8]) {
     heading(configured, gic, first);
-    let c = config(configured, gic, 0, b'A');
+    text(b"\n");
+    at_desk(config(configured, gic, 0, b'A'), first, requests);
+}
+
+// The document's four regions with another at a position, and zones 5 and 6.
+fn run_with(position: usize, letter: u8, requests: &[u8]) {
+    heading(4, 3, 5);
+    text(b";");
+    name(letter);
+    text(b" at");
+    number(position as u64);
+    text(b"\n");
+    at_desk(config(4, 3, position, letter), 5, requests);
+}
+
+fn at_desk(c: [u64; CONFIG_WORDS], first: u64, requests: &[u8]) {
     let mut t = two_zones(first);
     in_turn(&c, &mut t, requests);
     show_table(&t);
@@ -68,7 +100,7 @@ fn heading(configured: u64, gic: u64, first: u64) {
     number(gic);
     text(b"; zones");
     number(first);
-    text(b" and 6\n");
+    text(b" and 6");
 }
 
 fn in_turn(c: &[u64; CONFIG_WORDS], t: &mut [u64; TABLE_WORDS], requests: &[u8]) {
@@ -114,9 +146,19 @@ fn zone_of(id: u8) -> u32 {
 fn asked(kind: u32, letter: u8) {
     match kind {
         0 => text(b"no request, of"),
-        1 => text(b"add"),
-        2 => text(b"remove"),
+        1 => of_zone(b"add", letter),
+        2 => of_zone(b"remove", letter),
         _ => moved(kind, letter),
+    }
+}
+
+// Such a request has no region; one that has is no request.
+fn of_zone(what: &[u8], letter: u8) {
+    text(what);
+    if letter != b'F' {
+        text(b" with");
+        name(letter);
+        text(b",");
     }
 }
 

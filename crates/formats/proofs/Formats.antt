@@ -4,20 +4,20 @@ use Prim.Native.Nat.{ℕ, zero, suc, _+_, _^_, _≤_, _<_}
 use native.Mathlib.Omega.{arith}
 use mathlib.Core.Bool.{Bool, true, false}
 use mathlib.Core.List.{List, [], _∷_, _++_, append-assoc, append-nil}
-use mathlib.Core.Logic.{_⊎_, inl, inr}
+use mathlib.Core.Logic.{_⊎_, inl, inr, ⊎-elim}
 use mathlib.Core.Path.{_≡_, refl, sym, ap, ap₂, subst, _∙_}
-use borrow.Author.Tests.{le-leb, leb-true}
-use lib.Dec.{leb}
+use borrow.Author.Tests.{le-leb, lt-leb, leb-true, leb-false, eq-eqb, ne-eqb, eqb-true, eqb-false}
+use lib.Dec.{leb, eqb}
 use lib.ListN.{length, getD, take, drop, length-append, length-take, take-append-drop}
 use lib.Seq.{take-at, drop-at, getD-append-add}
 use Rattle.lists.specs.Bytes.{little, bytesOf, Bytes}
 use Rattle.lists.specs.Tests.{allOf}
-use Rattle.lists.proofs.Tests.{parts, whole}
+use Rattle.lists.proofs.Tests.{holds-or-fails, parts, whole}
 use Rattle.lists.proofs.Bytes.{bytes-take, length-bytes, little-bytes, bytes-little, little-below}
 use Rattle.formats.specs.Formats.{Out, got, bad, left, when, then, Format, readNumber, number, readBoth}
 use Rattle.formats.specs.Formats.{writeBoth, both, startAt, field, readAs, as-type, readMany, writeMany, many}
 use Rattle.formats.specs.Formats.{within, readCount, readHeaded, writeHeaded, headed, listed, atEnd, readFile}
-use Rattle.formats.specs.Formats.{All, InRange}
+use Rattle.formats.specs.Formats.{nothing, exactly, All, InRange}
 
 -- t is the end of b
 abbrev pub Part : List ℕ → List ℕ → Type 0
@@ -310,6 +310,26 @@ module _ {A : Type 0} (F : Format A) (P : A → Type 0) (f : Lawful F P) where
   }
 
 -- ---- a count
+-- a range of one number
+pub only-one : (k n : ℕ) → within k k n ≡ eqb n k
+unfolding within allOf
+only-one k n = ⊎-elim (λ h. equal (eqb-true n k h)) (λ h. other (eqb-false n k h)) (holds-or-fails (eqb n k))
+  where
+    equal : n ≡ k → within k k n ≡ eqb n k
+    equal e = whole (leb k n ∷ leb n k ∷ []) (le-leb k n (omega arith), (le-leb n k (omega arith), tt)) ∙ sym (eq-eqb n k e)
+
+    below : n < k → allOf (leb k n ∷ leb n k ∷ []) ≡ false
+    below l = rw (lt-leb k n l)
+
+    above : k < n → allOf (leb k n ∷ leb n k ∷ []) ≡ false
+    above l = rw (le-leb k n (omega arith), lt-leb n k l)
+
+    other : (n ≡ k → ⊥) → within k k n ≡ eqb n k
+    other ne =
+        ⊎-elim (λ h. let a : k ≤ n = leb-true k n h in above (omega arith)) (λ h. below (leb-false k n h))
+        (holds-or-fails (leb k n))
+        ∙ sym (ne-eqb n k ne)
+
 module _ (w lo hi : ℕ) where
   back-count : (c : ℕ) (t : List ℕ) → c < 256 ^ w → lo ≤ c → c ≤ hi → readCount w lo hi (bytesOf w c ++ t) ≡ got c t
   unfolding readCount then when within
@@ -325,6 +345,12 @@ module _ (w lo hi : ℕ) where
       let q : n ≡ c = cc in
       let (a, (z, _)) = parts (leb lo n ∷ leb n hi ∷ []) l in
       (en ∙ g, (rw q at (leb-true lo n a), rw q at (leb-true n hi z)))
+
+  -- one out of range, whatever follows it
+  pub count-refused : (c : ℕ) (t : List ℕ) → c < 256 ^ w → within lo hi c ≡ false
+      → readCount w lo hi (bytesOf w c ++ t) ≡ bad 21 (bytesOf w c ++ t)
+  unfolding readCount then when
+  count-refused c t small out = rw (back-number w c t small, out)
 
   -- (a count out of range is refused where it begins, so what is left is no end of what stands after it: hence the
   -- cases)
@@ -403,6 +429,26 @@ module _ {A : Type 0} (w lo hi : ℕ) (F : ℕ → Format A) (size : A → ℕ) 
 
   pub lawful-headed : Lawful (headed w lo hi F size) (InRange w lo hi size P)
   lawful-headed = record { back = back-headed; tight = tight-headed; part = part-headed; refuses = refuses-headed }
+
+-- ---- given numbers: each is a count that has one value
+lawful-nothing : Lawful nothing (λ u. Unit {0})
+unfolding left
+lawful-nothing = record {
+  back = λ u t h. refl;
+  tight = λ b u t h e. (let q : b ≡ t = cc in (q, tt));
+  part = λ b. ([], refl);
+  refuses = λ b k t e. absurd (no-refusal tt b k t e);
+}
+
+pub lawful-exactly : (w : ℕ) (ns : List ℕ) → Lawful (exactly w ns) (λ u. All (λ (n : ℕ). n < 256 ^ w) ns)
+lawful-exactly w [] = lawful-nothing
+lawful-exactly w (n ∷ ns) =
+    let said : List ℕ → Type 0 = All (λ (n : ℕ). n < 256 ^ w) in
+    lawful-fits (exactly w (n ∷ ns)) (InRange w n n (λ u. n) (λ c u. said ns)) (λ u. said (n ∷ ns))
+    (lawful-headed w n n (λ c. exactly w ns) (λ u. n) (λ c u. said ns) (λ c. lawful-exactly w ns)
+    (λ c u a z h. omega arith))
+    (λ u h. (h .said, h .fits))
+    (λ u h. record { said = h .0; least = omega arith; most = omega arith; fits = h .1 })
 
 -- ---- the whole file
 -- a file that reads whole is what its format reads, and has nothing left

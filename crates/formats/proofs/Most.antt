@@ -11,7 +11,7 @@ use lib.Seq.{take-append-le, drop-append-le}
 use Rattle.lists.specs.Bytes.{little}
 use Rattle.formats.specs.Formats.{Out, got, bad, when, then, Format, readNumber, number, readBoth, both, startAt}
 use Rattle.formats.specs.Formats.{field, readAs, as-type, readMany, many, within, readCount, readHeaded, headed}
-use Rattle.formats.specs.Formats.{listed, atEnd, readFile}
+use Rattle.formats.specs.Formats.{listed, nothing, exactly, atEnd, readFile}
 use Rattle.formats.proofs.Formats.{then-got, count-got}
 use Rattle.formats.proofs.Widths.{number-there, wide-number, wide-got}
 
@@ -188,6 +188,20 @@ pub most-listed : {A : Type 0} (w lo hi : ℕ) (F : Format A) (m : ℕ) → Most
 most-listed w lo hi F m f =
     most-headed w lo hi (many F) length (hi * m)
     (λ c h. most-wider (many F c) (c * m) (hi * m) (mul-le-mul-right m h) (most-many F m f c))
+
+-- ---- given numbers
+nothing-most : Most nothing 0
+unfolding onto
+nothing-most = record {
+  takes = λ b u t e. (let q : b ≡ t = cc in omega (arith, ap length q));
+  past = λ u v h. refl;
+}
+
+pub most-exactly : (w : ℕ) (ns : List ℕ) → Most (exactly w ns) (length ns * w)
+most-exactly w [] = most-wider nothing 0 (0 * w) (omega arith) nothing-most
+most-exactly w (n ∷ ns) =
+    most-wider (exactly w (n ∷ ns)) (w + length ns * w) (suc (length ns) * w) (omega (arith, suc-mul (length ns) w))
+    (most-headed w n n (λ c. exactly w ns) (λ u. n) (length ns * w) (λ c h. most-exactly w ns))
 
 -- ---- the whole file: where there is more than a value can take, it is refused, and by no more than those bytes
 module _ {A : Type 0} (F : Format A) (m : ℕ) (f : Most F m) where

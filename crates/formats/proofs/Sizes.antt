@@ -9,7 +9,7 @@ use lib.ListN.{length, replicate, length-append}
 use Rattle.lists.specs.Bytes.{bytesOf}
 use Rattle.lists.proofs.Bytes.{length-bytes}
 use Rattle.formats.specs.Formats.{Format, number, writeBoth, both, writeMany, many, writeHeaded, headed, listed}
-use Rattle.formats.specs.Formats.{All}
+use Rattle.formats.specs.Formats.{exactly, All}
 use Rattle.formats.specs.Sizes.{total}
 
 -- what is written of a value has as many bytes as its size says
@@ -43,6 +43,15 @@ module _ {A : Type 0} (F : Format A) (f : A → ℕ) (sf : Sized F f) where
 
   pub sized-listed : (w lo hi : ℕ) → Sized (listed w lo hi F) (λ xs. w + total f xs)
   sized-listed w lo hi = sized-headed w lo hi (many F) length (total f) (λ c. sized-many)
+
+pub sized-exactly : (w : ℕ) (ns : List ℕ) → Sized (exactly w ns) (λ u. length ns * w)
+sized-exactly w [] u = sym (zero-mul w)
+sized-exactly w (n ∷ ns) u =
+    omega (
+      arith,
+      sized-headed w n n (λ c. exactly w ns) (λ u. n) (λ u. length ns * w) (λ c. sized-exactly w ns) u,
+      suc-mul (length ns) w,
+    )
 
 -- ---- sums: of one size, up to a size, of one element so many times
 pub total-same : {A : Type 0} (k : ℕ) (xs : List A) → total (λ x. k) xs ≡ length xs * k

@@ -3,7 +3,7 @@ use Prim.Native.Nat.{ℕ, zero, suc, _/_}
 use native.Mathlib.Omega.{arith}
 use mathlib.Core.List.{List, [], _∷_, _++_}
 use Rattle.lists.specs.Bytes.{bytesOf, Bytes}
-use Rattle.formats.specs.Formats.{number, writeBoth, both, writeMany, many, writeHeaded, headed, Format}
+use Rattle.formats.specs.Formats.{number, writeBoth, both, writeMany, many, writeHeaded, headed, exactly, Format}
 
 abbrev pub Spelled : {A : Type 0} → Format A → Type 0
 Spelled {A} F = (x : A) → Bytes (F .write x)
@@ -33,3 +33,8 @@ pub spelled-headed : {A : Type 0} (w lo hi : ℕ) (F : ℕ → Format A) (size :
 unfolding writeHeaded
 spelled-headed w lo hi F size f x =
     joined (bytesOf w (size x)) (F (size x) .write x) (spelled-number w (size x)) (f (size x) x)
+
+pub spelled-exactly : (w : ℕ) (ns : List ℕ) → Spelled (exactly w ns)
+spelled-exactly w [] u i = omega arith
+spelled-exactly w (n ∷ ns) u i =
+    spelled-headed w n n (λ c. exactly w ns) (λ u. n) (λ c. spelled-exactly w ns) u i

@@ -14,7 +14,8 @@ use Rattle.lists.specs.Places.{places, tab}
 use Rattle.lists.proofs.Places.{tab-cons}
 use Rattle.lists.proofs.Tests.{holds-or-fails}
 use Rattle.formats.specs.Formats.{got, bad, when, then, Format, readNumber, number, readBoth, both, startAt}
-use Rattle.formats.specs.Formats.{field, readAs, as-type, readMany, many}
+use Rattle.formats.specs.Formats.{field, readAs, as-type, readMany, many, readCount, readHeaded, exactly}
+use Rattle.formats.proofs.Formats.{then-got, count-got}
 
 -- k bytes, and the value that they spell
 pub record Wide {A : Type 0} (F : Format A) (k : ℕ) (value : List ℕ → A) : Type 0 where
@@ -83,6 +84,22 @@ wide-got {A} F k f w b x t e =
         let q : bad 20 u ≡ got x t = sym g ∙ e in
         let z : _≡_ {A = ℕ} 0 1 = cc in
         omega arith
+
+-- given numbers that are read were all there
+pub exactly-got : (w : ℕ) (ns b : List ℕ) (u : Unit {0}) (t : List ℕ) → exactly w ns .read b ≡ got u t
+    → (length ns * w ≤ length b) × (t ≡ drop (length ns * w) b)
+unfolding readHeaded
+exactly-got w [] b u t e =
+    let q : b ≡ t = cc in
+    (omega (arith, zero-mul w), sym q ∙ ap (λ (j : ℕ). drop j b) (sym (zero-mul w)))
+exactly-got w (n ∷ ns) b u t e =
+    let (c, s, ec, e') = then-got (readCount w n n b) (λ c s. exactly w ns .read s) u t e in
+    let (l, q) = wide-got (number w) w _ (wide-number w) b c s (count-got w n n b c s ec .0) in
+    let (m, r) = exactly-got w ns s u t e' in
+    let k : w + length ns * w ≡ suc (length ns) * w = omega (arith, suc-mul (length ns) w) in (
+      omega (arith, suc-mul (length ns) w, ap length q, length-drop w b),
+      r ∙ ap (drop (length ns * w)) q ∙ drop-drop (length ns * w) w b ∙ ap (λ (j : ℕ). drop j b) k,
+    )
 
 -- ---- so many, one after another
 module _ {A : Type 0} (F : Format A) (k : ℕ) (f : List ℕ → A) (w : Wide F k f) where

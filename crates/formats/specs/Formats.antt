@@ -1,6 +1,6 @@
 -- Formats: a reader and a writer of one kind of value. A reader takes the bytes that are left and answers with those
 -- that are then left, so an offset is a difference of two lengths. The refusals are document 01's: 20 for a field that
--- is not wholly there, 21 for a count out of range, 22 for bytes after the end.
+-- is not wholly there, 21 for a count or a given number out of range, 22 for bytes after the end.
 use Prim.Native.Nat.{ℕ, zero, suc, _^_, _≤_, _<_}
 use mathlib.Core.Bool.{Bool, true, false}
 use mathlib.Core.List.{List, [], _∷_, _++_}
@@ -98,6 +98,14 @@ module _ {A : Type 0} (w lo hi : ℕ) (F : ℕ → Format A) (size : A → ℕ) 
 -- a count, and as many of one kind
 abbrev pub listed : {A : Type 0} → ℕ → ℕ → ℕ → Format A → Format (List A)
 listed w lo hi F = headed w lo hi (many F) length
+
+-- ---- given numbers of w bytes, each judged as it is read: another is out of range
+abbrev pub nothing : Format (Unit {0})
+nothing = record { read = λ b. got tt b; write = λ u. [] }
+
+abbrev pub exactly : ℕ → List ℕ → Format (Unit {0})
+exactly w [] = nothing
+exactly w (n ∷ ns) = headed w n n (λ c. exactly w ns) (λ u. n)
 
 -- ---- the whole file: nothing after the end
 unfoldable pub atEnd : {A : Type 0} → A → List ℕ → Out A

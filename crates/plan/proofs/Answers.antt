@@ -80,37 +80,71 @@ pub second-there : (s : List ℕ) (n : ℕ) (c : Number) → NumberRead s 4 (rea
     → 8 ≤ length s
 second-there s n c read e = number-within s 4 c read n e
 
--- ---- the marks: c, g and e are what their fields' readers answered
-module _ (s : List ℕ) (c : Number) (read : NumberRead s 0 (readNumber 4 (drop 0 s)) c) where
-  pub marks-none : c ≡ Missing → BadMarks 20 0 ≡ marksAnswer (length s) (marksSection .read s)
-  unfolding marksAnswer readHeaded then
-  marks-none f = rw (count-missing s 0 c read 2 2 f) (ap (BadMarks 20) (place s 0 (omega arith)))
+pub third-there : (s : List ℕ) (n : ℕ) (c : Number) → NumberRead s 8 (readNumber 4 (drop 8 s)) c → c ≡ Is n
+    → 12 ≤ length s
+third-there s n c read e = number-within s 8 c read n e
 
-  module _ (n : ℕ) (b : Bool) (f : c ≡ Is n) (t : b ≡ within 2 2 n) where
-    pub marks-out : not b ≡ true → BadMarks 21 0 ≡ marksAnswer (length s) (marksSection .read s)
+-- ---- the marks: c, g, d and x are what their fields' readers answered
+module _ (s : List ℕ) (c : Number) (read : NumberRead s 0 (readNumber 4 (drop 0 s)) c) where
+  pub marks-none : c ≡ Missing → BadMarks 20 0 ≡ marksAnswer (length s) (marksSection limits .read s)
+  unfolding marksAnswer readHeaded then
+  marks-none f = rw (count-missing s 0 c read 3 3 f) (ap (BadMarks 20) (place s 0 (omega arith)))
+
+  module _ (n : ℕ) (b : Bool) (f : c ≡ Is n) (t : b ≡ within 3 3 n) where
+    pub marks-out : not b ≡ true → BadMarks 21 0 ≡ marksAnswer (length s) (marksSection limits .read s)
     unfolding marksAnswer readHeaded then
-    marks-out h = rw (count-out s 0 c read 2 2 n b f t h) (ap (BadMarks 21) (place s 0 (omega arith)))
+    marks-out h = rw (count-out s 0 c read 3 3 n b f t h) (ap (BadMarks 21) (place s 0 (omega arith)))
 
     module _ (h : not b ≡ false) (g : Number) (second : NumberRead s 4 (readNumber 4 (drop 4 s)) g) where
-      counted-in : readCount 4 2 2 s ≡ got n (drop 4 s)
-      counted-in = count-in s 0 c read 2 2 n b f t h
+      counted-in : readCount 4 3 3 s ≡ got n (drop 4 s)
+      counted-in = count-in s 0 c read 3 3 n b f t h
 
-      pub marks-no-gic : g ≡ Missing → BadMarks 20 4 ≡ marksAnswer (length s) (marksSection .read s)
+      pub marks-no-gic : g ≡ Missing → BadMarks 20 4 ≡ marksAnswer (length s) (marksSection limits .read s)
       unfolding marksAnswer readHeaded readAs readBoth then numberOut
       marks-no-gic e =
           rw (counted-in, second .read ∙ ap (numberOut s 4) e)
           (ap (BadMarks 20) (place s 4 (number-within s 0 c read n f)))
 
       module _ (gic : ℕ) (e : g ≡ Is gic) (d : Number) (third : NumberRead s 8 (readNumber 4 (drop 8 s)) d) where
-        pub marks-no-edition : d ≡ Missing → BadMarks 20 8 ≡ marksAnswer (length s) (marksSection .read s)
+        pub marks-no-edition : d ≡ Missing → BadMarks 20 8 ≡ marksAnswer (length s) (marksSection limits .read s)
         unfolding marksAnswer readHeaded readAs readBoth then numberOut
         marks-no-edition j =
             rw (counted-in, second .read ∙ ap (numberOut s 4) e, third .read ∙ ap (numberOut s 8) j)
             (ap (BadMarks 20) (place s 8 (number-within s 4 g second gic e)))
 
-        pub marks-are : (edition : ℕ) → d ≡ Is edition → Are gic edition ≡ marksAnswer (length s) (marksSection .read s)
-        unfolding marksAnswer readHeaded readAs readBoth then numberOut
-        marks-are edition j = rw (counted-in, second .read ∙ ap (numberOut s 4) e, third .read ∙ ap (numberOut s 8) j)
+        module _ (edition : ℕ) (j : d ≡ Is edition) (x : Number) (fourth : NumberRead s 12 (readNumber 4 (drop 12 s)) x) where
+          pub marks-no-format : x ≡ Missing → BadMarks 20 12 ≡ marksAnswer (length s) (marksSection limits .read s)
+          unfolding marksAnswer readHeaded readAs readBoth then numberOut
+          marks-no-format i =
+              rw (
+                counted-in,
+                second .read ∙ ap (numberOut s 4) e,
+                third .read ∙ ap (numberOut s 8) j,
+                count-missing s 12 x fourth 2 2 i,
+              )
+              (ap (BadMarks 20) (place s 12 (number-within s 8 d third edition j)))
+
+          module _ (k : ℕ) (r : Bool) (i : x ≡ Is k) (w : r ≡ within 2 2 k) where
+            pub marks-other : not r ≡ true → BadMarks 21 12 ≡ marksAnswer (length s) (marksSection limits .read s)
+            unfolding marksAnswer readHeaded readAs readBoth then numberOut
+            marks-other o =
+                rw (
+                  counted-in,
+                  second .read ∙ ap (numberOut s 4) e,
+                  third .read ∙ ap (numberOut s 8) j,
+                  count-out s 12 x fourth 2 2 k r i w o,
+                )
+                (ap (BadMarks 21) (place s 12 (number-within s 8 d third edition j)))
+
+            pub marks-are : not r ≡ false → Are gic edition ≡ marksAnswer (length s) (marksSection limits .read s)
+            unfolding marksAnswer readHeaded readAs readBoth then numberOut
+            marks-are o =
+                rw (
+                  counted-in,
+                  second .read ∙ ap (numberOut s 4) e,
+                  third .read ∙ ap (numberOut s 8) j,
+                  count-in s 12 x fourth 2 2 k r i w o,
+                )
 
 -- ---- the configuration
 config-stored : (gic : ℕ) (rs : List Region) → length rs ≤ mostRegions

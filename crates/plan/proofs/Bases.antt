@@ -48,7 +48,7 @@ module _ (b : List ℕ) (p : Plan) (t : List ℕ) (e : readPlan limits b ≡ got
   unfolding left
   before-requests =
       let h = sections in
-      let (w1, q1) = subst (λ (o : Out Marks). Part (left o) b) (h .marks) (lawful-marks .part b) in
+      let (w1, q1) = subst (λ (o : Out Marks). Part (left o) b) (h .marks) (lawful-marks limits .part b) in
       let (w2, q2) =
       subst (λ (o : Out (List Region)). Part (left o) (h .afterMarks)) (h .regions)
       (lawful-regions limits .part (h .afterMarks)) in
@@ -111,7 +111,7 @@ module _ (b : List ℕ) (p : Plan) (t : List ℕ) (e : readPlan limits b ≡ got
   abbrev pub zonesAt : ℕ
   zonesAt = marksBytes + (4 + length (p .regions) * regionSize)
 
-  after-marks : (12 ≤ length b) × (sections b p t e .afterMarks ≡ drop 12 b)
+  after-marks : (16 ≤ length b) × (sections b p t e .afterMarks ≡ drop 16 b)
   after-marks = marks-got b (p .marks) (sections b p t e .afterMarks) (sections b p t e .marks)
 
   regions-read : Listed regionFormat regionSize regionValue wide-region 1 mostRegions (sections b p t e .afterMarks)
@@ -120,13 +120,13 @@ module _ (b : List ℕ) (p : Plan) (t : List ℕ) (e : readPlan limits b ≡ got
       list-read regionFormat regionSize regionValue wide-region 1 mostRegions (sections b p t e .afterMarks)
       (p .regions) (sections b p t e .afterRegions) (sections b p t e .regions)
 
-  pub marks-within : 12 ≤ length b
+  pub marks-within : 16 ≤ length b
   marks-within = after-marks .0
 
   pub zones-there : zonesAt ≤ length b
-  zones-there = omega (arith, after-marks .0, ap length (after-marks .1), length-drop 12 b, regions-read .there)
+  zones-there = omega (arith, after-marks .0, ap length (after-marks .1), length-drop 16 b, regions-read .there)
 
-  pub regions-at : regionsSection limits .read (drop 12 b) ≡ got (p .regions) (sections b p t e .afterRegions)
+  pub regions-at : regionsSection limits .read (drop 16 b) ≡ got (p .regions) (sections b p t e .afterRegions)
   regions-at = ap (λ (l : List ℕ). regionsSection limits .read l) (sym (after-marks .1)) ∙ sections b p t e .regions
 
   pub zones-at : zonesSection limits .read (drop zonesAt b) ≡ got (p .zones) (sections b p t e .afterZones)
@@ -134,7 +134,7 @@ module _ (b : List ℕ) (p : Plan) (t : List ℕ) (e : readPlan limits b ≡ got
       let q : sections b p t e .afterRegions ≡ drop zonesAt b =
       regions-read .rest
       ∙ ap (drop (4 + length (p .regions) * regionSize)) (after-marks .1)
-      ∙ drop-drop (4 + length (p .regions) * regionSize) 12 b in
+      ∙ drop-drop (4 + length (p .regions) * regionSize) 16 b in
       ap (λ (l : List ℕ). zonesSection limits .read l) (sym q) ∙ sections b p t e .zones
 
 -- ---- its base, held against the terminal's words c and w
@@ -149,14 +149,14 @@ held-value n f o x t e = ap (λ (y : Out _). isHeld (heldAnswer n f y)) e ∙ by
 
 module _ (b : List ℕ) (p : Plan) (t : List ℕ) (e : readPlan limits b ≡ got p t) (c w : List ℕ)
     (stands : standing limits (storedConfig c) (storedTable w) ≡ 0) where
-  pub config-same : configHeld (drop 12 b) (p .marks .gic) c ≡ sameConfig (configIn c) p
+  pub config-same : configHeld (drop 16 b) (p .marks .gic) c ≡ sameConfig (configIn c) p
   unfolding configHeld sameConfig holdsRegions
   config-same =
       let ok : ConfigPassed c = stands-well limits (storedConfig c) (storedTable w) stands .0 in
       let regions : recordsAt c configRecords (getD c configCount 0) ≡ configIn c .regions =
       ap (recordsAt c configRecords) (count-is c ok .0) ∙ sym (regions-in c ok) in
-      let first : isHeld (heldAnswer (length (drop 12 b)) (holdsRegions c configCount configRecords)
-      (regionsSection limits .read (drop 12 b)))
+      let first : isHeld (heldAnswer (length (drop 16 b)) (holdsRegions c configCount configRecords)
+      (regionsSection limits .read (drop 16 b)))
       ≡ sameList regionEq (configIn c .regions) (p .regions) =
       held-value _ (holdsRegions c configCount configRecords) _ (p .regions) _ (regions-at b p t e)
       ∙ ap (λ (l : List Region). sameList regionEq l (p .regions)) regions in

@@ -10,12 +10,12 @@ use lib.Seq.{drop-drop}
 use Rattle.lists.specs.Bytes.{little}
 use Rattle.lists.specs.Places.{tab}
 use Rattle.formats.specs.Formats.{Out, got, bad, left, then, Format, readNumber, within, readMany, readCount}
-use Rattle.formats.specs.Formats.{readHeaded, readBoth, readAs, atEnd, readFile, number, both, as-type, listed}
-use Rattle.formats.proofs.Formats.{Part, then-got, count-got}
-use Rattle.formats.proofs.Widths.{number-there, number-short, wide-number, wide-both, wide-as, wide-got}
+use Rattle.formats.specs.Formats.{readHeaded, readBoth, readAs, atEnd, readFile, number, both, listed, exactly}
+use Rattle.formats.proofs.Formats.{Part, then-got, both-got, count-got}
+use Rattle.formats.proofs.Widths.{number-there, number-short, wide-number, wide-got, exactly-got}
 use Rattle.rules.specs.Fields.{regionSize}
-use Rattle.rules.specs.Limits.{mostRegions, mostZones, mostInSet, mostRequests, limits}
-use Rattle.rules.specs.Plan.{short, regionFormat, regionField, marksTo, marksFrom, setFormat, zoneTo, zoneFormat}
+use Rattle.rules.specs.Limits.{mostRegions, mostZones, mostInSet, mostRequests, secondFormat, limits}
+use Rattle.rules.specs.Plan.{short, regionFormat, regionField, marksTo, marksFormat, setFormat, zoneTo, zoneFormat}
 use Rattle.rules.specs.Plan.{planTo, marksSection, regionsSection, zonesSection, requestsSection, readPlan, Asked}
 use Rattle.rules.specs.Plan.{Marks, RegionFits}
 use Rattle.rules.specs.Run.{requestSize}
@@ -367,18 +367,23 @@ module _ (s : List ℕ) (base gic edition zones : ℕ) (r : Section)
         by qs (x ∷ u) m l = absurd (omega arith)
 
 -- ---- the marks, and the whole
-pub marks-got : (s : List ℕ) (m : Marks) (t : List ℕ) → marksSection .read s ≡ got m t
-    → (12 ≤ length s) × (t ≡ drop 12 s)
-unfolding readHeaded
+pub marks-got : (s : List ℕ) (m : Marks) (t : List ℕ) → marksSection limits .read s ≡ got m t
+    → (16 ≤ length s) × (t ≡ drop 16 s)
+unfolding readHeaded readAs readBoth
 marks-got s m t e =
-    let (n, u, ec, e') =
-    then-got (readCount 4 2 2 s) (λ c s. as-type (both short short) marksTo marksFrom .read s) m t e in
-    let (l, eu) = wide-got (number 4) 4 (λ b. little (take 4 b)) (wide-number 4) s n u (count-got 4 2 2 s n u ec .0) in
-    let (k, et) =
-    wide-got (as-type (both short short) marksTo marksFrom) 8 _
-    (wide-as (both short short) marksTo marksFrom 8 _ (wide-both short short 4 4 _ _ (wide-number 4) (wide-number 4))) u
-    m t e' in
-    (omega (arith, ap length eu, length-drop 4 s), et ∙ ap (drop 8) eu ∙ drop-drop 8 4 s)
+    let (n, u, ec, e') = then-got (readCount 4 3 3 s) (λ c s. marksFormat limits .read s) m t e in
+    let (l, eu) = wide-got (number 4) 4 (λ b. little (take 4 b)) (wide-number 4) s n u (count-got 4 3 3 s n u ec .0) in
+    let (x, v, ex, ev) = then-got (both short (both short (exactly 4 secondFormat)) .read u) (λ x t. got (marksTo x) t) m t e' in
+    let (a, (b, c)) = x in
+    let (u1, ea, f1) = both-got short (both short (exactly 4 secondFormat)) u a (b, c) v ex in
+    let (u2, eb, f2) = both-got short (exactly 4 secondFormat) u1 b c v f1 in
+    let (k1, q1) = wide-got (number 4) 4 (λ b. little (take 4 b)) (wide-number 4) u a u1 ea in
+    let (k2, q2) = wide-got (number 4) 4 (λ b. little (take 4 b)) (wide-number 4) u1 b u2 eb in
+    let (k3, q3) = exactly-got 4 secondFormat u2 c v f2 in
+    let q4 : v ≡ t = cc in (
+      omega (arith, ap length eu, length-drop 4 s, ap length q1, length-drop 4 u, ap length q2, length-drop 4 u1),
+      sym q4 ∙ q3 ∙ ap (drop 4) (q2 ∙ ap (drop 4) q1 ∙ drop-drop 4 4 u) ∙ drop-drop 4 8 u ∙ ap (drop 12) eu ∙ drop-drop 12 4 s,
+    )
 
 -- a plan is its sections, one after another
 module _ (n : ℕ) where
@@ -420,15 +425,15 @@ module _ (n : ℕ) where
 
   whole-plan : (b : List ℕ) → marksFound n b ≡ foundIn n (readPlan limits b)
   unfolding readPlan readFile readAs readBoth
-  whole-plan b = with-marks (marksSection .read b)
+  whole-plan b = with-marks (marksSection limits .read b)
 
 -- m is what the marks' reader answered
-module _ (s : List ℕ) (m : MarksAre) (em : m ≡ marksAnswer (length s) (marksSection .read s)) where
+module _ (s : List ℕ) (m : MarksAre) (em : m ≡ marksAnswer (length s) (marksSection limits .read s)) where
   pub marks-refused : (k a : ℕ) → m ≡ BadMarks k a → BadFound k a ≡ foundIn (length s) (readPlan limits s)
   unfolding marksAnswer leading
-  marks-refused k a f = by (marksSection .read s) refl em
+  marks-refused k a f = by (marksSection limits .read s) refl em
     where
-      by : (o : Out Marks) → marksSection .read s ≡ o → m ≡ marksAnswer (length s) o
+      by : (o : Out Marks) → marksSection limits .read s ≡ o → m ≡ marksAnswer (length s) o
           → BadFound k a ≡ foundIn (length s) (readPlan limits s)
       by (got x t) e g =
           absurd (let q : Are (x .gic) (x .edition) ≡ BadMarks k a = sym g ∙ f in
@@ -443,12 +448,12 @@ module _ (s : List ℕ) (m : MarksAre) (em : m ≡ marksAnswer (length s) (marks
           ∙ whole-plan (length s) s
 
   module _ (gic edition : ℕ) (f : m ≡ Are gic edition) where
-    marks-are : marksSection .read s ≡ got (record { gic = gic; edition = edition }) (drop 12 s)
+    marks-are : marksSection limits .read s ≡ got (record { gic = gic; edition = edition }) (drop 16 s)
     unfolding marksAnswer
-    marks-are = by (marksSection .read s) refl em
+    marks-are = by (marksSection limits .read s) refl em
       where
-        by : (o : Out Marks) → marksSection .read s ≡ o → m ≡ marksAnswer (length s) o
-            → marksSection .read s ≡ got (record { gic = gic; edition = edition }) (drop 12 s)
+        by : (o : Out Marks) → marksSection limits .read s ≡ o → m ≡ marksAnswer (length s) o
+            → marksSection limits .read s ≡ got (record { gic = gic; edition = edition }) (drop 16 s)
         by (got x t) e g =
             let q : Are (x .gic) (x .edition) ≡ Are gic edition = sym g ∙ f in
             let i : x .gic ≡ gic = cc in
@@ -460,20 +465,20 @@ module _ (s : List ℕ) (m : MarksAre) (em : m ≡ marksAnswer (length s) (marks
             let z : _≡_ {A = ℕ} 0 1 = cc in
             omega arith)
 
-    pub marks-there : 12 ≤ length s
-    marks-there = marks-got s (record { gic = gic; edition = edition }) (drop 12 s) marks-are .0
+    pub marks-there : 16 ≤ length s
+    marks-there = marks-got s (record { gic = gic; edition = edition }) (drop 16 s) marks-are .0
 
-    pub regions-follow : length s < 2 ^ 64 → 12 + length (take (length s - 12) (drop 12 s)) < 2 ^ 64
-    regions-follow h = let l : 12 ≤ length s = marks-there in omega (arith, ap length (rest-of s 12), length-drop 12 s)
+    pub regions-follow : length s < 2 ^ 64 → 16 + length (take (length s - 16) (drop 16 s)) < 2 ^ 64
+    regions-follow h = let l : 16 ≤ length s = marks-there in omega (arith, ap length (rest-of s 16), length-drop 16 s)
 
     pub marks-lead : (v : Found)
-        → v ≡ regionsFound gic edition marksBytes (12 + length (take (length s - 12) (drop 12 s)))
-        (take (length s - 12) (drop 12 s))
+        → v ≡ regionsFound gic edition marksBytes (16 + length (take (length s - 16) (drop 16 s)))
+        (take (length s - 16) (drop 16 s))
         → v ≡ foundIn (length s) (readPlan limits s)
     unfolding leading afterMarks
     marks-lead v h =
-        let l : 12 ≤ length s = marks-there in
-        let n : 12 + length (drop 12 s) ≡ length s = omega (arith, length-drop 12 s) in
-        h ∙ ap (λ (b : List ℕ). regionsFound gic edition marksBytes (12 + length b) b) (rest-of s 12)
-        ∙ ap (λ (k : ℕ). regionsFound gic edition marksBytes k (drop 12 s)) n
+        let l : 16 ≤ length s = marks-there in
+        let n : 16 + length (drop 16 s) ≡ length s = omega (arith, length-drop 16 s) in
+        h ∙ ap (λ (b : List ℕ). regionsFound gic edition marksBytes (16 + length b) b) (rest-of s 16)
+        ∙ ap (λ (k : ℕ). regionsFound gic edition marksBytes k (drop 16 s)) n
         ∙ sym (ap (leading (afterMarks (length s)) (length s)) marks-are) ∙ whole-plan (length s) s

@@ -155,7 +155,7 @@ module _ (c t : List ℕ) (ed : ℕ) (b : List ℕ) where
   -- a plan that reads whole
   module _ (p : Plan) (left : List ℕ) (e : readPlan limits b ≡ got p left) where
     abbrev number : ℕ
-    number = baseNumber c t ed (p .marks .gic) (p .marks .edition) (drop 12 b) (drop (zonesAt b p left e) b)
+    number = baseNumber c t ed (p .marks .gic) (p .marks .edition) (drop 16 b) (drop (zonesAt b p left e) b)
 
     abbrev stretch : List ℕ
     stretch = drop (length b - length (p .asked) * requestSize) b
@@ -248,7 +248,7 @@ module _ (c t : List ℕ) (ed : ℕ) (b : List ℕ) where
         (stays v (unsound s b ne ∙ sym (ap (λ (o : Outcome). record { outcome = o; state = s }) answer)))
 
     found-is : (v : Outcome) (u : List ℕ)
-        → FoundIn c t ed (p .marks .gic) (p .marks .edition) (drop 12 b) (drop (zonesAt b p left e) b) stretch v u
+        → FoundIn c t ed (p .marks .gic) (p .marks .edition) (drop 16 b) (drop (zonesAt b p left e) b) stretch v u
         → AppliedIn c t ed b v u
     found-is v u f = by (eqb number 0) refl (eqb (own s) 0) refl
       where
@@ -328,7 +328,7 @@ module _ (b : List ℕ) (r : Found) (er : r ≡ foundIn (length b) (readPlan lim
             let z : _≡_ {A = ℕ} 0 1 = cc in
             omega arith)
 
-    pub regions-fit : 12 ≤ length b
+    pub regions-fit : 16 ≤ length b
     regions-fit = marks-within b (whole .plan) (whole .left) (whole .read)
 
     pub zones-fit : zones ≤ length b
@@ -338,7 +338,7 @@ module _ (b : List ℕ) (r : Found) (er : r ≡ foundIn (length b) (readPlan lim
     requests-fit = omega (arith, whole .requests-is)
 
     pub apply-found : (c w : List ℕ) (ed : ℕ) (v : Outcome) (u : List ℕ)
-        → FoundIn c w ed gic edition (take (length b - 12) (drop 12 b)) (take (length b - zones) (drop zones b))
+        → FoundIn c w ed gic edition (take (length b - 16) (drop 16 b)) (take (length b - zones) (drop zones b))
         (take (length b - requests) (drop requests b)) v u
         → AppliedIn c w ed b v u
     apply-found c w ed v u h =
@@ -349,22 +349,22 @@ module _ (b : List ℕ) (r : Found) (er : r ≡ foundIn (length b) (readPlan lim
         ≡ drop (length b - length (q .plan .asked) * requestSize) b =
         rest-of b requests ∙ ap (λ (i : ℕ). drop i b) (q .requests-is) in
         found-is c w ed b (q .plan) (q .left) (q .read) v u
-        (subst (λ (x : ℕ). FoundIn c w ed x (q .plan .marks .edition) (drop 12 b)
+        (subst (λ (x : ℕ). FoundIn c w ed x (q .plan .marks .edition) (drop 16 b)
         (drop (zonesAt b (q .plan) (q .left) (q .read)) b)
         (drop (length b - length (q .plan .asked) * requestSize) b) v u) (q .gic-is)
-        (subst (λ (x : ℕ). FoundIn c w ed gic x (drop 12 b) (drop (zonesAt b (q .plan) (q .left) (q .read)) b)
+        (subst (λ (x : ℕ). FoundIn c w ed gic x (drop 16 b) (drop (zonesAt b (q .plan) (q .left) (q .read)) b)
         (drop (length b - length (q .plan .asked) * requestSize) b) v u) (q .edition-is)
         (subst (λ (x : List ℕ). FoundIn c w ed gic edition x (drop (zonesAt b (q .plan) (q .left) (q .read)) b)
-        (drop (length b - length (q .plan .asked) * requestSize) b) v u) (rest-of b 12)
-        (subst (λ (x : List ℕ). FoundIn c w ed gic edition (take (length b - 12) (drop 12 b)) x
+        (drop (length b - length (q .plan .asked) * requestSize) b) v u) (rest-of b 16)
+        (subst (λ (x : List ℕ). FoundIn c w ed gic edition (take (length b - 16) (drop 16 b)) x
         (drop (length b - length (q .plan .asked) * requestSize) b) v u) z
-        (subst (λ (x : List ℕ). FoundIn c w ed gic edition (take (length b - 12) (drop 12 b))
+        (subst (λ (x : List ℕ). FoundIn c w ed gic edition (take (length b - 16) (drop 16 b))
         (take (length b - zones) (drop zones b)) x v u) n h)))))
 
     -- what it says, as words
     pub plan-read : (y : Regions) (x : Zones)
-        → y ≡ regionsAnswer gic (length (take (length b - 12) (drop 12 b)))
-        (regionsSection limits .read (take (length b - 12) (drop 12 b)))
+        → y ≡ regionsAnswer gic (length (take (length b - 16) (drop 16 b)))
+        (regionsSection limits .read (take (length b - 16) (drop 16 b)))
         → x ≡ zonesAnswer (length (take (length b - zones) (drop zones b)))
         (zonesSection limits .read (take (length b - zones) (drop zones b)))
         → _≡_ {A = Read} (record { requests = End requests; edition = edition; config = y .config; table = x .table })
@@ -372,8 +372,8 @@ module _ (b : List ℕ) (r : Found) (er : r ≡ foundIn (length b) (readPlan lim
     unfolding readAnswer configAnswer tableAnswer
     plan-read y x ey ex =
         let q = whole in
-        let rs : regionsSection limits .read (take (length b - 12) (drop 12 b)) ≡ got (q .plan .regions) _ =
-        ap (λ (l : List ℕ). regionsSection limits .read l) (rest-of b 12)
+        let rs : regionsSection limits .read (take (length b - 16) (drop 16 b)) ≡ got (q .plan .regions) _ =
+        ap (λ (l : List ℕ). regionsSection limits .read l) (rest-of b 16)
         ∙ regions-at b (q .plan) (q .left) (q .read) in
         let zs : zonesSection limits .read (take (length b - zones) (drop zones b)) ≡ got (q .plan .zones) _ =
         ap (λ (l : List ℕ). zonesSection limits .read l) (rest-of b zones ∙ ap (λ (i : ℕ). drop i b) (q .zones-is))

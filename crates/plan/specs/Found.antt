@@ -7,6 +7,7 @@ use Rattle.rules.specs.Fields.{regionSize}
 use Rattle.rules.specs.Limits.{limits}
 use Rattle.rules.specs.Plan.{marksSection, regionsSection, zonesSection, requestsSection, Asked, Marks, Plan}
 use Rattle.rules.specs.Run.{requestSize}
+use Rattle.rules.specs.Sizes.{marksSize}
 use Rattle.rules.specs.Tables.{Zone}
 use Rattle.rules.specs.declared.Region.{Region}
 use Rattle.plan.specs.declared.finding.Found.{Found}
@@ -14,7 +15,7 @@ use Rattle.plan.specs.declared.finding.Found.the-variants.{At, Bad}
 
 -- bytes of the marks with their count
 abbrev pub marksBytes : ℕ
-marksBytes = 12
+marksBytes = marksSize limits
 
 -- a plan that reads whole: its regions follow the marks, and its requests are the last of its bytes
 unfoldable pub foundIn : ℕ → Out Plan → Found
@@ -53,4 +54,4 @@ unfoldable pub afterMarks : ℕ → Marks → List ℕ → Found
 afterMarks n m left = regionsFound (m .gic) (m .edition) marksBytes n left
 
 abbrev pub marksFound : ℕ → List ℕ → Found
-marksFound n b = leading (afterMarks n) n (marksSection .read b)
+marksFound n b = leading (afterMarks n) n (marksSection limits .read b)

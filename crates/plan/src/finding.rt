@@ -6,6 +6,7 @@ use crate::sections::Marks;
 use crate::sections::read_marks;
 use crate::sections::read_requests;
 use crate::words::Section;
+use rules::limits::MARKS;
 use rules::limits::MOST_IN_SET;
 use rules::limits::MOST_REGIONS;
 use rules::limits::MOST_ZONES;
@@ -23,8 +24,8 @@ ghost use Rattle.rules.specs.Plan.{regionField, zoneFormat, zonesSection, readP
 ghost use Rattle.plan.specs.Sections.{sectionAnswer};
 ghost use Rattle.plan.specs.Found.{foundIn, regionsFound, zonesFound, requestsFound};
 
-// The marks' count and the two marks.
-pub const MARKS_BYTES: usize = 12;
+// The marks' count and the marks.
+pub const MARKS_BYTES: usize = SHORT_BYTES + MARKS as usize * SHORT_BYTES;
 
 // The marks, and where the base zones (at their count) and the first request begin; or a refusal and its offset.
 pub enum Found {

@@ -18,7 +18,6 @@ pub use finding::find_sections;
 pub use read::Read;
 pub use read::find_requests;
 pub use read::read_plan;
-pub use sections::MARKS;
 pub use sections::Marks;
 pub use sections::Regions;
 pub use sections::Zones;

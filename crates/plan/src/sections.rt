@@ -6,6 +6,8 @@ use crate::field::number_at;
 use crate::words::Section;
 use crate::words::read_set;
 use crate::words::read_table;
+use rules::limits::FORMAT;
+use rules::limits::MARKS;
 use rules::limits::MOST_REGIONS;
 use rules::limits::MOST_REQUESTS;
 use rules::numbers::COUNT;
@@ -43,12 +45,9 @@ pub struct Zones {
     pub table: Table,
 }
 
-// There are two marks.
-pub const MARKS: u32 = 2;
-
-// Marks: the GIC's position and the base edition.
+// Marks: the GIC's position, the base edition, and the mark of the format, which is judged as it is read.
 pub fn read_marks(s: &[u8]) -> Marks
-    ensures { λ r. ⌜ r ≡ marksAnswer (length (now (s .entry))) (marksSection .read (now (s .entry))) ⌝ }
+    ensures { λ r. ⌜ r ≡ marksAnswer (length (now (s .entry))) (marksSection limits .read (now (s .entry))) ⌝ }
 {
     let Number::Is(count) = number_at(s, 0) else {
         return Marks::Bad { number: CUT, at: 0 };
@@ -65,6 +64,18 @@ pub fn read_marks(s: &[u8]) -> Marks
     let Number::Is(edition) = number_at(s, 8) else {
         return Marks::Bad { number: CUT, at: 8 };
     };
+    let Number::Is(format) = number_at(s, 12) else {
+        return Marks::Bad {
+            number: CUT,
+            at: 12,
+        };
+    };
+    if !is_within(FORMAT, FORMAT, format) {
+        return Marks::Bad {
+            number: COUNT,
+            at: 12,
+        };
+    }
     Marks::Are { gic, edition }
 }
 

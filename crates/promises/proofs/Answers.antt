@@ -28,12 +28,13 @@ use Rattle.rules.specs.Configuration.{gicOf, configOf, check, isSound, checkNum
 use Rattle.rules.specs.Configuration.{Configuration, StoredConfig}
 use Rattle.rules.specs.Limits.{pageOf, Limits}
 use Rattle.rules.specs.Plan.{planFormat, readPlan, requestsOf, Plan}
-use Rattle.rules.specs.Regions.{wellFormed, inReach, regionEq, physOverlap, guestOverlap, noRegion}
+use Rattle.rules.specs.Regions.{wellFormed, mayWrite, mayExecute, inReach, regionEq, physOverlap, guestOverlap, noRegion}
 use Rattle.rules.specs.Requests.{find, present, heldIn, holdsAny, onGic, forbidden, addRules, removeZoneRules}
 use Rattle.rules.specs.Requests.{regionRules, setRules, insertRules, removeRules, kindRules, noRequest, requestRules}
 use Rattle.rules.specs.Requests.{refusal, standingRules, standing, answer}
 use Rattle.rules.specs.Run.{run, ended, runAnswer, Run}
-use Rattle.rules.specs.Tables.{noZone, hasId, regionsOf, configured, clash, tableOf, checkTable, Zone, StoredTable}
+use Rattle.rules.specs.Tables.{noZone, hasId, regionsOf, configured, excessive, clash, tableOf, checkTable, Zone}
+use Rattle.rules.specs.Tables.{StoredTable}
 use Rattle.rules.specs.Translation.{coversGuest, coveringIn, physIn, remainingIn, translationRules, translatedAs}
 use Rattle.rules.specs.Translation.{translation, translated}
 use Rattle.rules.specs.declared.Checked.{Checked}
@@ -55,7 +56,7 @@ use Rattle.rules.proofs.Regions.{equal-same, equal-refl}
 use Rattle.rules.proofs.Run.{run-all, run-stops}
 use Rattle.rules.proofs.Sections.{own-config, own-zones}
 use Rattle.rules.proofs.Translation.{covers-parts, parts-cover, same-distance, remains-to-end}
-use Rattle.promises.specs.Answers.{standingLines, HasZone, IsWellFormed, IsInReach, MeetsPhys, MeetsGuest, SomeIn}
+use Rattle.promises.specs.Answers.{HasTooMany, standingLines, HasZone, IsWellFormed, IsInReach, MeetsPhys, MeetsGuest, SomeIn}
 use Rattle.promises.specs.Answers.{SomeZone, ForbiddenFor, kindLines, RequestSays, RefusalIsExact, AnswerIsExact}
 use Rattle.promises.specs.Answers.{ComesOut, TranslatedIsExact, noAsk, numberAt, RunAnswerIsExact, allAccepted}
 use Rattle.promises.specs.Answers.{twentySeven, Ends, twenty, twentyOne, twentyTwo, reads, Reading, AtTerminal}
@@ -151,9 +152,15 @@ tells-held xs ys = (
 tells-formed : (page : ℕ) (r : Region) → Tells (wellFormed page r) (IsWellFormed page r)
 unfolding wellFormed
 tells-formed page r = (
-  (λ e. let p = parts _ e in
-      (ltb-true _ _ (p .0), eqb-true _ _ (p .1 .0), eqb-true _ _ (p .1 .1 .0), eqb-true _ _ (p .1 .1 .1 .0))),
-  (λ (a, b, c, d). whole _ (lt-ltb _ _ a, (eq-eqb _ _ b, (eq-eqb _ _ c, (eq-eqb _ _ d, tt))))),
+  (λ e. let p = parts _ e in (
+    ltb-true _ _ (p .0),
+    eqb-true _ _ (p .1 .0),
+    eqb-true _ _ (p .1 .1 .0),
+    eqb-true _ _ (p .1 .1 .1 .0),
+    ltb-true _ _ (p .1 .1 .1 .1 .0),
+    leb-true _ _ (p .1 .1 .1 .1 .1 .0),
+  )),
+  (λ (a, b, c, d, e, f). whole _ (lt-ltb _ _ a, (eq-eqb _ _ b, (eq-eqb _ _ c, (eq-eqb _ _ d, (lt-ltb _ _ e, (le-leb _ _ f, tt))))))),
 )
 
 tells-reach : (l : Limits) (r : Region) → Tells (inReach l r) (IsInReach l r)
@@ -162,6 +169,14 @@ tells-reach l r = (
   (λ e. let p = parts _ e in (leb-true _ _ (p .0), leb-true _ _ (p .1 .0))),
   λ (a, b). whole _ (le-leb _ _ a, (le-leb _ _ b, tt)),
 )
+
+tells-rights : (s : Side) (r : Region) → Tells (excessive s r) (HasTooMany s r)
+unfolding excessive
+tells-rights Cpu r = (
+  (λ e. let (a, b) = both-true (mayWrite r) (mayExecute r) e in (eqb-true _ _ a, eqb-true _ _ b)),
+  λ (a, b). true-both (mayWrite r) (mayExecute r) (eq-eqb _ _ a) (eq-eqb _ _ b),
+)
+tells-rights Iommu r = ((λ e. eqb-true _ _ e), λ a. eq-eqb _ _ a)
 
 isCpu : Side → Bool
 isCpu Cpu = true
@@ -216,6 +231,7 @@ module _ (lim : Limits) where
         and tells-not _ _ (tells-formed (pageOf lim s) r)
         and tells-not _ _ (tells-reach lim r)
         and tells-not _ _ (tells-in r (c .regions))
+        and tells-rights s r
         and tells-gic c s r
         and tells-in r xs
         and tells-forbidden c (find id t) s r t

@@ -29,8 +29,8 @@ use Rattle.rules.specs.Regions.{wellFormed, inReach, regionEq, physOverlap, gue
 use Rattle.rules.specs.Requests.{find, present, heldIn, onGic, forbidden, addRules, removeZoneRules, regionRules}
 use Rattle.rules.specs.Requests.{setRules, insertRules, removeRules, kindRules, noRequest, requestRules, refusal, after}
 use Rattle.rules.specs.Requests.{next}
-use Rattle.rules.specs.Tables.{noZone, sideOf, hasId, regionsOf, configured, clash, soundSet, soundZone, idsDiffer}
-use Rattle.rules.specs.Tables.{Zone}
+use Rattle.rules.specs.Tables.{noZone, sideOf, hasId, regionsOf, configured, excessive, clash, soundSet, soundZone}
+use Rattle.rules.specs.Tables.{idsDiffer, Zone}
 use Rattle.rules.specs.declared.Kind.{Kind}
 use Rattle.rules.specs.declared.Kind.the-variants.{AddZone, RemoveZone, Insert, Remove, NoRequest}
 use Rattle.rules.specs.declared.Region.{Region}
@@ -340,13 +340,13 @@ module _ (lim : Limits) where
         let h = none-applies lim c (Insert Cpu r) id t e in (
           cpu-inserted id (not-false _ (h 6)) r (not-false _ (h 9)) (not-false _ (h 10)) (not-false _ (h 11)) (h 12)
               (h 13) (h 14) (h 15),
-          leb-false _ _ (h 16),
+          (h 19, leb-false _ _ (h 16)),
         )
     accepted (Insert Iommu r) id e =
         let h = none-applies lim c (Insert Iommu r) id t e in (
           iommu-inserted id (not-false _ (h 6)) r (not-false _ (h 9)) (not-false _ (h 10)) (not-false _ (h 11)) (h 13)
               (h 14) (h 15),
-          leb-false _ _ (h 16),
+          (h 19, leb-false _ _ (h 16)),
         )
     accepted (Remove Cpu r) id e =
         let h = none-applies lim c (Remove Cpu r) id t e in
@@ -365,6 +365,7 @@ module _ (lim : Limits) where
         → present id t ≡ true
         → (wellFormed (pageOf lim side) r ≡ true) × (inReach lim r ≡ true)
         → configured c r ≡ true
+        → excessive side r ≡ false
         → onGic c side r ≡ false
         → heldIn r (setAt t (find id t) side) ≡ false
         → forbidden c (find id t) side r t ≡ false
@@ -372,12 +373,12 @@ module _ (lim : Limits) where
         → length (setAt t (find id t) side) < lim .inSet
         → Quiet (requestRules lim c (Insert side r) id t)
     unfolding requestRules kindRules insertRules regionRules setRules noRequest
-    insert-quiet id side r there (formed, near) conf gic new clear apart room =
+    insert-quiet id side r there (formed, near) conf few gic new clear apart room =
         let in-set : Quiet (setRules lim c (find id t) side r t) = (new, (clear, (apart, (lt-leb _ _ room, tt)))) in (
           refl,
           (
             low-id id there,
-            (not-holds _ there, (not-holds _ formed, (not-holds _ near, (not-holds _ conf, (gic, in-set))))),
+            (not-holds _ there, (not-holds _ formed, (not-holds _ near, (not-holds _ conf, (few, (gic, in-set)))))),
           ),
         )
 
@@ -390,17 +391,17 @@ module _ (lim : Limits) where
         (refl, (low-id id p, (not-holds _ p, (nothing-held _ t (k .0) (k .1), tt))))
     allowed-back (Insert Cpu r) id u x k =
         let (p, g) = state-some id t (x .zone) (x .there) in
-        insert-quiet id Cpu r p (x .valid) (x .allowed .0) (x .allowed .1)
+        insert-quiet id Cpu r p (x .valid) (x .allowed .0) (k .0) (x .allowed .1)
         (ap (λ (y : GhostZone). y .cpu-mem-set r) g ∙ x .absent)
         (cpu-clear id p r (x .allowed .2))
-        (clear-make (guestOverlap r) _ (λ a m. x .apart a (sym (ap (λ (y : GhostZone). y .cpu-mem-set a) g) ∙ m))) k
+        (clear-make (guestOverlap r) _ (λ a m. x .apart a (sym (ap (λ (y : GhostZone). y .cpu-mem-set a) g) ∙ m))) (k .1)
     allowed-back (Insert Iommu r) id u x k =
         let (p, g) = state-some id t (x .zone) (x .there) in
-        insert-quiet id Iommu r p (x .valid) (x .allowed .0) refl
+        insert-quiet id Iommu r p (x .valid) (x .allowed .0) (k .0) refl
         (ap (λ (y : GhostZone). y .iommu-mem-set r) g ∙ x .absent)
         (iommu-clear id p r (x .allowed .1))
         (clear-make (guestOverlap r) _
-        (λ a m. x .apart a (sym (ap (λ (y : GhostZone). y .iommu-mem-set a) g) ∙ m))) k
+        (λ a m. x .apart a (sym (ap (λ (y : GhostZone). y .iommu-mem-set a) g) ∙ m))) (k .1)
     allowed-back (Remove Cpu r) id u x k =
         let (p, g) = state-some id t (x .zone) (x .there) in
         (refl, (low-id id p, (not-holds _ p, (not-holds _ (ap (λ (y : GhostZone). y .cpu-mem-set r) g ∙ x .held), tt))))

@@ -6,6 +6,7 @@ pub mod Requests
 pub mod Closure
 pub mod Translation
 pub mod Plans
+pub mod Rights
 pub mod Answers
 pub mod Stretches
 pub mod Editions

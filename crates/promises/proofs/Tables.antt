@@ -19,13 +19,15 @@ use Rattle.lists.proofs.Every.{all-at, all-make, all-below, all-below-make, all
 use Rattle.lists.proofs.Every.{any-at, any-make, any-append, none-at, none-make, none-all}
 use Rattle.lists.proofs.Pairs.{pairs-at, pairs-make}
 use Rattle.lists.proofs.Room.{length-room, room-read}
-use Rattle.lists.proofs.Tests.{false-both, holds-or-fails, false-of, not-fails, parts, whole, Holds}
+use Rattle.lists.proofs.Tests.{true-both, false-both, holds-or-fails, false-of, not-fails, parts, whole, Holds}
 use Rattle.rules.specs.Limits.{highestId, Limits, pageOf}
 use Rattle.rules.specs.Configuration.{gicOf, configOf, check, isSound, Configuration, StoredConfig}
-use Rattle.rules.specs.Regions.{wellFormed, inReach, regionEq, physOverlap, guestOverlap, noRegion, used}
+use Rattle.rules.specs.Regions.{wellFormed, mayWrite, mayExecute, inReach, regionEq, physOverlap, guestOverlap}
+use Rattle.rules.specs.Regions.{noRegion, used}
+use Rattle.rules.specs.Requests.{next}
 use Rattle.rules.specs.Tables.{noZone, noStored, sideOf, regionsOf, setOf, zoneOf, tableOf, restZero, zeroSet, tidyZone}
 use Rattle.rules.specs.Tables.{zeroZone, tidy, configured, guestApart, offGic, clash, soundSet, soundZone, idsDiffer}
-use Rattle.rules.specs.Tables.{zonesApart, sound, checkTable, Zone, StoredSet, StoredTable}
+use Rattle.rules.specs.Tables.{excessive, modest, zonesApart, sound, checkTable, Zone, StoredSet, StoredTable}
 use Rattle.rules.specs.declared.Checked.the-variants.{Sound}
 use Rattle.rules.specs.declared.Region.{Region}
 use Rattle.rules.specs.declared.Side.{Side}
@@ -33,7 +35,7 @@ use Rattle.rules.specs.declared.Side.the-variants.{Cpu, Iommu}
 use Rattle.rules.proofs.Addresses.{overlap-shared, overlap-symmetric}
 use Rattle.rules.proofs.Configuration.{c1-faulty, c2-faulty, sound-is, sound-answer, gives-c1, gives-c2, passed}
 use Rattle.rules.proofs.Configuration.{SoundConfiguration}
-use Rattle.rules.proofs.Keeps.{clash-symmetric, parts-sound}
+use Rattle.rules.proofs.Keeps.{clash-symmetric, sound-parts, parts-sound, next-keeps}
 use Rattle.rules.proofs.Regions.{equal-same, equal-refl}
 use Rattle.rules.proofs.Stored.{length-table, zone-read}
 use Rattle.rules.proofs.Tables.{configured-at}
@@ -154,6 +156,14 @@ module _ (lim : Limits) where
     unfolding soundZone
     device-formed z r h m =
         among (wellFormed (lim .iommuPage)) (getD t z noZone .iommu) r (parts _ (zone-ok z h) .1 .1 .1 .1 .0) m
+
+    pub rights-modest : (z : ℕ) (s : Side) (r : Region) → z < length t → In r (sideOf s (getD t z noZone))
+        → excessive s r ≡ false
+    unfolding soundZone sideOf
+    rights-modest z Cpu r h m =
+        not-true _ (among (modest Cpu) (getD t z noZone .cpu) r (parts _ (zone-ok z h) .1 .1 .1 .1 .1 .0) m)
+    rights-modest z Iommu r h m =
+        not-true _ (among (modest Iommu) (getD t z noZone .iommu) r (parts _ (zone-ok z h) .1 .1 .1 .1 .1 .1 .0) m)
 
     ids-apart : (y z : ℕ) → y < z → z < length t → getD t y noZone .id ≡ getD t z noZone .id → ⊥
     unfolding sound
@@ -308,6 +318,7 @@ module _ (lim : Limits) where
               λ z i m. ap (physOverlap (recordAt t z Cpu i)) (sym g)
               ∙ off-gic cc zs ok z (recordAt t z Cpu i) (table-has z (m .0)) (stands z Cpu i m);
           formed = λ z i m. device-formed cc zs ok z (recordAt t z Iommu i) (table-has z (m .0)) (stands z Iommu i m);
+          modest = λ z s i m. rights-modest cc zs ok z s (recordAt t z s i) (table-has z (m .0)) (stands z s i m);
           zonesApart = λ y z s u i j ne m n na nb.
               no-clash-means cc (recordAt t y s i) (recordAt t z u j)
               (never-clash cc zs ok y z (table-has y (m .0)) (table-has z (n .0)) ne _ _
@@ -373,7 +384,13 @@ module _ (lim : Limits) where
                 (
                   each-region (offGic cc) z Cpu h
                       (λ i m. not-fails _ (ap (physOverlap (recordAt t z Cpu i)) (gic-read gic) ∙ k .offGic z i m)),
-                  (each-region (wellFormed (lim .iommuPage)) z Iommu h (λ i m. k .formed z i m), tt),
+                  (
+                    each-region (wellFormed (lim .iommuPage)) z Iommu h (λ i m. k .formed z i m),
+                    (
+                      each-region (modest Cpu) z Cpu h (λ i m. not-fails _ (k .modest z Cpu i m)),
+                      (each-region (modest Iommu) z Iommu h (λ i m. not-fails _ (k .modest z Iommu i m)), tt),
+                    ),
+                  ),
                 ),
               ),
             ),

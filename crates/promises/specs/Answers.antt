@@ -32,7 +32,7 @@ use Rattle.rules.specs.declared.Side.{Side}
 use Rattle.rules.specs.declared.Side.the-variants.{Cpu, Iommu}
 use Rattle.rules.specs.declared.Translated.{Translated}
 use Rattle.promises.specs.Configuration.{Means}
-use Rattle.promises.specs.Tables.{In}
+use Rattle.promises.specs.Tables.{In, MayWrite, MayExecute}
 use Rattle.promises.specs.Translation.{CoversGuest}
 
 -- ---- 1 and 2, before all else: the configuration is unsound, the table is
@@ -49,12 +49,17 @@ pub record Stands (l : Limits) (c : StoredConfig) (t : StoredTable) : Type 0 whe
 abbrev pub HasZone : ℕ → List Zone → Type 0
 HasZone id t = (z : ℕ) × (z < length t) × (getD t z noZone .id ≡ id)
 
--- size above 0, and all three numbers multiples of a page; both ends within their reach
+-- size above 0; v, p and size multiples of a page; rights of read 1, write 2 and execute 4; both ends within their reach
 abbrev pub IsWellFormed : ℕ → Region → Type 0
-IsWellFormed page r = (0 < r .size) × (r .v .0 % page ≡ 0) × (r .p .0 % page ≡ 0) × (r .size % page ≡ 0)
+IsWellFormed page r = (0 < r .size) × (r .v .0 % page ≡ 0) × (r .p .0 % page ≡ 0) × (r .size % page ≡ 0) × (0 < r .rights .0) × (r .rights .0 ≤ 7)
 
 abbrev pub IsInReach : Limits → Region → Type 0
 IsInReach l r = (r .v .0 + r .size ≤ l .guestReach) × (r .p .0 + r .size ≤ l .physReach)
+
+-- a region with too many rights for its side: the processor may write and execute it, or devices may execute it
+abbrev pub HasTooMany : Side → Region → Type 0
+HasTooMany Cpu r = MayWrite r × MayExecute r
+HasTooMany Iommu r = MayExecute r
 
 -- some one address is covered by both: a physical one; a guest one
 abbrev pub MeetsPhys : Region → Region → Type 0
@@ -90,6 +95,7 @@ kindLines l c t id (Insert s r) =
     ∷ 9 given (IsWellFormed (pageOf l s) r → ⊥)
     ∷ 10 given (IsInReach l r → ⊥)
     ∷ 11 given (In r (c .regions) → ⊥)
+    ∷ 19 given HasTooMany s r
     ∷ 12 given ((s ≡ Cpu) × MeetsPhys r (gicOf c))
     ∷ 13 given In r (setAt t (find id t) s)
     ∷ 14 given ForbiddenFor c (find id t) s r t

@@ -14,7 +14,7 @@ use Rattle.rules.specs.Configuration.{configOf, Configuration, StoredConfig}
 use Rattle.rules.specs.Limits.{highestId, Limits}
 use Rattle.rules.specs.Regions.{physOverlap}
 use Rattle.rules.specs.Requests.{find, refusal, next}
-use Rattle.rules.specs.Tables.{Zone}
+use Rattle.rules.specs.Tables.{excessive, Zone}
 use Rattle.rules.specs.declared.Kind.{Kind}
 use Rattle.rules.specs.declared.Kind.the-variants.{AddZone, RemoveZone, Insert, Remove, NoRequest}
 use Rattle.rules.specs.declared.Region.{Region}
@@ -39,12 +39,12 @@ abbrev pub SoundIsInvariant : Limits → Type 0
 SoundIsInvariant l = (s : StoredConfig) (t : List Zone) → SoundUnder l s t → Invariants l (configOf s) (stateOf t)
 
 -- ---- requests and transitions
--- what document 01 asks beyond upstream's guards: ids that a table can hold, room, and that only an empty zone is
--- removed
+-- what the documents ask beyond upstream's guards: ids that a table can hold, room, rights, and that only an empty zone
+-- is removed
 abbrev pub Corrections : Limits → Kind → ℕ → List Zone → Type 0
 Corrections l AddZone id t = (id ≤ highestId) × (length t < l .zones)
 Corrections l RemoveZone id t = (setAt t (find id t) Cpu ≡ []) × (setAt t (find id t) Iommu ≡ [])
-Corrections l (Insert s r) id t = length (setAt t (find id t) s) < l .inSet
+Corrections l (Insert s r) id t = (excessive s r ≡ false) × (length (setAt t (find id t) s) < l .inSet)
 Corrections l (Remove s r) id t = Unit {0}
 Corrections l NoRequest id t = Unit {0}
 

@@ -60,13 +60,13 @@ PlanIsAccepted l =
 pub record MarksTell (l : Limits) : Type 0 where
   -- a plan that reads whole has the marks that the section says
   pub whole : (b : List ℕ) (p : Plan) → readPlan l b ≡ got p []
-      → (t : List ℕ) × (marksSection .read b ≡ got (p .marks) t)
+      → (t : List ℕ) × (marksSection l .read b ≡ got (p .marks) t)
   -- and marks that are refused are the plan's first fault
-  pub refused : (b : List ℕ) (k : ℕ) (t : List ℕ) → marksSection .read b ≡ bad k t → readPlan l b ≡ bad k t
+  pub refused : (b : List ℕ) (k : ℕ) (t : List ℕ) → marksSection l .read b ≡ bad k t → readPlan l b ≡ bad k t
 
 -- no shorter than the least plan and no longer than the longest, as the limits give them
 abbrev pub OfPlanLength : Limits → List ℕ → Type 0
-OfPlanLength l b = (leastSize ≤ length b) × (length b ≤ longestSize l)
+OfPlanLength l b = (leastSize l ≤ length b) × (length b ≤ longestSize l)
 
 -- some plan within the limits has that many bytes
 abbrev pub IsMet : Limits → ℕ → Type 0
@@ -79,7 +79,7 @@ pub record PlanLengths (l : Limits) : Type 0 where
   pub written : (p : Plan) → PlanFits l p → OfPlanLength l (encode l p)
   pub whole : (b : List ℕ) (p : Plan) → Bytes b → readPlan l b ≡ got p [] → OfPlanLength l b
   -- and both lengths are met, where a region is allowed and a plan's fields can say the limits
-  pub least-met : 1 ≤ l .regions → Sayable l → IsMet l leastSize
+  pub least-met : 1 ≤ l .regions → Sayable l → IsMet l (leastSize l)
   pub longest-met : 1 ≤ l .regions → Sayable l → IsMet l (longestSize l)
 
 -- what lies past the longest plan and one byte more changes no answer and

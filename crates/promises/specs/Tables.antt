@@ -1,5 +1,5 @@
 -- Sound tables: what the check of a table says yes to, isolation in bytes, and what upstream's invariants say.
-use Prim.Native.Nat.{ℕ, _≤_, _<_}
+use Prim.Native.Nat.{ℕ, _≤_, _<_, _/_, _%_}
 use mathlib.Core.Bool.{true, false}
 use mathlib.Core.List.{List, []}
 use mathlib.Core.Logic.{_↔_}
@@ -9,8 +9,8 @@ use Rattle.rules.specs.Limits.{highestId, Limits, pageOf}
 use Rattle.rules.specs.Addresses.{Covers}
 use Rattle.rules.specs.Configuration.{gicOf, configOf, check, Configuration, StoredConfig}
 use Rattle.rules.specs.Regions.{wellFormed, inReach, physOverlap, guestOverlap, noRegion}
-use Rattle.rules.specs.Tables.{noZone, noStored, sideOf, regionsOf, sound, checkTable, Zone, StoredSet, StoredZone}
-use Rattle.rules.specs.Tables.{StoredTable}
+use Rattle.rules.specs.Tables.{noZone, noStored, sideOf, regionsOf, excessive, sound, checkTable, Zone, StoredSet}
+use Rattle.rules.specs.Tables.{StoredZone, StoredTable}
 use Rattle.rules.specs.declared.Checked.the-variants.{Sound}
 use Rattle.rules.specs.declared.Region.{Region}
 use Rattle.rules.specs.declared.Side.{Side}
@@ -57,6 +57,8 @@ pub record Conditions (l : Limits) (c : StoredConfig) (t : StoredTable) : Type 0
   -- no CPU region overlaps the GIC physically; every IOMMU region is well formed by the page of devices
   pub offGic : (z i : ℕ) → Held t z Cpu i → physOverlap (recordAt t z Cpu i) (at c (c .gic)) ≡ false
   pub formed : (z i : ℕ) → Held t z Iommu i → wellFormed (l .iommuPage) (recordAt t z Iommu i) ≡ true
+  -- no region has too many rights for its side
+  pub modest : (z : ℕ) (s : Side) (i : ℕ) → Held t z s i → excessive s (recordAt t z s i) ≡ false
   -- regions other than the GIC in two different zones never overlap physically
   pub zonesApart : (y z : ℕ) (s u : Side) (i j : ℕ) → (y ≡ z → ⊥) → Held t y s i → Held t z u j
       → (recordAt t y s i ≡ at c (c .gic) → ⊥) → (recordAt t z u j ≡ at c (c .gic) → ⊥)
@@ -100,6 +102,14 @@ abbrev pub NoCpuOnGic : Limits → Type 0
 NoCpuOnGic l =
     (s : StoredConfig) (t : List Zone) → SoundUnder l s t → (z x : ℕ) → z < length t → CpuReaches t z x
     → CoversPhys (gicOf (configOf s)) x → ⊥
+
+-- ---- rights
+-- the region may be written, the bit 2; it may be executed, the bit 4
+abbrev pub MayWrite : Region → Type 0
+MayWrite r = r .rights .0 / 2 % 2 ≡ 1
+
+abbrev pub MayExecute : Region → Type 0
+MayExecute r = r .rights .0 / 4 % 2 ≡ 1
 
 -- ---- upstream's invariants
 -- inv_zone_ids: an id names one zone

@@ -28,6 +28,7 @@ use Rattle.plan.proofs.Judging.{away-own, away-plan}
 use Rattle.plan.proofs.Outcomes.{apply-away}
 use Rattle.rules.specs.Receiving.{full, noBytes, isOver, storedIn, isShort, fitting, grown, takePiece, received}
 use Rattle.rules.specs.Receiving.{Taken}
+use Rattle.rules.specs.Sizes.{longestSize}
 use Rattle.receiver.specs.Words.{overNumber, overPlace, overAway, endedIn, TakesIn, EndedWords, EndsIn}
 use Rattle.receiver.specs.declared.Ending.{Ending}
 use Rattle.rules.specs.declared.Receiver.{Receiver}
@@ -36,7 +37,7 @@ use Rattle.receiver.proofs.Reading.{over-read}
 
 -- the longest plan
 abbrev longest : ℕ
-longest = 63896
+longest = longestSize limits
 
 -- ---- the receiver
 module _ (r : Receiver) where

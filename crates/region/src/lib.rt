@@ -1,5 +1,7 @@
 // Checks on regions and their addresses, for any 64-bit numbers: no sum is formed that could wrap.
 use rules::Region;
+use rules::Side;
+use rules::limits::ALL_RIGHTS;
 use rules::limits::GUEST_REACH;
 use rules::limits::PAGE;
 use rules::limits::PHYS_REACH;
@@ -8,6 +10,7 @@ ghost use mathlib.Core.Path.{_≡_};
 ghost use lib.Dec.{leb};
 ghost use Rattle.rules.specs.Limits.{limits};
 ghost use Rattle.rules.specs.Addresses.{overlaps};
+ghost use Rattle.rules.specs.Tables.{excessive};
 ghost use Rattle.rules.specs.Regions.{wellFormed, inReach, regionEq, physOverlap, guestOverlap};
 
 pub fn well_formed(r: Region) -> bool
@@ -22,7 +25,26 @@ pub fn well_formed(r: Region) -> bool
     if r.p.0 % PAGE != 0 {
         return false;
     }
-    r.size % PAGE == 0
+    if r.size % PAGE != 0 {
+        return false;
+    }
+    if r.rights.0 == 0 {
+        return false;
+    }
+    r.rights.0 <= ALL_RIGHTS
+}
+
+// Whether a region has too many rights for its side: devices never execute, and the processor never executes what it may write.
+pub fn is_excessive(side: Side, r: Region) -> bool
+    ensures { λ b. ⌜ b ≡ excessive side r ⌝ }
+{
+    if r.rights.0 / 4 % 2 != 1 {
+        return false;
+    }
+    match side {
+        Side::Cpu => r.rights.0 / 2 % 2 == 1,
+        Side::Iommu => true,
+    }
 }
 
 pub fn in_reach(r: Region) -> bool
@@ -43,7 +65,10 @@ pub fn region_eq(a: Region, b: Region) -> bool
     if a.p.0 != b.p.0 {
         return false;
     }
-    a.size == b.size
+    if a.size != b.size {
+        return false;
+    }
+    a.rights.0 == b.rights.0
 }
 
 pub fn phys_overlap(a: Region, b: Region) -> bool

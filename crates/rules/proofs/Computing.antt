@@ -23,7 +23,7 @@ use Rattle.rules.specs.Requests.{holdsAny, onGic, forbidden, addRules, r
 use Rattle.rules.specs.Requests.{insertRules, removeRules, kindRules, noRequest, requestRules, refusal, after}
 use Rattle.rules.specs.Requests.{next, answers, standingRules}
 use Rattle.rules.specs.Run.{makeKind, makeRequest, runFrom, ended}
-use Rattle.rules.specs.Tables.{sideOf, configured, clash, soundSet, soundZone, zonesApart, sound, setOf, zoneOf}
+use Rattle.rules.specs.Tables.{sideOf, configured, excessive, clash, soundSet, soundZone, zonesApart, sound, setOf, zoneOf}
 use Rattle.rules.specs.Tables.{tableOf, restZero, zeroSet, tidyZone, zeroZone, tidy, checkTable}
 use Rattle.rules.specs.Translation.{coversGuest, coveringIn, physIn, remainingIn, translationRules, translatedAs}
 
@@ -42,14 +42,14 @@ unfolding regionParts check checkRules positionRules isSound configOf gicOf
 checkParts = tt
 
 unfoldable pub tableParts : Unit {0}
-unfolding checkParts sound soundZone soundSet zonesApart configured clash sideOf withSide checkTable tidy tidyZone
+unfolding checkParts sound soundZone soundSet excessive zonesApart configured clash sideOf withSide checkTable tidy tidyZone
     zeroZone zeroSet restZero tableOf zoneOf setOf standingRules
 tableParts = tt
 
 -- requests and what they leave; translation
 unfoldable pub requestParts : Unit {0}
 unfolding regionParts answers next refusal after requestRules kindRules noRequest addRules removeZoneRules insertRules
-    regionRules setRules removeRules holdsAny onGic forbidden configured clash gicOf added dropped pushed cut putSet
+    regionRules setRules removeRules holdsAny onGic excessive forbidden configured clash gicOf added dropped pushed cut putSet
     setAt withSide sideOf makeRequest makeKind
 requestParts = tt
 

@@ -29,7 +29,7 @@ use Rattle.rules.specs.Requests.{find, present, heldIn, onGic, forbidden
 use Rattle.rules.specs.Requests.{setRules, insertRules, removeRules, kindRules, noRequest, requestRules, refusal}
 use Rattle.rules.specs.Requests.{after, next}
 use Rattle.rules.specs.Tables.{emptyZone, noZone, sideOf, hasId, regionsOf, configured, guestApart, offGic, clash}
-use Rattle.rules.specs.Tables.{soundSet, soundZone, idsDiffer, zonesApart, sound, Zone}
+use Rattle.rules.specs.Tables.{excessive, modest, soundSet, soundZone, idsDiffer, zonesApart, sound, Zone}
 use Rattle.rules.specs.declared.Kind.{Kind}
 use Rattle.rules.specs.declared.Kind.the-variants.{AddZone, RemoveZone, Insert, Remove, NoRequest}
 use Rattle.rules.specs.declared.Region.{Region}
@@ -158,11 +158,11 @@ module _ (lim : Limits) where
       )
 
   zone-pushed : (c : Configuration) (s : Side) (z : Zone) (r : Region) → soundZone lim c z ≡ true
-      → wellFormed (pageOf lim s) r ≡ true → configured c r ≡ true → onGic c s r ≡ false
+      → wellFormed (pageOf lim s) r ≡ true → configured c r ≡ true → excessive s r ≡ false → onGic c s r ≡ false
       → any (guestOverlap r) (sideOf s z) ≡ false → leb (lim .inSet) (length (sideOf s z)) ≡ false
       → soundZone lim c (withSide s (sideOf s z ++ r ∷ []) z) ≡ true
   unfolding soundZone withSide sideOf onGic pageOf
-  zone-pushed c Cpu z r e formed conf gic guest room =
+  zone-pushed c Cpu z r e formed conf few gic guest room =
       let h = parts _ e in
       whole _ (
         h .0,
@@ -172,12 +172,19 @@ module _ (lim : Limits) where
             h .1 .1 .0,
             (
               all-append (offGic c) (z .cpu) (r ∷ []) (h .1 .1 .1 .0) (all-one (offGic c) r (not-fails _ gic)),
-              (h .1 .1 .1 .1 .0, tt),
+              (
+                h .1 .1 .1 .1 .0,
+                (
+                  all-append (modest Cpu) (z .cpu) (r ∷ []) (h .1 .1 .1 .1 .1 .0)
+                      (all-one (modest Cpu) r (not-fails _ few)),
+                  (h .1 .1 .1 .1 .1 .1 .0, tt),
+                ),
+              ),
             ),
           ),
         ),
       )
-  zone-pushed c Iommu z r e formed conf gic guest room =
+  zone-pushed c Iommu z r e formed conf few gic guest room =
       let h = parts _ e in
       whole _ (
         h .0,
@@ -190,7 +197,14 @@ module _ (lim : Limits) where
               (
                 all-append (wellFormed (lim .iommuPage)) (z .iommu) (r ∷ []) (h .1 .1 .1 .1 .0)
                     (all-one (wellFormed (lim .iommuPage)) r formed),
-                tt,
+                (
+                  h .1 .1 .1 .1 .1 .0,
+                  (
+                    all-append (modest Iommu) (z .iommu) (r ∷ []) (h .1 .1 .1 .1 .1 .1 .0)
+                        (all-one (modest Iommu) r (not-fails _ few)),
+                    tt,
+                  ),
+                ),
               ),
             ),
           ),
@@ -219,7 +233,16 @@ module _ (lim : Limits) where
         h .0,
         (
           set-cut c (z .cpu) m lt (h .1 .0),
-          (h .1 .1 .0, (all-removed (offGic c) (z .cpu) m (h .1 .1 .1 .0), (h .1 .1 .1 .1 .0, tt))),
+          (
+            h .1 .1 .0,
+            (
+              all-removed (offGic c) (z .cpu) m (h .1 .1 .1 .0),
+              (
+                h .1 .1 .1 .1 .0,
+                (all-removed (modest Cpu) (z .cpu) m (h .1 .1 .1 .1 .1 .0), (h .1 .1 .1 .1 .1 .1 .0, tt)),
+              ),
+            ),
+          ),
         ),
       )
   zone-cut c Iommu z m lt e =
@@ -230,7 +253,13 @@ module _ (lim : Limits) where
           h .1 .0,
           (
             set-cut c (z .iommu) m lt (h .1 .1 .0),
-            (h .1 .1 .1 .0, (all-removed (wellFormed (lim .iommuPage)) (z .iommu) m (h .1 .1 .1 .1 .0), tt)),
+            (
+              h .1 .1 .1 .0,
+              (
+                all-removed (wellFormed (lim .iommuPage)) (z .iommu) m (h .1 .1 .1 .1 .0),
+                (h .1 .1 .1 .1 .1 .0, (all-removed (modest Iommu) (z .iommu) m (h .1 .1 .1 .1 .1 .1 .0), tt)),
+              ),
+            ),
           ),
         ),
       )
@@ -264,15 +293,15 @@ module _ (lim : Limits) where
     apart-at = pairs-at (zonesApart c) t noZone (ok .disjoint)
 
     -- an accepted insert
-    pub insert-keeps : wellFormed (pageOf lim s) r ≡ true → configured c r ≡ true → onGic c s r ≡ false
-        → forbidden c k s r t ≡ false → any (guestOverlap r) (setAt t k s) ≡ false
+    pub insert-keeps : wellFormed (pageOf lim s) r ≡ true → configured c r ≡ true → excessive s r ≡ false
+        → onGic c s r ≡ false → forbidden c k s r t ≡ false → any (guestOverlap r) (setAt t k s) ≡ false
         → leb (lim .inSet) (length (setAt t k s)) ≡ false → SoundTable c (pushed k s r t)
     unfolding pushed putSet setAt zonesApart here
-    insert-keeps formed conf gic forb guest room =
+    insert-keeps formed conf few gic forb guest room =
         let z : Zone = here in
         let new : Zone = withSide s (sideOf s z ++ r ∷ []) z in
         replace-keeps c t k kin ok new (id-kept s (sideOf s z ++ r ∷ []) z)
-        (zone-pushed c s z r here-sound formed conf gic guest room)
+        (zone-pushed c s z r here-sound formed conf few gic guest room)
         (λ j h q. all-from (λ (a : Region). not (any (clash c a) (regionsOf z))) (λ (a : Region). not (clash c r a))
         (λ (a : Region). not (any (clash c a) (regionsOf new)))
         (λ a x y. none-all (clash c a) (regionsOf new)
@@ -323,7 +352,7 @@ module _ (lim : Limits) where
             (all-one (soundZone lim c) (emptyZone id)
             (whole _ (
               le-leb _ _ h,
-              (whole _ (none, (refl, (refl, tt))), (whole _ (none, (refl, (refl, tt))), (refl, (refl, tt)))),
+              (whole _ (none, (refl, (refl, tt))), (whole _ (none, (refl, (refl, tt))), (refl, (refl, (refl, (refl, tt)))))),
             )));
         ids = pairs-append idsDiffer t (emptyZone id) (s .ids) (sym (none-all (hasId id) t) ∙ ap not fresh);
         disjoint =
@@ -345,7 +374,7 @@ module _ (lim : Limits) where
   accepted-keeps c t (Insert side r) id s e =
       let h = none-applies lim c (Insert side r) id t e in
       insert-keeps c t (find id t) side r (found id t (not-false _ (h 6))) s (not-false _ (h 9)) (not-false _ (h 11))
-      (h 12) (h 14) (h 15) (h 16)
+      (h 19) (h 12) (h 14) (h 15) (h 16)
   accepted-keeps c t (Remove side r) id s e =
       let h = none-applies lim c (Remove side r) id t e in
       remove-keeps c t (find id t) side r (found id t (not-false _ (h 6))) s (not-false _ (h 17))

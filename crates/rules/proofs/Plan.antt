@@ -7,15 +7,17 @@ use mathlib.Core.Logic.{_⊎_, inl, inr}
 use mathlib.Core.Path.{_≡_, refl}
 use lib.ListN.{length}
 use Rattle.lists.specs.Bytes.{Bytes}
-use Rattle.formats.specs.Formats.{got, bad, both, as-type, many, listed, Format, All, ListFits}
+use Rattle.formats.specs.Formats.{got, bad, both, as-type, many, listed, exactly, Format, All, ListFits}
 use Rattle.formats.proofs.Formats.{Told, Lawful, lawful-number, lawful-both, lawful-field, lawful-as, lawful-many}
-use Rattle.formats.proofs.Formats.{lawful-fits, lawful-headed, file-back, file-tight, file-refuses, file-ends}
+use Rattle.formats.proofs.Formats.{lawful-fits, lawful-headed, lawful-exactly, file-back, file-tight, file-refuses}
+use Rattle.formats.proofs.Formats.{file-ends}
 use Rattle.formats.proofs.Sizes.{all-replicate}
-use Rattle.formats.proofs.Spelled.{spelled-number, spelled-both, spelled-many, spelled-headed, Spelled}
-use Rattle.rules.specs.Limits.{Limits}
+use Rattle.formats.proofs.Spelled.{spelled-number, spelled-both, spelled-many, spelled-headed, spelled-exactly, Spelled}
+use Rattle.rules.specs.Limits.{markCount, Limits}
 use Rattle.rules.specs.Fields.{regionNumbers, numbersOf, regionTo, longSize}
 use Rattle.rules.specs.Plan.{short, long, regionFormat, regionField, askedTo, askedFrom}
-use Rattle.rules.specs.Plan.{askedField, marksTo, marksFrom, marksSection, regionsSection, setFormat, zoneTo}
+use Rattle.rules.specs.Plan.{askedField, marksTo, marksFrom, marksFormat, marksSection, regionsSection}
+use Rattle.rules.specs.Plan.{setFormat, zoneTo}
 use Rattle.rules.specs.Plan.{zoneFrom, zoneFormat, zonesSection, requestsSection, planTo, planFrom, planFormat}
 use Rattle.rules.specs.Plan.{readPlan, encode, Short, Long, RegionFits, AskedFits, MarksFit, SetFits, ZoneFits}
 use Rattle.rules.specs.Plan.{PlanFits, Asked, Plan}
@@ -58,15 +60,23 @@ module _ {A : Type 0} (lo hi : ℕ) (F : Format A) (P : A → Type 0) (f : Lawfu
       lawful-headed 4 lo hi (many F) length (λ n xs. (length xs ≡ n) × All P xs) (lawful-many F P f)
       (λ c xs a z h. h .0)
 
-pub lawful-marks : Lawful marksSection MarksFit
-lawful-marks =
-    lawful-headed 4 2 2 (λ c. as-type (both short short) marksTo marksFrom) (λ m. 2)
-    (λ c m. Short (m .gic) × Short (m .edition))
-    (λ c. lawful-as (both short short) (λ t. Short (t .0) × Short (t .1))
-    (lawful-both short short Short Short (lawful-number 4) (lawful-number 4)) marksTo marksFrom (λ m. refl) (λ t h. refl))
-    (λ c m a z h. omega arith)
-
 module _ (l : Limits) where
+  -- the GIC's position, the edition, and the marks of the format
+  abbrev Three : ℕ × (ℕ × Unit {0}) → Type 0
+  Three t = Short (t .0) × (Short (t .1 .0) × All Short (l .lastMarks))
+
+  pub lawful-marks : Lawful (marksSection l) (MarksFit l)
+  lawful-marks =
+      lawful-headed 4 (markCount l) (markCount l) (λ c. marksFormat l) (λ m. markCount l)
+      (λ c m. Three (marksFrom m))
+      (λ c. lawful-as (both short (both short (exactly 4 (l .lastMarks)))) Three
+      (lawful-both short (both short (exactly 4 (l .lastMarks))) Short (λ t. Short (t .0) × All Short (l .lastMarks))
+      (lawful-number 4)
+      (lawful-both short (exactly 4 (l .lastMarks)) Short (λ u. All Short (l .lastMarks)) (lawful-number 4)
+      (lawful-exactly 4 (l .lastMarks))))
+      marksTo marksFrom (λ m. refl) (λ t h. refl))
+      (λ c m a z h. omega arith)
+
   lawful-set : Lawful (setFormat l) (SetFits l)
   lawful-set = lawful-list 0 (l .inSet) regionField RegionFits lawful-region-field
 
@@ -98,9 +108,9 @@ module _ (l : Limits) where
 
   pub lawful-plan : Lawful (planFormat l) (PlanFits l)
   lawful-plan =
-      lawful-as (both marksSection (both (regionsSection l) (both (zonesSection l) (requestsSection l))))
-      (λ t. MarksFit (t .0) × (Regions (t .1 .0) × (Zones (t .1 .1 .0) × Requests (t .1 .1 .1))))
-      (lawful-both marksSection (both (regionsSection l) (both (zonesSection l) (requestsSection l))) MarksFit
+      lawful-as (both (marksSection l) (both (regionsSection l) (both (zonesSection l) (requestsSection l))))
+      (λ t. MarksFit l (t .0) × (Regions (t .1 .0) × (Zones (t .1 .1 .0) × Requests (t .1 .1 .1))))
+      (lawful-both (marksSection l) (both (regionsSection l) (both (zonesSection l) (requestsSection l))) (MarksFit l)
       (λ t. Regions (t .0) × (Zones (t .1 .0) × Requests (t .1 .1))) lawful-marks
       (lawful-both (regionsSection l) (both (zonesSection l) (requestsSection l)) Regions
       (λ t. Zones (t .0) × Requests (t .1)) lawful-regions
@@ -138,10 +148,12 @@ spelled-region r = spelled-many long (spelled-number longSize) regionNumbers (nu
 spelled-list : {A : Type 0} (lo hi : ℕ) (F : Format A) → Spelled F → Spelled (listed 4 lo hi F)
 spelled-list lo hi F f = spelled-headed 4 lo hi (many F) length (spelled-many F f)
 
-spelled-marks : Spelled marksSection
-spelled-marks =
-    spelled-headed 4 2 2 (λ c. as-type (both short short) marksTo marksFrom) (λ m. 2)
-    (λ c m. spelled-both short short (spelled-number 4) (spelled-number 4) (marksFrom m))
+spelled-marks : (l : Limits) → Spelled (marksSection l)
+spelled-marks l =
+    spelled-headed 4 (markCount l) (markCount l) (λ c. marksFormat l) (λ m. markCount l)
+    (λ c m. spelled-both short (both short (exactly 4 (l .lastMarks))) (spelled-number 4)
+    (spelled-both short (exactly 4 (l .lastMarks)) (spelled-number 4) (spelled-exactly 4 (l .lastMarks)))
+    (marksFrom m))
 
 spelled-asked : Spelled askedField
 spelled-asked a =
@@ -157,7 +169,8 @@ spelled-zone l z =
 pub encoded-bytes : (l : Limits) (p : Plan) → Bytes (encode l p)
 unfolding encode
 encoded-bytes l p =
-    spelled-both marksSection (both (regionsSection l) (both (zonesSection l) (requestsSection l))) spelled-marks
+    spelled-both (marksSection l) (both (regionsSection l) (both (zonesSection l) (requestsSection l)))
+    (spelled-marks l)
     (spelled-both (regionsSection l) (both (zonesSection l) (requestsSection l))
     (spelled-list 1 (l .regions) regionField spelled-region)
     (spelled-both (zonesSection l) (requestsSection l) (spelled-list 0 (l .zones) (zoneFormat l) (spelled-zone l))

@@ -16,7 +16,7 @@ use Rattle.rules.specs.Limits.{highestId, limits, Limits, Sayable}
 use Rattle.rules.specs.Fields.{numbersOf}
 use Rattle.rules.specs.Plan.{readPlan, RegionFits, MarksFit, SetFits, ZoneFits, PlanFits, Asked}
 use Rattle.rules.specs.Planner.{planFor, planBytes, MayAsk}
-use Rattle.rules.specs.Regions.{inReach, noRegion}
+use Rattle.rules.specs.Regions.{allRights, wellFormed, inReach, noRegion}
 use Rattle.rules.specs.Requests.{standing}
 use Rattle.rules.specs.Tables.{tableOf, configured, soundSet, soundZone, Zone}
 use Rattle.rules.specs.declared.Region.{Region}
@@ -39,19 +39,23 @@ module _ {A : Type 0} (P : A → Type 0) where
 
 module _ (lim : Limits) (say : Sayable lim) where
   -- ---- what is sound fits
-  reach-fits : (r : Region) → inReach lim r ≡ true → RegionFits r
-  unfolding inReach numbersOf
-  reach-fits r e =
+  -- v, p and size because they are in reach, rights because they are well formed
+  sound-fits : (r : Region) → wellFormed (lim .page) r ≡ true → inReach lim r ≡ true → RegionFits r
+  unfolding wellFormed inReach numbersOf
+  sound-fits r f e =
       let h = parts _ e in
+      let x : r .rights .0 ≤ allRights = leb-true _ _ (parts _ f .1 .1 .1 .1 .1 .0) in
       let a : r .v .0 + r .size ≤ lim .guestReach = leb-true _ _ (h .0) in
       let b : r .p .0 + r .size ≤ lim .physReach = leb-true _ _ (h .1 .0) in
       let g : lim .guestReach < 256 ^ 8 = say .guestReach in
       let f : lim .physReach < 256 ^ 8 = say .physReach in
-      (omega arith, (omega arith, (omega arith, tt)))
+      (omega arith, (omega arith, (omega arith, (omega arith, tt))))
 
   module _ (c : Configuration) (ok : SoundConfiguration lim c) where
     configured-fits : (r : Region) → configured c r ≡ true → RegionFits r
-    configured-fits r e = let (i, h, q) = configured-at lim c ok r e in reach-fits r (ap (inReach lim) q ∙ ok .near i h)
+    configured-fits r e =
+        let (i, h, q) = configured-at lim c ok r e in
+        sound-fits r (ap (wellFormed (lim .page)) q ∙ ok .formed i h) (ap (inReach lim) q ∙ ok .near i h)
 
     regions-fit : ListFits 4 1 (lim .regions) RegionFits (c .regions)
     regions-fit =
@@ -63,7 +67,7 @@ module _ (lim : Limits) (say : Sayable lim) where
           fits = (
             refl,
             all-places RegionFits (c .regions) noRegion
-                (λ i h. reach-fits (getD (c .regions) i noRegion) (ok .near i h)),
+                (λ i h. sound-fits (getD (c .regions) i noRegion) (ok .formed i h) (ok .near i h)),
           );
         }
 
@@ -103,13 +107,18 @@ module _ (lim : Limits) (say : Sayable lim) where
     config-ok : SoundConfiguration lim (configOf (s .config))
     config-ok = passed lim (s .config) full (stands-well lim (s .config) (s .table) e .0)
 
-    marks-fit : MarksFit (planFor s q .marks)
+    marks-fit : MarksFit lim (planFor s q .marks)
     marks-fit =
         let g : configOf (s .config) .gic < length (configOf (s .config) .regions) = config-ok .gic in
         let l : length (configOf (s .config) .regions) ≤ lim .regions = config-ok .most in
         let m : lim .regions < 256 ^ 4 = say .regions in
         let n : s .edition < lastEdition = may .edition in
-        record { said = omega arith; least = omega arith; most = omega arith; fits = (omega arith, omega arith) }
+        record {
+          said = say .markCount;
+          least = omega arith;
+          most = omega arith;
+          fits = (omega arith, (omega arith, say .lastMarks));
+        }
 
     plan-fits : PlanFits lim (planFor s q)
     plan-fits = (
@@ -138,4 +147,6 @@ limits-sayable = record {
   zones = omega arith;
   inSet = omega arith;
   requests = omega arith;
+  markCount = omega arith;
+  lastMarks = (omega arith, tt);
 }

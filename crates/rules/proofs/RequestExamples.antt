@@ -1,6 +1,6 @@
 -- The examples of requests and of translation, by computation on the definitions.
 use mathlib.Core.Path.{refl}
-use Rattle.rules.specs.RequestExamples.{earned, ModelIsSound, FirstIsAnswered, OverlapsShown, LimitsShown}
+use Rattle.rules.specs.RequestExamples.{earned, ModelIsSound, FirstIsAnswered, OverlapsShown, LimitsShown, RightsShown}
 use Rattle.rules.specs.RequestExamples.{KindsShown, TranslationShown}
 use Rattle.rules.specs.Translation.{translation}
 use Rattle.rules.proofs.Computing.{tableParts, requestParts, translationParts}
@@ -20,6 +20,10 @@ overlaps-shown = (refl, refl, refl)
 pub limits-shown : LimitsShown
 unfolding requestParts
 limits-shown = (refl, refl, refl, refl, refl, refl, refl, refl)
+
+pub rights-shown : RightsShown
+unfolding tableParts requestParts
+rights-shown = (refl, refl, refl, refl, refl, refl, refl, refl)
 
 pub kinds-shown : KindsShown
 unfolding requestParts

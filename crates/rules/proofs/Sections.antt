@@ -33,7 +33,7 @@ module _ (l : Limits) where
       pub afterMarks : List ℕ
       pub afterRegions : List ℕ
       pub afterZones : List ℕ
-      pub marks : marksSection .read b ≡ got (p .marks) afterMarks
+      pub marks : marksSection l .read b ≡ got (p .marks) afterMarks
       pub regions : regionsSection l .read afterMarks ≡ got (p .regions) afterRegions
       pub zones : zonesSection l .read afterRegions ≡ got (p .zones) afterZones
       pub requests : requestsSection l .read afterZones ≡ got (p .asked) []
@@ -43,10 +43,10 @@ module _ (l : Limits) where
     sections =
         let f0 = file-got (planFormat l) b p t e in
         let f1 =
-        as-got (both marksSection (both (regionsSection l) (both (zonesSection l) (requestsSection l)))) planTo planFrom
+        as-got (both (marksSection l) (both (regionsSection l) (both (zonesSection l) (requestsSection l)))) planTo planFrom
         (λ x. refl) b p [] f0 in
         let (v1, em, f2) =
-        both-got marksSection (both (regionsSection l) (both (zonesSection l) (requestsSection l))) b (p .marks)
+        both-got (marksSection l) (both (regionsSection l) (both (zonesSection l) (requestsSection l))) b (p .marks)
         (p .regions, (p .zones, p .asked)) [] f1 in
         let (v2, er, f3) =
         both-got (regionsSection l) (both (zonesSection l) (requestsSection l)) v1 (p .regions)

@@ -6,17 +6,18 @@ use mathlib.Core.List.{List, _++_}
 use mathlib.Core.Path.{_≡_, refl, ap, _∙_}
 use lib.ListN.{length, replicate, length-replicate}
 use Rattle.lists.specs.Bytes.{Bytes}
-use Rattle.formats.specs.Formats.{got, bad, both, as-type, many, listed, Format, ListFits}
+use Rattle.formats.specs.Formats.{got, bad, both, as-type, many, listed, exactly, Format, ListFits}
 use Rattle.formats.specs.Sizes.{total}
-use Rattle.formats.proofs.Most.{most-number, most-both, most-field, most-as, most-many, most-headed, most-listed}
-use Rattle.formats.proofs.Most.{file-past, Most}
-use Rattle.formats.proofs.Sizes.{sized-number, sized-both, sized-headed, sized-many, sized-listed, total-same}
+use Rattle.formats.proofs.Most.{most-number, most-both, most-field, most-as, most-many, most-headed, most-listed, most-exactly}
+use Rattle.formats.proofs.Most.{most-wider, file-past, Most}
+use Rattle.formats.proofs.Sizes.{sized-number, sized-both, sized-headed, sized-many, sized-listed, sized-exactly, total-same}
 use Rattle.formats.proofs.Sizes.{total-most}
 use Rattle.formats.proofs.Sizes.{total-replicate, all-replicate, Sized}
-use Rattle.rules.specs.Limits.{Limits, Sayable}
+use Rattle.rules.specs.Limits.{markCount, Limits, Sayable}
 use Rattle.rules.specs.Fields.{regionNumbers, numbersOf, regionTo, shortSize, longSize, regionSize}
 use Rattle.rules.specs.Plan.{short, long, regionFormat, regionField, askedTo, askedFrom}
-use Rattle.rules.specs.Plan.{askedField, marksTo, marksFrom, marksSection, regionsSection, setFormat, zoneTo}
+use Rattle.rules.specs.Plan.{askedField, marksTo, marksFrom, marksFormat, marksSection, regionsSection}
+use Rattle.rules.specs.Plan.{setFormat, zoneTo}
 use Rattle.rules.specs.Plan.{zoneFrom, zoneFormat, zonesSection, requestsSection, planTo, planFrom, planFormat}
 use Rattle.rules.specs.Plan.{readPlan, encode, RegionFits, AskedFits, ZoneFits, PlanFits, Asked, Plan}
 use Rattle.rules.specs.Regions.{noRegion}
@@ -52,12 +53,25 @@ module _ {A : Type 0} (lo hi k : ℕ) (F : Format A) (s : Sized F (λ x. k)) whe
   pub sized-list : Sized (listed 4 lo hi F) (λ xs. shortSize + length xs * k)
   sized-list xs = sized-listed F (λ x. k) s 4 lo hi xs ∙ ap (λ (n : ℕ). shortSize + n) (total-same k xs)
 
-pub sized-marks : Sized marksSection (λ m. marksSize)
-sized-marks =
-    sized-headed 4 2 2 (λ c. as-type (both short short) marksTo marksFrom) (λ m. 2) (λ m. shortSize + shortSize)
-    (λ c m. sized-both short short (λ n. shortSize) (λ n. shortSize) sized-short sized-short (m .gic, m .edition))
-
 module _ (l : Limits) where
+  -- bytes of the marks of the format
+  abbrev lastSize : ℕ
+  lastSize = length (l .lastMarks) * shortSize
+
+  sum : shortSize + (shortSize + (shortSize + lastSize)) ≡ marksSize l
+  sum = omega arith
+
+  pub sized-marks : Sized (marksSection l) (λ m. marksSize l)
+  sized-marks m =
+      sized-headed 4 (markCount l) (markCount l) (λ c. marksFormat l) (λ m. markCount l)
+      (λ m. shortSize + (shortSize + lastSize))
+      (λ c m. sized-both short (both short (exactly 4 (l .lastMarks))) (λ n. shortSize) (λ t. shortSize + lastSize)
+      sized-short
+      (sized-both short (exactly 4 (l .lastMarks)) (λ n. shortSize) (λ u. lastSize) sized-short
+      (sized-exactly 4 (l .lastMarks)))
+      (marksFrom m)) m
+      ∙ sum
+
   abbrev ofRegions : List Region → ℕ
   ofRegions xs = regionsSize (length xs)
 
@@ -77,10 +91,10 @@ module _ (l : Limits) where
   ofAsked q = requestsSize (length q)
 
   -- what is written of a plan, whether it fits or not, has the size that its contents give
-  pub encoded-length : (p : Plan) → length (encode l p) ≡ planSize p
+  pub encoded-length : (p : Plan) → length (encode l p) ≡ planSize l p
   unfolding encode planSize
   encoded-length p =
-      sized-both marksSection (both (regionsSection l) (both (zonesSection l) (requestsSection l))) (λ m. marksSize)
+      sized-both (marksSection l) (both (regionsSection l) (both (zonesSection l) (requestsSection l))) (λ m. marksSize l)
       (λ t. ofRegions (t .0) + (ofZones (t .1 .0) + ofAsked (t .1 .1))) sized-marks
       (sized-both (regionsSection l) (both (zonesSection l) (requestsSection l)) ofRegions
       (λ t. ofZones (t .0) + ofAsked (t .1)) (sized-list 1 (l .regions) regionSize regionField sized-region)
@@ -90,7 +104,7 @@ module _ (l : Limits) where
       (p .marks, (p .regions, (p .zones, p .asked)))
 
   -- ---- between the least and the longest
-  pub least-length : (p : Plan) → PlanFits l p → leastSize ≤ length (encode l p)
+  pub least-length : (p : Plan) → PlanFits l p → leastSize l ≤ length (encode l p)
   unfolding planSize
   least-length p (m, (r, (z, q))) = omega (arith, encoded-length p)
 
@@ -110,7 +124,7 @@ module _ (l : Limits) where
 
 -- whatever reads whole lies between
 pub whole-length : (l : Limits) (b : List ℕ) (p : Plan) (t : List ℕ) → Bytes b → readPlan l b ≡ got p t
-    → (leastSize ≤ length b) × (length b ≤ longestSize l)
+    → (leastSize l ≤ length b) × (length b ≤ longestSize l)
 whole-length l b p t h e =
     let (w, f) = no-slack l b p t h e in
     rw w (least-length l p f, most-length l p f)
@@ -118,7 +132,7 @@ whole-length l b p t h e =
 -- ---- a plan with so many of each
 pub counts-length : (l : Limits) (r z c i q : ℕ)
     → length (encode l (planWith r z c i q))
-    ≡ marksSize + (regionsSize r + ((shortSize + z * setsSize c i) + requestsSize q))
+    ≡ marksSize l + (regionsSize r + ((shortSize + z * setsSize c i) + requestsSize q))
 unfolding planSize
 counts-length l r z c i q =
     let zone : zoneSize (zoneWith c i) ≡ setsSize c i =
@@ -146,7 +160,12 @@ module _ (l : Limits) (say : Sayable l) (r z c i q : ℕ) where
       let sq : l .requests < 256 ^ 4 = say .requests in
       let set : (n : ℕ) → n ≤ l .inSet → ListFits 4 0 (l .inSet) RegionFits (replicate n noRegion) =
       λ n m. full-list RegionFits noRegion none-fits 0 (l .inSet) n (omega arith) m (omega arith) in (
-        record { said = omega arith; least = omega arith; most = omega arith; fits = (omega arith, omega arith) },
+        record {
+          said = say .markCount;
+          least = omega arith;
+          most = omega arith;
+          fits = (omega arith, (omega arith, say .lastMarks));
+        },
         (
           full-list RegionFits noRegion none-fits 1 (l .regions) r one mr (omega arith),
           (
@@ -174,12 +193,16 @@ asked-most =
     (most-both short (both short regionFormat) 4 (4 + regionSize) (most-number 4)
     (most-both short regionFormat 4 regionSize (most-number 4) region-most)))
 
-marks-most : Most marksSection marksSize
-marks-most =
-    most-headed 4 2 2 (λ c. as-type (both short short) marksTo marksFrom) (λ m. 2) 8
-    (λ c h. most-as (both short short) marksTo marksFrom 8 (most-both short short 4 4 (most-number 4) (most-number 4)))
-
 module _ (l : Limits) where
+  marks-most : Most (marksSection l) (marksSize l)
+  marks-most =
+      let n : ℕ = length (l .lastMarks) * 4 in
+      most-wider (marksSection l) (4 + (4 + (4 + n))) (marksSize l) (omega arith)
+      (most-headed 4 (markCount l) (markCount l) (λ c. marksFormat l) (λ m. markCount l) (4 + (4 + n))
+      (λ c h. most-as (both short (both short (exactly 4 (l .lastMarks)))) marksTo marksFrom (4 + (4 + n))
+      (most-both short (both short (exactly 4 (l .lastMarks))) 4 (4 + n) (most-number 4)
+      (most-both short (exactly 4 (l .lastMarks)) 4 n (most-number 4) (most-exactly 4 (l .lastMarks))))))
+
   set-most : Most (setFormat l) (regionsSize (l .inSet))
   set-most = most-listed 4 0 (l .inSet) regionField regionSize region-field-most
 
@@ -193,9 +216,9 @@ module _ (l : Limits) where
   pub plan-most : Most (planFormat l) (longestSize l)
   plan-most =
       let zones : ℕ = shortSize + l .zones * setsSize (l .inSet) (l .inSet) in
-      most-as (both marksSection (both (regionsSection l) (both (zonesSection l) (requestsSection l)))) planTo planFrom
+      most-as (both (marksSection l) (both (regionsSection l) (both (zonesSection l) (requestsSection l)))) planTo planFrom
       (longestSize l)
-      (most-both marksSection (both (regionsSection l) (both (zonesSection l) (requestsSection l))) marksSize
+      (most-both (marksSection l) (both (regionsSection l) (both (zonesSection l) (requestsSection l))) (marksSize l)
       (regionsSize (l .regions) + (zones + requestsSize (l .requests))) marks-most
       (most-both (regionsSection l) (both (zonesSection l) (requestsSection l)) (regionsSize (l .regions))
       (zones + requestsSize (l .requests)) (most-listed 4 1 (l .regions) regionField regionSize region-field-most)

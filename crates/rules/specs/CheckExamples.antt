@@ -9,7 +9,7 @@ use Rattle.lists.specs.Places.{tab}
 use Rattle.lists.specs.Room.{room}
 use Rattle.rules.specs.Applying.{storeZone, store, plain, storeConfig}
 use Rattle.rules.specs.Configuration.{check, checkNumber, checkPlace, checkEarlier, StoredConfig}
-use Rattle.rules.specs.Desk.{deskZones, addZone, dropZone, insert}
+use Rattle.rules.specs.Desk.{usual, deskZones, addZone, dropZone, insert}
 use Rattle.rules.specs.Limits.{limits, Limits}
 use Rattle.rules.specs.Fields.{regionOf}
 use Rattle.rules.specs.Regions.{noRegion}
@@ -43,7 +43,7 @@ stored n g rs = record { count = n; gic = g; records = room (limits .regions) no
 
 -- a region with the physical addresses of blocks 1 and 2
 abbrev pub blocks1And2 : Region
-blocks1And2 = regionOf 0 0x80200000 0x400000
+blocks1And2 = usual 0 0x80200000 0x400000
 
 -- 0, also where two regions have the same guest addresses
 abbrev pub nothingFound : List (StoredConfig × Found)
@@ -64,9 +64,10 @@ countsFound =
 -- C3: any number of the record, also of the last that there is room for
 abbrev pub restFound : List (StoredConfig × Found)
 restFound =
-    stored 1 0 (theGic ∷ regionOf 1 0 0 ∷ []) gives found 3 1 0
-    ∷ stored 1 0 (theGic ∷ regionOf 0 1 0 ∷ []) gives found 3 1 0
-    ∷ stored 1 0 (theGic ∷ regionOf 0 0 1 ∷ []) gives found 3 1 0
+    stored 1 0 (theGic ∷ regionOf 1 0 0 0 ∷ []) gives found 3 1 0
+    ∷ stored 1 0 (theGic ∷ regionOf 0 1 0 0 ∷ []) gives found 3 1 0
+    ∷ stored 1 0 (theGic ∷ regionOf 0 0 1 0 ∷ []) gives found 3 1 0
+    ∷ stored 1 0 (theGic ∷ regionOf 0 0 0 1 ∷ []) gives found 3 1 0
     ∷ stored 1 0 (room (limits .regions - 1) noRegion (theGic ∷ []) ++ block 0 ∷ [])
     gives found 3 (limits .regions - 1) 0
     ∷ []
@@ -157,22 +158,22 @@ badIds =
 -- what is unused is not zero: a record of either set; the id, a count or a record of a zone
 abbrev pub notZero : List StoredTable
 notZero =
-    oneZone (record { id = 5; cpu = storedSet 1 (block 0 ∷ regionOf 0 0 1 ∷ []); iommu = unusedSet limits })
-    ∷ oneZone (record { id = 5; cpu = unusedSet limits; iommu = storedSet 0 (regionOf 1 0 0 ∷ []) })
+    oneZone (record { id = 5; cpu = storedSet 1 (block 0 ∷ regionOf 0 0 1 0 ∷ []); iommu = unusedSet limits })
+    ∷ oneZone (record { id = 5; cpu = unusedSet limits; iommu = storedSet 0 (regionOf 1 0 0 0 ∷ []) })
     ∷ storedTable 0 (storedZone 1 [] [] ∷ [])
     ∷ storedTable 1 (storedZone 5 [] [] ∷ unusedZone limits ∷ storedZone 6 [] [] ∷ [])
     ∷ storedTable 0 (record { id = 0; cpu = storedSet 1 []; iommu = unusedSet limits } ∷ [])
     ∷ storedTable 0 (record { id = 0; cpu = unusedSet limits; iommu = storedSet 1 [] } ∷ [])
-    ∷ storedTable 0 (record { id = 0; cpu = storedSet 0 (regionOf 0 1 0 ∷ []); iommu = unusedSet limits } ∷ [])
-    ∷ storedTable 0 (record { id = 0; cpu = unusedSet limits; iommu = storedSet 0 (regionOf 0 1 0 ∷ []) } ∷ [])
+    ∷ storedTable 0 (record { id = 0; cpu = storedSet 0 (regionOf 0 1 0 0 ∷ []); iommu = unusedSet limits } ∷ [])
+    ∷ storedTable 0 (record { id = 0; cpu = unusedSet limits; iommu = storedSet 0 (regionOf 0 1 0 0 ∷ []) } ∷ [])
     ∷ []
 
 -- a region that is not configured, in either set: a part of block 0, or block 0 at other guest addresses
 abbrev pub notConfigured : List StoredTable
 notConfigured =
-    oneZone (storedZone 5 (regionOf 0x40000000 0x80000000 0x1000 ∷ []) [])
-    ∷ oneZone (storedZone 5 [] (regionOf 0x40000000 0x80000000 0x1000 ∷ []))
-    ∷ oneZone (storedZone 5 (regionOf 0x80000000 0x80000000 0x200000 ∷ []) [])
+    oneZone (storedZone 5 (usual 0x40000000 0x80000000 0x1000 ∷ []) [])
+    ∷ oneZone (storedZone 5 [] (usual 0x40000000 0x80000000 0x1000 ∷ []))
+    ∷ oneZone (storedZone 5 (usual 0x80000000 0x80000000 0x200000 ∷ []) [])
     ∷ []
 
 -- two regions of a set overlap in guest addresses, the same region twice
@@ -209,7 +210,7 @@ badConfigs =
     ∷ stored (limits .regions + 1) 0 (theGic ∷ [])
     ∷ badConfig
     ∷ stored 1 0 (theGic ∷ block 0 ∷ [])
-    ∷ stored 2 0 (theGic ∷ regionOf 0 0 1 ∷ [])
+    ∷ stored 2 0 (theGic ∷ regionOf 0 0 1 0 ∷ [])
     ∷ stored 2 0 (theGic ∷ far ∷ [])
     ∷ stored 2 0 (theGic ∷ unknown ∷ [])
     ∷ []
@@ -324,10 +325,11 @@ largerPages = record {
   zones = limits .zones;
   inSet = limits .inSet;
   requests = limits .requests;
+  lastMarks = limits .lastMarks;
 }
 
 abbrev pub onePage : Region
-onePage = regionOf 0 (limits .page) (limits .page)
+onePage = usual 0 (limits .page) (limits .page)
 
 abbrev pub pageConfig : StoredConfig
 pageConfig = besideTheGic onePage

@@ -19,17 +19,21 @@ use Rattle.rules.specs.declared.Request.{Request}
 use Rattle.rules.specs.declared.Side.{Side}
 use Rattle.rules.specs.declared.Side.the-variants.{Cpu, Iommu}
 
+-- a region that may be read and written, as all of the document's
+abbrev pub usual : ℕ → ℕ → ℕ → Region
+usual v p size = regionOf v p size 3
+
 abbrev pub A : Region
-A = regionOf 0x40000000 0x80000000 0x200000
+A = usual 0x40000000 0x80000000 0x200000
 
 abbrev pub B : Region
-B = regionOf 0x40000000 0x80200000 0x200000
+B = usual 0x40000000 0x80200000 0x200000
 
 abbrev pub C : Region
-C = regionOf 0x40100000 0x90000000 0x200000
+C = usual 0x40100000 0x90000000 0x200000
 
 abbrev pub G : Region
-G = regionOf 0x08000000 0x08000000 0x10000
+G = usual 0x08000000 0x08000000 0x10000
 
 -- the configuration, as it is stored; G is the GIC
 abbrev pub deskConfig : StoredConfig
@@ -69,11 +73,12 @@ starred =
 -- the whole plan: the GIC only, edition 0, add zone 5
 abbrev pub wholePlan : List ℕ
 wholePlan =
-    2 ∷ 0 ∷ 0 ∷ 0 ∷ 0 ∷ 0 ∷ 0 ∷ 0 ∷ 0 ∷ 0 ∷ 0 ∷ 0
+    3 ∷ 0 ∷ 0 ∷ 0 ∷ 0 ∷ 0 ∷ 0 ∷ 0 ∷ 0 ∷ 0 ∷ 0 ∷ 0 ∷ 2 ∷ 0 ∷ 0 ∷ 0
     ∷ 1 ∷ 0 ∷ 0 ∷ 0
     ∷ 0 ∷ 0 ∷ 0 ∷ 8 ∷ 0 ∷ 0 ∷ 0 ∷ 0
     ∷ 0 ∷ 0 ∷ 0 ∷ 8 ∷ 0 ∷ 0 ∷ 0 ∷ 0
     ∷ 0 ∷ 0 ∷ 1 ∷ 0 ∷ 0 ∷ 0 ∷ 0 ∷ 0
+    ∷ 3 ∷ 0 ∷ 0 ∷ 0 ∷ 0 ∷ 0 ∷ 0 ∷ 0
     ∷ 0 ∷ 0 ∷ 0 ∷ 0
     ∷ 1 ∷ 0 ∷ 0 ∷ 0 ∷ 1 ∷ 0 ∷ 0 ∷ 0 ∷ 5 ∷ 0 ∷ 0 ∷ 0 ∷ replicate regionSize 0
 

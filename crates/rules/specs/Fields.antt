@@ -5,19 +5,19 @@ use mathlib.Core.List.{List, [], _∷_}
 use lib.ListN.{getD}
 use Rattle.rules.specs.declared.Region.{Region}
 
--- v, p, size
+-- v, p, size, rights
 abbrev pub regionNumbers : ℕ
-regionNumbers = 3
+regionNumbers = 4
 
 unfoldable pub numbersOf : Region → List ℕ
-numbersOf r = r .v .0 ∷ r .p .0 ∷ r .size ∷ []
+numbersOf r = r .v .0 ∷ r .p .0 ∷ r .size ∷ r .rights .0 ∷ []
 
-abbrev pub regionOf : ℕ → ℕ → ℕ → Region
-regionOf v p size = record { v = record { 0 = v }; p = record { 0 = p }; size = size }
+abbrev pub regionOf : ℕ → ℕ → ℕ → ℕ → Region
+regionOf v p size rights = record { v = record { 0 = v }; p = record { 0 = p }; size = size; rights = record { 0 = rights } }
 
 -- the region with f 0 as its first number, and so on
 abbrev pub regionBy : (ℕ → ℕ) → Region
-regionBy f = regionOf (f 0) (f 1) (f 2)
+regionBy f = regionOf (f 0) (f 1) (f 2) (f 3)
 
 -- the region with the numbers of a list
 abbrev pub regionTo : List ℕ → Region

@@ -1,9 +1,12 @@
 -- Every limit, once.
-use Prim.Native.Nat.{ℕ, _^_, _<_}
+use Prim.Native.Nat.{ℕ, _+_, _^_, _<_}
+use mathlib.Core.List.{List, [], _∷_}
+use lib.ListN.{length}
+use Rattle.formats.specs.Formats.{All}
 use Rattle.rules.specs.declared.Side.{Side}
 use Rattle.rules.specs.declared.Side.the-variants.{Cpu, Iommu}
 
--- a region's three numbers are multiples of this
+-- a region's v, p and size are multiples of this
 abbrev pub page : ℕ
 page = 4096
 
@@ -30,9 +33,16 @@ mostInSet = 16
 
 -- a plan has up to this many requests
 abbrev pub mostRequests : ℕ
-mostRequests = 1024
+mostRequests = 512
 
--- ---- the limits of a family of terminals: every rule goes by them
+-- ---- formats: a plan's marks are the GIC's position, the base edition, and then those by which its format is told
+abbrev pub firstFormat : List ℕ
+firstFormat = []
+
+abbrev pub secondFormat : List ℕ
+secondFormat = 2 ∷ []
+
+-- ---- the limits of a family of terminals, and the format of its plans: every rule goes by them
 pub record Limits : Type 0 where
   pub page : ℕ
   pub iommuPage : ℕ
@@ -42,6 +52,11 @@ pub record Limits : Type 0 where
   pub zones : ℕ
   pub inSet : ℕ
   pub requests : ℕ
+  pub lastMarks : List ℕ
+
+-- how many marks its plans have
+abbrev pub markCount : Limits → ℕ
+markCount l = 2 + length (l .lastMarks)
 
 -- the page of a side: devices may ask for larger ones than the processor
 unfoldable pub pageOf : Limits → Side → ℕ
@@ -50,9 +65,9 @@ pageOf l Iommu = l .iommuPage
 
 -- those of the document's terminals
 abbrev pub limits : Limits
-limits = record { page = page; iommuPage = page; guestReach = guestReach; physReach = physReach; regions = mostRegions; zones = mostZones; inSet = mostInSet; requests = mostRequests }
+limits = record { page = page; iommuPage = page; guestReach = guestReach; physReach = physReach; regions = mostRegions; zones = mostZones; inSet = mostInSet; requests = mostRequests; lastMarks = secondFormat }
 
--- a plan's fields can say them: counts in 4 bytes, ends of regions in 8
+-- a plan's fields can say them: counts and marks in 4 bytes, ends of regions in 8
 pub record Sayable (l : Limits) : Type 0 where
   pub guestReach : l .guestReach < 256 ^ 8
   pub physReach : l .physReach < 256 ^ 8
@@ -60,3 +75,5 @@ pub record Sayable (l : Limits) : Type 0 where
   pub zones : l .zones < 256 ^ 4
   pub inSet : l .inSet < 256 ^ 4
   pub requests : l .requests < 256 ^ 4
+  pub markCount : markCount l < 256 ^ 4
+  pub lastMarks : All (λ (n : ℕ). n < 256 ^ 4) (l .lastMarks)

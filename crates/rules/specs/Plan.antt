@@ -3,8 +3,8 @@
 use Prim.Native.Nat.{ℕ, _^_, _<_}
 use mathlib.Core.List.{List, map}
 use Rattle.formats.specs.Formats.{Out, Format, number, both, field, as-type, many, headed, listed, readFile, InRange}
-use Rattle.formats.specs.Formats.{All, ListFits}
-use Rattle.rules.specs.Limits.{Limits}
+use Rattle.formats.specs.Formats.{exactly, All, ListFits}
+use Rattle.rules.specs.Limits.{markCount, Limits}
 use Rattle.rules.specs.Fields.{regionNumbers, numbersOf, regionTo, shortSize, longSize}
 use Rattle.rules.specs.Run.{makeRequest}
 use Rattle.rules.specs.Tables.{Zone}
@@ -61,15 +61,18 @@ abbrev pub askedField : Format Asked
 askedField = field (as-type (both short (both short regionFormat)) askedTo askedFrom)
 
 -- ---- sections
--- marks: count 2; GIC position, base edition
-abbrev pub marksTo : ℕ × ℕ → Marks
-marksTo t = record { gic = t .0; edition = t .1 }
+-- marks: how many the format has; GIC position, base edition, and the marks of the format
+abbrev pub marksTo : ℕ × (ℕ × Unit {0}) → Marks
+marksTo t = record { gic = t .0; edition = t .1 .0 }
 
-abbrev pub marksFrom : Marks → ℕ × ℕ
-marksFrom m = (m .gic, m .edition)
+abbrev pub marksFrom : Marks → ℕ × (ℕ × Unit {0})
+marksFrom m = (m .gic, (m .edition, tt))
 
-abbrev pub marksSection : Format Marks
-marksSection = headed 4 2 2 (λ c. as-type (both short short) marksTo marksFrom) (λ m. 2)
+abbrev pub marksFormat : Limits → Format Marks
+marksFormat l = as-type (both short (both short (exactly 4 (l .lastMarks)))) marksTo marksFrom
+
+abbrev pub marksSection : Limits → Format Marks
+marksSection l = headed 4 (markCount l) (markCount l) (λ c. marksFormat l) (λ m. markCount l)
 
 -- configured regions: at least one
 abbrev pub regionsSection : Limits → Format (List Region)
@@ -104,7 +107,7 @@ planFrom p = (p .marks, (p .regions, (p .zones, p .asked)))
 
 abbrev pub planFormat : Limits → Format Plan
 planFormat l =
-    as-type (both marksSection (both (regionsSection l) (both (zonesSection l) (requestsSection l)))) planTo planFrom
+    as-type (both (marksSection l) (both (regionsSection l) (both (zonesSection l) (requestsSection l)))) planTo planFrom
 
 -- the reader and the encoder
 unfoldable pub readPlan : Limits → List ℕ → Out Plan
@@ -126,8 +129,10 @@ RegionFits r = All Long (numbersOf r)
 abbrev pub AskedFits : Asked → Type 0
 AskedFits a = Short (a .kind) × (Short (a .zone) × RegionFits (a .region))
 
-abbrev pub MarksFit : Marks → Type 0
-MarksFit = InRange 4 2 2 (λ m. 2) (λ c m. Short (m .gic) × Short (m .edition))
+abbrev pub MarksFit : Limits → Marks → Type 0
+MarksFit l =
+    InRange 4 (markCount l) (markCount l) (λ m. markCount l)
+    (λ c m. Short (m .gic) × (Short (m .edition) × All Short (l .lastMarks)))
 
 abbrev pub SetFits : Limits → List Region → Type 0
 SetFits l = ListFits 4 0 (l .inSet) RegionFits
@@ -137,6 +142,6 @@ ZoneFits l z = Short (z .id) × (SetFits l (z .cpu) × SetFits l (z .iommu))
 
 abbrev pub PlanFits : Limits → Plan → Type 0
 PlanFits l p =
-    MarksFit (p .marks)
+    MarksFit l (p .marks)
     × (ListFits 4 1 (l .regions) RegionFits (p .regions)
     × (ListFits 4 0 (l .zones) (ZoneFits l) (p .zones) × ListFits 4 0 (l .requests) AskedFits (p .asked)))

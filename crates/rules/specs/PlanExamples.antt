@@ -7,7 +7,7 @@ use lib.ListN.{take, drop, replicate}
 use Rattle.lists.specs.Bytes.{bytesOf}
 use Rattle.formats.specs.Formats.{got}
 use Rattle.rules.specs.Applying.{store, plain, apply, storeConfig, answerAlone, Terminal}
-use Rattle.rules.specs.Desk.{G, addZone, insert}
+use Rattle.rules.specs.Desk.{usual, G, addZone, insert}
 use Rattle.rules.specs.Limits.{limits}
 use Rattle.rules.specs.Fields.{regionOf}
 use Rattle.rules.specs.Plan.{readPlan, encode, Asked, Plan}
@@ -20,9 +20,9 @@ use Rattle.rules.specs.declared.Region.{Region}
 use Rattle.rules.specs.declared.Side.the-variants.{Cpu, Iommu}
 
 -- ---- a plan with something in every section; what could be exchanged
--- differs: the two marks, v and p of R, the two sets of zone 5
+-- differs: the first two marks, v and p of R, the two sets of zone 5
 abbrev pub R : Region
-R = regionOf 0x40100000 0x123456789000 0x203000
+R = usual 0x40100000 0x123456789000 0x203000
 
 abbrev pub zone5 : Zone
 zone5 = record { id = 5; cpu = R ∷ []; iommu = G ∷ R ∷ [] }
@@ -40,36 +40,42 @@ planned = record { marks = record { gic = 1; edition = 0x01020304 }; regions = R
 -- its bytes; beside each field its offset
 abbrev pub spelled : List ℕ
 spelled =
-    -- marks: 0 the count, 4 the GIC's position, 8 the edition
-    2 ∷ 0 ∷ 0 ∷ 0 ∷ 1 ∷ 0 ∷ 0 ∷ 0 ∷ 4 ∷ 3 ∷ 2 ∷ 1
-    -- regions: 12 the count, 16 R, 40 G
+    -- marks: 0 the count, 4 the GIC's position, 8 the edition, 12 the format's
+    3 ∷ 0 ∷ 0 ∷ 0 ∷ 1 ∷ 0 ∷ 0 ∷ 0 ∷ 4 ∷ 3 ∷ 2 ∷ 1 ∷ 2 ∷ 0 ∷ 0 ∷ 0
+    -- regions: 16 the count, 20 R, 52 G
     ∷ 2 ∷ 0 ∷ 0 ∷ 0
     ∷ 0x00 ∷ 0x00 ∷ 0x10 ∷ 0x40 ∷ 0 ∷ 0 ∷ 0 ∷ 0
     ∷ 0x00 ∷ 0x90 ∷ 0x78 ∷ 0x56 ∷ 0x34 ∷ 0x12 ∷ 0 ∷ 0
     ∷ 0x00 ∷ 0x30 ∷ 0x20 ∷ 0x00 ∷ 0 ∷ 0 ∷ 0 ∷ 0
+    ∷ 3 ∷ 0 ∷ 0 ∷ 0 ∷ 0 ∷ 0 ∷ 0 ∷ 0
     ∷ 0 ∷ 0 ∷ 0 ∷ 8 ∷ 0 ∷ 0 ∷ 0 ∷ 0
     ∷ 0 ∷ 0 ∷ 0 ∷ 8 ∷ 0 ∷ 0 ∷ 0 ∷ 0
     ∷ 0 ∷ 0 ∷ 1 ∷ 0 ∷ 0 ∷ 0 ∷ 0 ∷ 0
-    -- zones: 64 the count, 68 the id of zone 5
+    ∷ 3 ∷ 0 ∷ 0 ∷ 0 ∷ 0 ∷ 0 ∷ 0 ∷ 0
+    -- zones: 84 the count, 88 the id of zone 5
     ∷ 2 ∷ 0 ∷ 0 ∷ 0 ∷ 5 ∷ 0 ∷ 0 ∷ 0
-    -- 72 its CPU count, 76 R
+    -- 92 its CPU count, 96 R
     ∷ 1 ∷ 0 ∷ 0 ∷ 0
     ∷ 0x00 ∷ 0x00 ∷ 0x10 ∷ 0x40 ∷ 0 ∷ 0 ∷ 0 ∷ 0
     ∷ 0x00 ∷ 0x90 ∷ 0x78 ∷ 0x56 ∷ 0x34 ∷ 0x12 ∷ 0 ∷ 0
     ∷ 0x00 ∷ 0x30 ∷ 0x20 ∷ 0x00 ∷ 0 ∷ 0 ∷ 0 ∷ 0
-    -- 100 its IOMMU count, 104 G, 128 R
+    ∷ 3 ∷ 0 ∷ 0 ∷ 0 ∷ 0 ∷ 0 ∷ 0 ∷ 0
+    -- 128 its IOMMU count, 132 G, 164 R
     ∷ 2 ∷ 0 ∷ 0 ∷ 0
     ∷ 0 ∷ 0 ∷ 0 ∷ 8 ∷ 0 ∷ 0 ∷ 0 ∷ 0
     ∷ 0 ∷ 0 ∷ 0 ∷ 8 ∷ 0 ∷ 0 ∷ 0 ∷ 0
     ∷ 0 ∷ 0 ∷ 1 ∷ 0 ∷ 0 ∷ 0 ∷ 0 ∷ 0
+    ∷ 3 ∷ 0 ∷ 0 ∷ 0 ∷ 0 ∷ 0 ∷ 0 ∷ 0
     ∷ 0x00 ∷ 0x00 ∷ 0x10 ∷ 0x40 ∷ 0 ∷ 0 ∷ 0 ∷ 0
     ∷ 0x00 ∷ 0x90 ∷ 0x78 ∷ 0x56 ∷ 0x34 ∷ 0x12 ∷ 0 ∷ 0
     ∷ 0x00 ∷ 0x30 ∷ 0x20 ∷ 0x00 ∷ 0 ∷ 0 ∷ 0 ∷ 0
-    -- 152 the id of zone 6, 156 and 160 its counts
+    ∷ 3 ∷ 0 ∷ 0 ∷ 0 ∷ 0 ∷ 0 ∷ 0 ∷ 0
+    -- 196 the id of zone 6, 200 and 204 its counts
     ∷ 6 ∷ 0 ∷ 0 ∷ 0 ∷ 0 ∷ 0 ∷ 0 ∷ 0 ∷ 0 ∷ 0 ∷ 0 ∷ 0
-    -- requests: 164 the count, 168 and 200 the two: kind, zone, v, p, size
+    -- requests: 208 the count, 212 and 252 the two: kind, zone, v, p, size, rights
     ∷ 2 ∷ 0 ∷ 0 ∷ 0
     ∷ 1 ∷ 0 ∷ 0 ∷ 0 ∷ 7 ∷ 0 ∷ 0 ∷ 0
+    ∷ 0 ∷ 0 ∷ 0 ∷ 0 ∷ 0 ∷ 0 ∷ 0 ∷ 0
     ∷ 0 ∷ 0 ∷ 0 ∷ 0 ∷ 0 ∷ 0 ∷ 0 ∷ 0
     ∷ 0 ∷ 0 ∷ 0 ∷ 0 ∷ 0 ∷ 0 ∷ 0 ∷ 0
     ∷ 0 ∷ 0 ∷ 0 ∷ 0 ∷ 0 ∷ 0 ∷ 0 ∷ 0
@@ -77,6 +83,7 @@ spelled =
     ∷ 0 ∷ 0 ∷ 0 ∷ 8 ∷ 0 ∷ 0 ∷ 0 ∷ 0
     ∷ 0 ∷ 0 ∷ 0 ∷ 8 ∷ 0 ∷ 0 ∷ 0 ∷ 0
     ∷ 0 ∷ 0 ∷ 1 ∷ 0 ∷ 0 ∷ 0 ∷ 0 ∷ 0
+    ∷ 3 ∷ 0 ∷ 0 ∷ 0 ∷ 0 ∷ 0 ∷ 0 ∷ 0
     ∷ []
 
 -- the bytes say it, and it is written so; of its requests as bytes, those are read that are wholly there
@@ -84,9 +91,9 @@ abbrev pub BytesShown : Type 0
 BytesShown =
     (readPlan limits spelled ≡ got planned [])
     × (encode limits planned ≡ spelled)
-    × (requestsIn (drop 168 spelled) ≡ addZone 7 ∷ insert Iommu G 6 ∷ [])
-    × (requestsIn (take 63 (drop 168 spelled)) ≡ addZone 7 ∷ [])
-    × (requestsIn (3 ∷ 0 ∷ 0 ∷ 0 ∷ 6 ∷ 0 ∷ 0 ∷ 0 ∷ take 24 (drop 16 spelled)) ≡ insert Cpu R 6 ∷ [])
+    × (requestsIn (drop 212 spelled) ≡ addZone 7 ∷ insert Iommu G 6 ∷ [])
+    × (requestsIn (take 79 (drop 212 spelled)) ≡ addZone 7 ∷ [])
+    × (requestsIn (3 ∷ 0 ∷ 0 ∷ 0 ∷ 6 ∷ 0 ∷ 0 ∷ 0 ∷ take 32 (drop 20 spelled)) ≡ insert Cpu R 6 ∷ [])
 
 -- ---- 20 to 22 and their places: where there is no terminal, and at one with the plan's base
 abbrev pub terminal : Terminal
@@ -105,7 +112,7 @@ cutAt n = take n spelled
 
 abbrev pub cuts : List (List ℕ × Outcome)
 cuts =
-    -- a count, the GIC's position, the edition
+    -- a count, the GIC's position, the edition, the format's mark
     cutAt 0 gives plain 20 0
     ∷ cutAt 1 gives plain 20 0
     ∷ cutAt 3 gives plain 20 0
@@ -113,67 +120,76 @@ cuts =
     ∷ cutAt 7 gives plain 20 4
     ∷ cutAt 8 gives plain 20 8
     ∷ cutAt 11 gives plain 20 8
-    -- the count of the regions; a region: before v, within v, p and size
     ∷ cutAt 12 gives plain 20 12
     ∷ cutAt 15 gives plain 20 12
+    -- the count of the regions; a region: before v, within v, p, size and rights
     ∷ cutAt 16 gives plain 20 16
-    ∷ cutAt 17 gives plain 20 16
-    ∷ cutAt 24 gives plain 20 16
-    ∷ cutAt 31 gives plain 20 16
-    ∷ cutAt 39 gives plain 20 16
-    ∷ cutAt 40 gives plain 20 40
+    ∷ cutAt 19 gives plain 20 16
+    ∷ cutAt 20 gives plain 20 20
+    ∷ cutAt 21 gives plain 20 20
+    ∷ cutAt 28 gives plain 20 20
+    ∷ cutAt 35 gives plain 20 20
+    ∷ cutAt 43 gives plain 20 20
+    ∷ cutAt 51 gives plain 20 20
+    ∷ cutAt 52 gives plain 20 52
     -- the count of the zones, an id, the counts of its sets, their regions
-    ∷ cutAt 67 gives plain 20 64
-    ∷ cutAt 71 gives plain 20 68
-    ∷ cutAt 75 gives plain 20 72
-    ∷ cutAt 99 gives plain 20 76
-    ∷ cutAt 103 gives plain 20 100
-    ∷ cutAt 105 gives plain 20 104
-    ∷ cutAt 151 gives plain 20 128
-    ∷ cutAt 155 gives plain 20 152
-    ∷ cutAt 159 gives plain 20 156
-    ∷ cutAt 163 gives plain 20 160
-    -- the count of the requests; a request: before its kind, within it, its zone, v, p and size
-    ∷ cutAt 167 gives plain 20 164
-    ∷ cutAt 168 gives plain 20 168
-    ∷ cutAt 169 gives plain 20 168
-    ∷ cutAt 175 gives plain 20 168
-    ∷ cutAt 177 gives plain 20 168
-    ∷ cutAt 191 gives plain 20 168
-    ∷ cutAt 199 gives plain 20 168
-    ∷ cutAt 231 gives plain 20 200
+    ∷ cutAt 87 gives plain 20 84
+    ∷ cutAt 91 gives plain 20 88
+    ∷ cutAt 95 gives plain 20 92
+    ∷ cutAt 127 gives plain 20 96
+    ∷ cutAt 131 gives plain 20 128
+    ∷ cutAt 133 gives plain 20 132
+    ∷ cutAt 195 gives plain 20 164
+    ∷ cutAt 199 gives plain 20 196
+    ∷ cutAt 203 gives plain 20 200
+    ∷ cutAt 207 gives plain 20 204
+    -- the count of the requests; a request: before its kind, within it, its zone, v, p, size and rights
+    ∷ cutAt 211 gives plain 20 208
+    ∷ cutAt 212 gives plain 20 212
+    ∷ cutAt 213 gives plain 20 212
+    ∷ cutAt 219 gives plain 20 212
+    ∷ cutAt 221 gives plain 20 212
+    ∷ cutAt 235 gives plain 20 212
+    ∷ cutAt 243 gives plain 20 212
+    ∷ cutAt 251 gives plain 20 212
+    ∷ cutAt 291 gives plain 20 252
     ∷ []
 
--- 21: a count out of range, told before its elements are looked for; one that is cut is 20
+-- 21: a count out of range, told before its elements are looked for, and another format's mark, told before the count
+-- behind it; one that is cut is 20
 abbrev pub countAt : ℕ → ℕ → List ℕ
 countAt n c = cutAt n ++ bytesOf 4 c
 
 abbrev pub counts : List (List ℕ × Outcome)
 counts =
-    countAt 0 1 gives plain 21 0
-    ∷ countAt 0 3 gives plain 21 0
-    ∷ countAt 12 0 gives plain 21 12
-    ∷ countAt 12 (limits .regions) gives plain 20 16
-    ∷ countAt 12 (limits .regions + 1) gives plain 21 12
-    ∷ countAt 64 (limits .zones) gives plain 20 68
-    ∷ countAt 64 (limits .zones + 1) gives plain 21 64
-    ∷ countAt 72 (limits .inSet) gives plain 20 76
-    ∷ countAt 72 (limits .inSet + 1) gives plain 21 72
-    ∷ countAt 100 (limits .inSet) gives plain 20 104
-    ∷ countAt 100 (limits .inSet + 1) gives plain 21 100
-    ∷ countAt 164 (limits .requests) gives plain 20 168
-    ∷ countAt 164 (limits .requests + 1) gives plain 21 164
-    ∷ countAt 164 (2 ^ 32 - 1) gives plain 21 164
-    ∷ (cutAt 164 ++ 0 ∷ 0 ∷ 255 ∷ []) gives plain 20 164
+    countAt 0 2 gives plain 21 0
+    ∷ countAt 0 4 gives plain 21 0
+    ∷ countAt 12 1 gives plain 21 12
+    ∷ countAt 12 2 gives plain 20 16
+    ∷ countAt 12 3 gives plain 21 12
+    ∷ (countAt 12 3 ++ bytesOf 4 0) gives plain 21 12
+    ∷ countAt 16 0 gives plain 21 16
+    ∷ countAt 16 (limits .regions) gives plain 20 20
+    ∷ countAt 16 (limits .regions + 1) gives plain 21 16
+    ∷ countAt 84 (limits .zones) gives plain 20 88
+    ∷ countAt 84 (limits .zones + 1) gives plain 21 84
+    ∷ countAt 92 (limits .inSet) gives plain 20 96
+    ∷ countAt 92 (limits .inSet + 1) gives plain 21 92
+    ∷ countAt 128 (limits .inSet) gives plain 20 132
+    ∷ countAt 128 (limits .inSet + 1) gives plain 21 128
+    ∷ countAt 208 (limits .requests) gives plain 20 212
+    ∷ countAt 208 (limits .requests + 1) gives plain 21 208
+    ∷ countAt 208 (2 ^ 32 - 1) gives plain 21 208
+    ∷ (cutAt 208 ++ 0 ∷ 0 ∷ 255 ∷ []) gives plain 20 208
     ∷ []
 
--- the document's limit, a second time: 1,024 requests
+-- the document's limit, a second time: 512 requests
 abbrev pub mostCounted : List (List ℕ × Outcome)
-mostCounted = countAt 164 1024 gives plain 20 168 ∷ countAt 164 1025 gives plain 21 164 ∷ []
+mostCounted = countAt 208 512 gives plain 20 212 ∷ countAt 208 513 gives plain 21 208 ∷ []
 
 -- 22: a byte after the end, whatever it is
 abbrev pub rests : List (List ℕ × Outcome)
-rests = (spelled ++ 0 ∷ []) gives plain 22 232 ∷ (spelled ++ spelled) gives plain 22 232 ∷ []
+rests = (spelled ++ 0 ∷ []) gives plain 22 292 ∷ (spelled ++ spelled) gives plain 22 292 ∷ []
 
 abbrev pub ReadingShown : Type 0
 ReadingShown =
@@ -206,7 +222,7 @@ last = 2 ^ 32 - 1
 -- where there is no terminal: 22, 1, 2, 25, 27, each at a plan to which the later ones apply too
 abbrev pub aloneInOrder : List (List ℕ × Outcome)
 aloneInOrder =
-    (planOf 2 last regions twice5 ++ 0 ∷ []) gives plain 22 160
+    (planOf 2 last regions twice5 ++ 0 ∷ []) gives plain 22 196
     ∷ planOf 2 last regions twice5 gives plain 1 0
     ∷ planOf 1 last regions twice5 gives plain 2 0
     ∷ planOf 1 last regions zones gives plain 25 0
@@ -241,7 +257,7 @@ thereInOrder =
     ∷ (withZones twice5 terminal, []) gives plain 2 0
     ∷ (withZones twice5 terminal, spelled) gives plain 2 0
     ∷ (terminal, []) gives plain 20 0
-    ∷ (atEdition last terminal, planOf 0 0 regions [] ++ 0 ∷ []) gives plain 22 136
+    ∷ (atEdition last terminal, planOf 0 0 regions [] ++ 0 ∷ []) gives plain 22 172
     ∷ (atEdition last terminal, planOf 0 0 regions []) gives plain 23 0
     ∷ (atEdition last terminal, planOf 1 0 regions []) gives plain 24 0
     ∷ (atEdition last terminal, planOf 1 last regions []) gives plain 25 0
@@ -249,13 +265,14 @@ thereInOrder =
     ∷ (terminal, planOf 1 edition regions zones) gives record { number = 27; place = 1; inner = 5 }
     ∷ []
 
--- 23: the GIC's position, a region's v, p or size, how many regions there are, their order
+-- 23: the GIC's position, a region's v, p, size or rights, how many regions there are, their order
 abbrev pub otherConfigs : List (List ℕ × Outcome)
 otherConfigs =
     planOf 0 edition regions zones gives plain 23 0
-    ∷ planOf 1 edition (regionOf 0x40101000 0x123456789000 0x203000 ∷ G ∷ []) zones gives plain 23 0
-    ∷ planOf 1 edition (regionOf 0x40100000 0x123456788000 0x203000 ∷ G ∷ []) zones gives plain 23 0
-    ∷ planOf 1 edition (regionOf 0x40100000 0x123456789000 0x202000 ∷ G ∷ []) zones gives plain 23 0
+    ∷ planOf 1 edition (usual 0x40101000 0x123456789000 0x203000 ∷ G ∷ []) zones gives plain 23 0
+    ∷ planOf 1 edition (usual 0x40100000 0x123456788000 0x203000 ∷ G ∷ []) zones gives plain 23 0
+    ∷ planOf 1 edition (usual 0x40100000 0x123456789000 0x202000 ∷ G ∷ []) zones gives plain 23 0
+    ∷ planOf 1 edition (regionOf 0x40100000 0x123456789000 0x203000 1 ∷ G ∷ []) zones gives plain 23 0
     ∷ planOf 1 edition (R ∷ []) zones gives plain 23 0
     ∷ planOf 1 edition (R ∷ G ∷ G ∷ []) zones gives plain 23 0
     ∷ planOf 1 edition (G ∷ R ∷ []) zones gives plain 23 0
@@ -280,7 +297,7 @@ otherZones =
 
 -- 0: the plan above; and a plan without requests, by which a terminal comes to the last edition
 abbrev pub empty : List ℕ
-empty = take 164 (planOf 1 (last - 1) regions zones) ++ replicate 4 0
+empty = take 208 (planOf 1 (last - 1) regions zones) ++ replicate 4 0
 
 abbrev pub accepted : List ((Terminal × List ℕ) × Outcome)
 accepted = (terminal, spelled) gives plain 0 2 ∷ (atEdition (last - 1) terminal, empty) gives plain 0 0 ∷ []

@@ -2,7 +2,7 @@
 -- the first of its kind's order. Tables and sets are filled up to the limits, whatever these are; only `LimitsShown`
 -- writes the document's limits a second time.
 use Prim.Native.Nat.{ℕ, _+_, _*_, _-_, _^_}
-use mathlib.Core.Bool.{true, cond}
+use mathlib.Core.Bool.{Bool, true, false, cond}
 use mathlib.Core.List.{List, [], _∷_, _++_, map}
 use mathlib.Core.Path.{_≡_}
 use lib.ListN.{getD, replicate}
@@ -12,7 +12,7 @@ use Rattle.lists.specs.Rules.{Rule}
 use Rattle.rules.specs.Applying.{storeConfig}
 use Rattle.rules.specs.Changes.{withSide}
 use Rattle.rules.specs.Configuration.{check, Configuration}
-use Rattle.rules.specs.Desk.{deskZones, addZone, dropZone, insert, remove}
+use Rattle.rules.specs.Desk.{usual, deskZones, addZone, dropZone, insert, remove}
 use Rattle.rules.specs.Limits.{limits}
 use Rattle.rules.specs.Fields.{regionOf}
 use Rattle.rules.specs.Regions.{noRegion}
@@ -39,13 +39,13 @@ Shows {A} {B} f xs = map (λ (x : A × B). f (x .0)) xs ≡ map (λ (x : A × B)
 -- ---- the configuration: blocks side by side, one more than a set has room for; the GIC, at position 1; and a twin: it
 -- has the guest addresses of the first block, of which the GIC has some. In every region v differs from p
 abbrev pub block : ℕ → Region
-block i = regionOf (0x40000000 + i * 0x200000) (0x80000000 + i * 0x200000) 0x200000
+block i = usual (0x40000000 + i * 0x200000) (0x80000000 + i * 0x200000) 0x200000
 
 abbrev pub theGic : Region
-theGic = regionOf 0x40000000 0x08000000 0x10000
+theGic = usual 0x40000000 0x08000000 0x10000
 
 abbrev pub twin : Region
-twin = regionOf 0x40000000 0x60000000 0x200000
+twin = usual 0x40000000 0x60000000 0x200000
 
 abbrev pub blocks : List Region
 blocks = tab (limits .inSet) block
@@ -104,13 +104,13 @@ ModelIsSound = (check limits (storeConfig limits model) ≡ Sound) × (all (soun
 -- held, and itself
 -- 9, 10 and 11 apply; 10 and 11; 11 alone
 abbrev pub oddAndFar : Region
-oddAndFar = regionOf 0 0 (2 ^ 60 + 1)
+oddAndFar = usual 0 0 (2 ^ 60 + 1)
 
 abbrev pub far : Region
-far = regionOf 0 0 (2 ^ 60)
+far = usual 0 0 (2 ^ 60)
 
 abbrev pub unknown : Region
-unknown = regionOf 0 0 (2 ^ 32)
+unknown = usual 0 0 (2 ^ 32)
 
 -- ---- requests at a table, and their numbers
 infix 80 _at_
@@ -246,25 +246,25 @@ OverlapsShown = Shows answerTo cpuOverlaps × Shows answerTo iommuOverlaps × Sh
 -- each number of a region is a multiple of 4,096, and its size is above 0; a region of one page is merely unknown
 abbrev pub ofAPage : List (Region × ℕ)
 ofAPage =
-    regionOf 0x1000 0x1000 0x1000 gives 11
-    ∷ regionOf 0x800 0x1000 0x1000 gives 9
-    ∷ regionOf 0x1000 0x800 0x1000 gives 9
-    ∷ regionOf 0x1000 0x1000 0x800 gives 9
-    ∷ regionOf 0x1000 0x1000 0 gives 9
+    usual 0x1000 0x1000 0x1000 gives 11
+    ∷ usual 0x800 0x1000 0x1000 gives 9
+    ∷ usual 0x1000 0x800 0x1000 gives 9
+    ∷ usual 0x1000 0x1000 0x800 gives 9
+    ∷ usual 0x1000 0x1000 0 gives 9
     ∷ []
 
 -- v + size is at most 2^40 and p + size at most 2^48, as whole numbers: regions that end exactly there, by their start or
 -- by their size; and those that end a page above, or past 2^64
 abbrev pub justInReach : List Region
-justInReach = regionOf (2 ^ 40 - 0x1000) 0 0x1000 ∷ regionOf 0 (2 ^ 40) (2 ^ 40) ∷ regionOf 0 (2 ^ 48 - 0x1000) 0x1000 ∷ []
+justInReach = usual (2 ^ 40 - 0x1000) 0 0x1000 ∷ usual 0 (2 ^ 40) (2 ^ 40) ∷ usual 0 (2 ^ 48 - 0x1000) 0x1000 ∷ []
 
 abbrev pub outOfReach : List Region
 outOfReach =
-    regionOf (2 ^ 40) 0 0x1000
-    ∷ regionOf 0 (2 ^ 40) (2 ^ 40 + 0x1000)
-    ∷ regionOf 0 (2 ^ 48) 0x1000
-    ∷ regionOf (2 ^ 64 - 0x1000) 0 0x2000
-    ∷ regionOf 0 (2 ^ 64 - 0x1000) 0x2000
+    usual (2 ^ 40) 0 0x1000
+    ∷ usual 0 (2 ^ 40) (2 ^ 40 + 0x1000)
+    ∷ usual 0 (2 ^ 48) 0x1000
+    ∷ usual (2 ^ 64 - 0x1000) 0 0x2000
+    ∷ usual 0 (2 ^ 64 - 0x1000) 0x2000
     ∷ []
 
 abbrev pub inTheReaches : List (Region × ℕ)
@@ -293,6 +293,75 @@ LimitsShown =
     × (answers limits model deskZones (blocksTo5 Cpu) ≡ replicate 16 0 ++ 16 ∷ [])
     × (answers limits model deskZones (blocksTo5 Iommu) ≡ replicate 16 0 ++ 16 ∷ [])
 
+-- ---- rights: each alone, and all; none, a bit more beside them, that bit alone, and one past 32 bits
+abbrev pub ofRights : List (Region × ℕ)
+ofRights =
+    regionOf 0x1000 0x1000 0x1000 1 gives 11
+    ∷ regionOf 0x1000 0x1000 0x1000 2 gives 11
+    ∷ regionOf 0x1000 0x1000 0x1000 4 gives 11
+    ∷ regionOf 0x1000 0x1000 0x1000 7 gives 11
+    ∷ regionOf 0x1000 0x1000 0x1000 0 gives 9
+    ∷ regionOf 0x1000 0x1000 0x1000 (8 + 3) gives 9
+    ∷ regionOf 0x1000 0x1000 0x1000 8 gives 9
+    ∷ regionOf 0x1000 0x1000 0x1000 (2 ^ 32 + 3) gives 9
+    ∷ []
+
+-- a region that is configured and held, named with other rights
+abbrev pub readOnly : ℕ → Region
+readOnly i = record { v = block i .v; p = block i .p; size = block i .size; rights = record { 0 = 1 } }
+
+abbrev pub otherRights : List Numbered
+otherRights =
+    insert Cpu (readOnly 1) 6 at deskZones gives 11
+    ∷ insert Iommu (readOnly 1) 6 at deskZones gives 11
+    ∷ remove Cpu (readOnly 0) 5 at cpuOnly gives 17
+    ∷ remove Iommu (readOnly 0) 5 at iommuOnly gives 17
+    ∷ remove Cpu (block 0) 5 at cpuOnly gives 0
+    ∷ remove Iommu (block 0) 5 at iommuOnly gives 0
+    ∷ []
+
+-- 19: a region of each rights from 1 to 7, all of them configured, and the GIC with all rights
+abbrev pub allowing : ℕ → Region
+allowing n = regionOf (0x40000000 + n * 0x200000) (0x80000000 + n * 0x200000) 0x200000 n
+
+abbrev pub gicOfAll : Region
+gicOfAll = regionOf 0x08000000 0x08000000 0x10000 7
+
+abbrev pub ofEachRights : Configuration
+ofEachRights = record { regions = gicOfAll ∷ map allowing (places 1 7); gic = 0 }
+
+abbrev pub toEach : Side → List ℕ
+toEach s = map (λ (n : ℕ). refusal limits ofEachRights deskZones (insert s (allowing n) 5)) (places 1 7)
+
+-- it comes after 11 and before 12 and 13
+abbrev pub zone5With : Side → Region → List Zone
+zone5With Cpu r = record { id = 5; cpu = r ∷ []; iommu = [] } ∷ []
+zone5With Iommu r = record { id = 5; cpu = []; iommu = r ∷ [] } ∷ []
+
+abbrev pub inOrder : List ℕ
+inOrder =
+    refusal limits ofEachRights deskZones (insert Cpu (regionOf 0 0 0x1000 7) 5)
+    ∷ refusal limits ofEachRights deskZones (insert Cpu gicOfAll 5)
+    ∷ refusal limits ofEachRights deskZones (insert Iommu gicOfAll 5)
+    ∷ refusal limits ofEachRights (zone5With Cpu (allowing 7)) (insert Cpu (allowing 7) 5)
+    ∷ refusal limits ofEachRights (zone5With Iommu (allowing 4)) (insert Iommu (allowing 4) 5)
+    ∷ []
+
+-- and a table that holds one is unsound
+abbrev pub soundWith : Side → List Bool
+soundWith s = map (λ (n : ℕ). sound limits ofEachRights (zone5With s (allowing n))) (places 1 7)
+
+abbrev pub RightsShown : Type 0
+RightsShown =
+    Shows (insertedIn5 Cpu) ofRights
+    × Shows (insertedIn5 Iommu) ofRights
+    × Shows answerTo otherRights
+    × (toEach Cpu ≡ 0 ∷ 0 ∷ 0 ∷ 0 ∷ 0 ∷ 19 ∷ 19 ∷ [])
+    × (toEach Iommu ≡ 0 ∷ 0 ∷ 0 ∷ 19 ∷ 19 ∷ 19 ∷ 19 ∷ [])
+    × (inOrder ≡ 11 ∷ 19 ∷ 19 ∷ 19 ∷ 19 ∷ [])
+    × (soundWith Cpu ≡ true ∷ true ∷ true ∷ true ∷ true ∷ false ∷ false ∷ [])
+    × (soundWith Iommu ≡ true ∷ true ∷ true ∷ false ∷ false ∷ false ∷ false ∷ [])
+
 -- ---- kinds by their numbers, and what an accepted request does
 -- 3: a number other than 1 to 6, compared whole; and where a zone is added or removed, a region with any number that is
 -- not 0
@@ -306,12 +375,14 @@ noKinds =
     ∷ makeRequest 0x104 5 (block 0) at cpuOnly gives 3
     ∷ makeRequest 0x105 6 (block 0) at deskZones gives 3
     ∷ makeRequest 0x106 5 (block 0) at iommuOnly gives 3
-    ∷ makeRequest 1 7 (regionOf 1 0 0) at deskZones gives 3
-    ∷ makeRequest 1 7 (regionOf 0 1 0) at deskZones gives 3
-    ∷ makeRequest 1 7 (regionOf 0 0 1) at deskZones gives 3
-    ∷ makeRequest 2 6 (regionOf 1 0 0) at deskZones gives 3
-    ∷ makeRequest 2 6 (regionOf 0 1 0) at deskZones gives 3
-    ∷ makeRequest 2 6 (regionOf 0 0 1) at deskZones gives 3
+    ∷ makeRequest 1 7 (regionOf 1 0 0 0) at deskZones gives 3
+    ∷ makeRequest 1 7 (regionOf 0 1 0 0) at deskZones gives 3
+    ∷ makeRequest 1 7 (regionOf 0 0 1 0) at deskZones gives 3
+    ∷ makeRequest 1 7 (regionOf 0 0 0 1) at deskZones gives 3
+    ∷ makeRequest 2 6 (regionOf 1 0 0 0) at deskZones gives 3
+    ∷ makeRequest 2 6 (regionOf 0 1 0 0) at deskZones gives 3
+    ∷ makeRequest 2 6 (regionOf 0 0 1 0) at deskZones gives 3
+    ∷ makeRequest 2 6 (regionOf 0 0 0 3) at deskZones gives 3
     ∷ []
 
 -- 4: the id too is compared whole
@@ -442,7 +513,7 @@ onBothSides =
 -- why a table must be sound for a stretch to go on: of two regions that share guest addresses the first in the set
 -- answers there, and the stretch that begins in the other comes out elsewhere from then on
 abbrev pub sharing : List Zone
-sharing = record { id = 5; cpu = block 1 ∷ regionOf 0x40000000 0x60000000 0x400000 ∷ []; iommu = [] } ∷ []
+sharing = record { id = 5; cpu = block 1 ∷ usual 0x40000000 0x60000000 0x400000 ∷ []; iommu = [] } ∷ []
 
 abbrev pub whereShared : List (Asking × Translated)
 whereShared =

@@ -11,7 +11,7 @@ use Rattle.rules.specs.Changes.{setAt, added, pushed, cut, dropped}
 use Rattle.rules.specs.Configuration.{gicOf, configOf, check, isSound, Configuration, StoredConfig}
 use Rattle.rules.specs.Limits.{highestId, Limits, pageOf}
 use Rattle.rules.specs.Regions.{wellFormed, inReach, regionEq, physOverlap, guestOverlap}
-use Rattle.rules.specs.Tables.{hasId, regionsOf, tableOf, configured, clash, checkTable, Zone, StoredTable}
+use Rattle.rules.specs.Tables.{hasId, regionsOf, tableOf, configured, excessive, clash, checkTable, Zone, StoredTable}
 use Rattle.rules.specs.declared.Kind.{Kind}
 use Rattle.rules.specs.declared.Kind.the-variants.{AddZone, RemoveZone, Insert, Remove, NoRequest}
 use Rattle.rules.specs.declared.Region.{Region}
@@ -61,7 +61,7 @@ unfoldable pub removeZoneRules : ℕ → List Zone → List (Rule ℕ)
 removeZoneRules id t = 6 when not (present id t) ∷ 8 when holdsAny (find id t) t ∷ []
 
 unfoldable pub regionRules : Limits → Configuration → Side → Region → List (Rule ℕ)
-regionRules l c s r = 9 when not (wellFormed (pageOf l s) r) ∷ 10 when not (inReach l r) ∷ 11 when not (configured c r) ∷ 12 when onGic c s r ∷ []
+regionRules l c s r = 9 when not (wellFormed (pageOf l s) r) ∷ 10 when not (inReach l r) ∷ 11 when not (configured c r) ∷ 19 when excessive s r ∷ 12 when onGic c s r ∷ []
 
 unfoldable pub setRules : Limits → Configuration → ℕ → Side → Region → List Zone → List (Rule ℕ)
 setRules l c k s r t =

@@ -3,7 +3,7 @@ use Prim.Native.Nat.{ℕ, _+_, _*_}
 use mathlib.Core.Path.{_≡_}
 use lib.ListN.{length, replicate}
 use Rattle.formats.specs.Sizes.{total}
-use Rattle.rules.specs.Limits.{limits, Limits}
+use Rattle.rules.specs.Limits.{markCount, limits, Limits}
 use Rattle.rules.specs.Fields.{shortSize, regionSize}
 use Rattle.rules.specs.Plan.{Asked, Plan}
 use Rattle.rules.specs.Regions.{noRegion}
@@ -11,8 +11,8 @@ use Rattle.rules.specs.Run.{requestSize}
 use Rattle.rules.specs.Tables.{Zone}
 
 -- the marks after their count
-abbrev pub marksSize : ℕ
-marksSize = 3 * shortSize
+abbrev pub marksSize : Limits → ℕ
+marksSize l = (1 + markCount l) * shortSize
 
 -- so many regions after their count, so many requests after theirs
 abbrev pub regionsSize : ℕ → ℕ
@@ -29,25 +29,25 @@ abbrev pub zoneSize : Zone → ℕ
 zoneSize z = setsSize (length (z .cpu)) (length (z .iommu))
 
 -- a plan: its four sections
-unfoldable pub planSize : Plan → ℕ
-planSize p =
-    marksSize
+unfoldable pub planSize : Limits → Plan → ℕ
+planSize l p =
+    marksSize l
     + (regionsSize (length (p .regions)) + ((shortSize + total zoneSize (p .zones)) + requestsSize (length (p .asked))))
 
 -- ---- the longest and the least
 -- with all that the limits let a plan have
 abbrev pub longestSize : Limits → ℕ
 longestSize l =
-    marksSize
+    marksSize l
     + (regionsSize (l .regions) + ((shortSize + l .zones * setsSize (l .inSet) (l .inSet)) + requestsSize (l .requests)))
 
 -- with what every plan has: one region
-abbrev pub leastSize : ℕ
-leastSize = marksSize + (regionsSize 1 + (shortSize + requestsSize 0))
+abbrev pub leastSize : Limits → ℕ
+leastSize l = marksSize l + (regionsSize 1 + (shortSize + requestsSize 0))
 
 -- the document's two numbers
 abbrev pub SizesShown : Type 0
-SizesShown = (leastSize ≡ 48) × (longestSize limits ≡ 63896)
+SizesShown = (leastSize limits ≡ 60) × (longestSize limits ≡ 61852)
 
 -- ---- a plan that has so many of each, every number 0
 abbrev pub zoneWith : ℕ → ℕ → Zone

@@ -40,7 +40,7 @@ back = planBytes limits (with5 1) removes
 
 -- the whole plan's marks, then a count above its limit, and nothing after it
 abbrev pub tooMany : List ℕ
-tooMany = take 12 wholePlan ++ bytesOf 4 (limits .regions + 1)
+tooMany = take 16 wholePlan ++ bytesOf 4 (limits .regions + 1)
 
 -- a plan for another configuration and another edition
 abbrev pub elsewhere : List ℕ
@@ -71,8 +71,8 @@ StoryShown =
     × Gives (without 2) there (plain 24 0) (without 2)
     × Gives (without 0) back (plain 24 0) (without 0)
     × Gives (holding deskZones 1) back (plain 26 0) (holding deskZones 1)
-    × Gives (without 0) tooMany (plain 21 12) (without 0)
-    × Gives (without 0) (wholePlan ++ 0 ∷ []) (plain 22 80) (without 0)
+    × Gives (without 0) tooMany (plain 21 16) (without 0)
+    × Gives (without 0) (wholePlan ++ 0 ∷ []) (plain 22 100) (without 0)
     × Gives (without 0) elsewhere (plain 23 0) (without 0)
     × Gives (without 0) again (record { number = 27; place = 1; inner = 5 }) (without 0)
     × Gives (without 0) both (plain 0 2) (holding deskZones 1)

@@ -12,7 +12,7 @@ use Rattle.rules.specs.declared.Region.{Region}
 use Rattle.rules.specs.declared.Side.{Side}
 use Rattle.rules.specs.declared.Side.the-variants.{Cpu, Iommu}
 use Rattle.rules.specs.Limits.{highestId, Limits}
-use Rattle.rules.specs.Regions.{wellFormed, regionEq, physOverlap, guestOverlap, noRegion, used}
+use Rattle.rules.specs.Regions.{wellFormed, mayWrite, mayExecute, regionEq, physOverlap, guestOverlap, noRegion, used}
 use Rattle.rules.specs.Configuration.{Configuration, gicOf, StoredConfig, configOf, check, isSound}
 
 -- a zone: its id, its CPU set and its IOMMU set; a table is a list of zones
@@ -110,14 +110,22 @@ offGic c r = not (physOverlap r (gicOf c))
 unfoldable pub clash : Configuration → Region → Region → Bool
 clash c a b = not (regionEq a (gicOf c)) && (not (regionEq b (gicOf c)) && physOverlap a b)
 
+-- on the CPU side it may be written and executed, on the IOMMU side it may be executed: too many rights
+unfoldable pub excessive : Side → Region → Bool
+excessive Cpu r = mayWrite r && mayExecute r
+excessive Iommu r = mayExecute r
+
+abbrev pub modest : Side → Region → Bool
+modest s r = not (excessive s r)
+
 -- counts within limits; every region is configured; no two overlap in guest addresses
 unfoldable pub soundSet : Limits → Configuration → List Region → Bool
 soundSet l c xs = allOf (leb (length xs) (l .inSet) ∷ all (configured c) xs ∷ pairwise guestApart xs ∷ [])
 
 -- id at most the highest; both sets; no CPU region overlaps the GIC
--- physically; every IOMMU region is well formed for devices
+-- physically; every IOMMU region is well formed for devices; no region has too many rights for its side
 unfoldable pub soundZone : Limits → Configuration → Zone → Bool
-soundZone l c z = allOf (leb (z .id) highestId ∷ soundSet l c (z .cpu) ∷ soundSet l c (z .iommu) ∷ all (offGic c) (z .cpu) ∷ all (wellFormed (l .iommuPage)) (z .iommu) ∷ [])
+soundZone l c z = allOf (leb (z .id) highestId ∷ soundSet l c (z .cpu) ∷ soundSet l c (z .iommu) ∷ all (offGic c) (z .cpu) ∷ all (wellFormed (l .iommuPage)) (z .iommu) ∷ all (modest Cpu) (z .cpu) ∷ all (modest Iommu) (z .iommu) ∷ [])
 
 -- two zones: their ids differ; regions other than the GIC never overlap physically
 abbrev pub idsDiffer : Zone → Zone → Bool

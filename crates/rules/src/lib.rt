@@ -9,11 +9,15 @@ pub struct Guest(pub u64);
 // An address of the machine's memory.
 pub struct Phys(pub u64);
 
+// What may be done with a region: read 1, write 2, execute 4.
+pub struct Rights(pub u64);
+
 // `size` bytes: the guest addresses from `v` on stand for the physical ones from `p` on.
 pub struct Region {
     pub v: Guest,
     pub p: Phys,
     pub size: u64,
+    pub rights: Rights,
 }
 
 // What the check of a configuration finds: nothing, or the first fault with its place. specs/Configuration.antt gives each case

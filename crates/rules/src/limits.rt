@@ -1,6 +1,9 @@
 // Every limit, once: the numbers of specs/Limits.antt for code.
 pub const PAGE: u64 = 4096;
 
+// Read, write and execute together.
+pub const ALL_RIGHTS: u64 = 7;
+
 pub const GUEST_REACH: u64 = 0x100_0000_0000;
 
 pub const PHYS_REACH: u64 = 0x1_0000_0000_0000;
@@ -13,4 +16,9 @@ pub const HIGHEST_ID: u64 = 255;
 
 pub const MOST_IN_SET: usize = 16;
 
-pub const MOST_REQUESTS: u32 = 1024;
+pub const MOST_REQUESTS: u32 = 512;
+
+// The marks of a plan: the GIC's position, the base edition, and the mark of its format.
+pub const MARKS: u32 = 3;
+
+pub const FORMAT: u32 = 2;

@@ -23,6 +23,8 @@ pub const REACH: u32 = 10;
 
 pub const NOT_CONFIGURED: u32 = 11;
 
+pub const TOO_MANY_RIGHTS: u32 = 19;
+
 pub const OVER_GIC: u32 = 12;
 
 pub const REGION_THERE: u32 = 13;

@@ -1,6 +1,6 @@
 // How wide a region and what holds one are: the numbers of specs/Fields.antt and specs/Run.antt for code.
-// The numbers of a region: v, p, size.
-pub const REGION_NUMBERS: usize = 3;
+// The numbers of a region: v, p, size, rights.
+pub const REGION_NUMBERS: usize = 4;
 
 // Bytes of a count, a mark, an id or a kind; of a number of a region.
 pub const SHORT_BYTES: usize = 4;

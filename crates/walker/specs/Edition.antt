@@ -5,6 +5,7 @@ use mathlib.Core.List.{List}
 use lib.Dec.{eqb}
 use lib.ListN.{length}
 use Rattle.formats.specs.Formats.{Out, got, bad}
+use Rattle.rules.specs.Limits.{limits}
 use Rattle.rules.specs.Plan.{marksSection, Marks}
 use Rattle.walker.specs.declared.Edition.{Edition}
 use Rattle.walker.specs.declared.Edition.the-variants.{Is, Bad}
@@ -18,7 +19,7 @@ editionAnswer n (bad k left) = Bad k (n - length left)
 
 -- of any bytes
 abbrev pub editionOf : List ℕ → Edition
-editionOf b = editionAnswer (length b) (marksSection .read b)
+editionOf b = editionAnswer (length b) (marksSection limits .read b)
 
 -- ---- the same, of what a walker finds
 -- a number that is there leads on; one that is missing is 20 at its place
@@ -26,6 +27,9 @@ unfoldable pub orCut : Found → ℕ → (ℕ → Edition) → Edition
 orCut (Number n) at f = f n
 orCut Missing at f = Bad 20 at
 
--- the count, the GIC's position and the edition
-unfoldable pub judged : Found → Found → Found → Edition
-judged count gic edition = orCut count 0 (λ n. cond (eqb n 2) (orCut gic 4 (λ g. orCut edition 8 Is)) (Bad 21 0))
+-- the count, the GIC's position, the edition and the format's mark
+unfoldable pub judged : Found → Found → Found → Found → Edition
+judged count gic edition format =
+    orCut count 0 (λ n. cond (eqb n 3)
+    (orCut gic 4 (λ g. orCut edition 8 (λ e. orCut format 12 (λ f. cond (eqb f 2) (Is e) (Bad 21 12)))))
+    (Bad 21 0))

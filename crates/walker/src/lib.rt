@@ -1,7 +1,8 @@
 // A walker over a plan: the lent bytes and the place in them, kept together. The reading is in `step_at` and the judging in `judge`, whose
 // parameters are plain; the walker's own functions only take it apart and pass it on.
 use fields::u32_at;
-use plan::MARKS;
+use rules::limits::FORMAT;
+use rules::limits::MARKS;
 use rules::numbers::COUNT;
 use rules::numbers::CUT;
 use rules::widths::SHORT_BYTES;
@@ -9,10 +10,12 @@ ghost use mathlib.Core.Path.{_≡_};
 ghost use Rattle.walker.specs.Walker.{stepAt, startOf, nextOf};
 ghost use Rattle.walker.specs.Edition.{judged, editionOf};
 
-// Where the two marks stand, behind their count.
+// Where the marks stand, behind their count.
 const GIC_AT: usize = SHORT_BYTES;
 
 const EDITION_AT: usize = 2 * SHORT_BYTES;
+
+const FORMAT_AT: usize = 3 * SHORT_BYTES;
 
 pub struct Walker<'a> {
     pub plan: &'a [u8],
@@ -85,9 +88,10 @@ impl<'a> Walker<'a> {
     }
 }
 
-// The three numbers at a plan's start, in the order of the file: the count is judged before the marks are looked at.
-fn judge(count: Found, gic: Found, edition: Found) -> Edition
-    ensures { λ r. ⌜ r ≡ judged count gic edition ⌝ }
+// The four numbers at a plan's start, in the order of the file: the count is judged before the marks are looked at, and the format's mark
+// as it is read.
+fn judge(count: Found, gic: Found, edition: Found, format: Found) -> Edition
+    ensures { λ r. ⌜ r ≡ judged count gic edition format ⌝ }
 {
     let Found::Number(marks) = count else {
         return Edition::Bad { number: CUT, at: 0 };
@@ -110,6 +114,18 @@ fn judge(count: Found, gic: Found, edition: Found) -> Edition
             at: EDITION_AT,
         };
     };
+    let Found::Number(mark) = format else {
+        return Edition::Bad {
+            number: CUT,
+            at: FORMAT_AT,
+        };
+    };
+    if mark != FORMAT {
+        return Edition::Bad {
+            number: COUNT,
+            at: FORMAT_AT,
+        };
+    }
     Edition::Is(named)
 }
 
@@ -120,5 +136,6 @@ pub fn edition_of(plan: &[u8]) -> Edition
     let count = Walker::new(plan).next();
     let gic = count.walker.next();
     let edition = gic.walker.next();
-    judge(count.found, gic.found, edition.found)
+    let format = edition.walker.next();
+    judge(count.found, gic.found, edition.found, format.found)
 }

@@ -22,13 +22,14 @@ use Rattle.lists.proofs.Tests.{or-left, parts}
 use Rattle.rules.specs.Configuration.{gicOf, Configuration}
 use Rattle.rules.specs.Limits.{mostZones, highestId, mostInSet, limits, pageOf}
 use Rattle.rules.specs.Regions.{wellFormed, regionEq, physOverlap, guestOverlap, noRegion}
+use Rattle.rules.specs.Tables.{excessive, modest}
 use Rattle.rules.specs.Tables.{noZone, hasId, configured, guestApart, offGic, soundSet, soundZone, idsDiffer}
 use Rattle.rules.specs.Tables.{zonesApart, Zone}
 use Rattle.rules.specs.declared.Region.{Region}
 use Rattle.rules.specs.declared.Side.{Side}
 use Rattle.rules.specs.declared.Side.the-variants.{Cpu, Iommu}
 use Rattle.zones.specs.Holding.{holds, heldOnce, heldAt, heldApart, newId, atRecord, atZone, apartFrom}
-use Rattle.zones.specs.Holding.{apartAfter}
+use Rattle.zones.specs.Holding.{usedWell, apartAfter}
 use Rattle.zones.specs.Layout.{setBase}
 use Rattle.zones.specs.Records.{recordAt, recordsAt}
 use Rattle.zones.specs.View.{configIn, ConfigPassed, recordIn, setIn, zoneIn, zonesIn}
@@ -102,6 +103,14 @@ module _ (c : Configuration) (e g : Region) (t : Bool) where
 
   pub gic-clear : g ≡ gicOf c → t ≡ physOverlap e g → t ≡ false → offGic c e ≡ true
   gic-clear q h f = ap not (ap (physOverlap e) (sym q) ∙ sym h ∙ f)
+
+-- a region and the rights of its side
+module _ (s : Side) (e : Region) (t : Bool) where
+  pub rights-hit : t ≡ excessive s e → t ≡ true → modest s e ≡ false
+  rights-hit h f = ap not (sym h ∙ f)
+
+  pub rights-clear : t ≡ excessive s e → t ≡ false → modest s e ≡ true
+  rights-clear h f = ap not (sym h ∙ f)
 
 -- ---- the zones
 module _ (w : List ℕ) where
@@ -259,11 +268,9 @@ all-formed w xs ok e =
     (all-at (configured (configIn w)) xs noRegion (parts _ e .1 .0) i h) in
     ap (wellFormed (limits .page)) q ∙ config-sound w ok .formed j l)
 
-pub formed-last : (w : List ℕ) (xs : List Region) (s b t : Bool) → ConfigPassed w → s ≡ soundSet limits (configIn w) xs
-    → not s ≡ false → b ≡ t → b ≡ allOf (t ∷ all (wellFormed (limits .iommuPage)) xs ∷ [])
-unfolding allOf
-formed-last w xs s b t ok e f h = rw (all-formed w xs ok (sym e ∙ not-false s f)) (h ∙ ends t)
-  where
-    ends : (x : Bool) → x ≡ (x && (true && true))
-    ends true = refl
-    ends false = refl
+pub used-last : (w : List ℕ) (cpu iommu : List Region) (s b : Bool) → ConfigPassed w
+    → s ≡ soundSet limits (configIn w) iommu → not s ≡ false → b ≡ usedWell (configIn w) cpu iommu
+    → b ≡ allOf (all (offGic (configIn w)) cpu ∷ all (wellFormed (limits .iommuPage)) iommu ∷ all (modest Cpu) cpu
+    ∷ all (modest Iommu) iommu ∷ [])
+unfolding allOf usedWell
+used-last w cpu iommu s b ok e f h = rw (all-formed w iommu ok (sym e ∙ not-false s f)) h

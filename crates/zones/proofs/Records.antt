@@ -21,11 +21,12 @@ use Rattle.zones.specs.Layout.{regionWords}
 use Rattle.zones.specs.Records.{regionAt, wordsOfRegion, recordAt, recordsAt, placed, holdsAt}
 use Rattle.zones.specs.declared.words.By.{By}
 
-pub read-record : (w : List ℕ) (k : ℕ) → regionOf (getD w k 0) (getD w (k + 1) 0) (getD w (k + 2) 0) ≡ regionAt w k
+pub read-record : (w : List ℕ) (k : ℕ)
+    → regionOf (getD w k 0) (getD w (k + 1) 0) (getD w (k + 2) 0) (getD w (k + 3) 0) ≡ regionAt w k
 unfolding regionAt
 read-record w k =
     let z : k ≡ k + 0 = omega arith in
-    ap (λ (j : ℕ). regionOf (getD w j 0) (getD w (k + 1) 0) (getD w (k + 2) 0)) z
+    ap (λ (j : ℕ). regionOf (getD w j 0) (getD w (k + 1) 0) (getD w (k + 2) 0) (getD w (k + 3) 0)) z
 
 pub record-read : (w : List ℕ) (b i : ℕ) (e : Region) → e ≡ regionAt w (b + i * regionWords) → e ≡ recordAt w b i
 unfolding recordAt
@@ -51,12 +52,14 @@ alike-told by how r e t q h = h ∙ ap (λ (b : By). alikeBy b r e) (sym q)
 
 -- ---- the words of a record
 pub region-stored : (w : List ℕ) (k : ℕ) (r : Region)
-    → set (set (set w k (r .v .0)) (k + 1) (r .p .0)) (k + 2) (r .size) ≡ sets w k (wordsOfRegion r)
+    → set (set (set (set w k (r .v .0)) (k + 1) (r .p .0)) (k + 2) (r .size)) (k + 3) (r .rights .0)
+    ≡ sets w k (wordsOfRegion r)
 unfolding wordsOfRegion numbersOf
 region-stored w k r =
     let e : k + 1 ≡ suc k = omega arith in
     let f : k + 2 ≡ suc (suc k) = omega arith in
-    ap₂ (λ (i j : ℕ). set (set (set w k (r .v .0)) i (r .p .0)) j (r .size)) e f
+    let g : k + 3 ≡ suc (suc (suc k)) = omega arith in
+    (λ i. set (set (set (set w k (r .v .0)) (e i) (r .p .0)) (f i) (r .size)) (g i) (r .rights .0))
 
 pub region-wide : (r : Region) → length (wordsOfRegion r) ≡ regionWords
 unfolding wordsOfRegion

@@ -89,10 +89,10 @@ module _ (b : List ℕ) (at e : ℕ) where
   request-room h l = omega (arith, length-take (e - at) (drop at b), length-drop at b)
 
 -- a region and a request, from what is read of their own bytes
-pub bytes-read : (b : List ℕ) (v p size : ℕ) → v ≡ little (part 0 8 b) → p ≡ little (part 8 8 b)
-    → size ≡ little (part 16 8 b) → regionOf v p size ≡ regionIn b 0
+pub bytes-read : (b : List ℕ) (v p size rights : ℕ) → v ≡ little (part 0 8 b) → p ≡ little (part 8 8 b)
+    → size ≡ little (part 16 8 b) → rights ≡ little (part 24 8 b) → regionOf v p size rights ≡ regionIn b 0
 unfolding regionIn
-bytes-read b v p size ev ep es = λ i. regionOf (ev i) (ep i) (es i)
+bytes-read b v p size rights ev ep es er = λ i. regionOf (ev i) (ep i) (es i) (er i)
 
 pub request-read : (b : List ℕ) (kind zone : ℕ) (r : Region) (q : Request) → kind ≡ little (part 0 4 b)
     → zone ≡ little (part 4 4 b) → r ≡ regionIn (take (requestSize - 8) (drop 8 b)) 0

@@ -58,7 +58,7 @@ byte-covers a r =
     overlap-shared a 1 (r .v .0) (r .size) .1 (a, ((omega arith, omega arith), (omega arith, omega arith))))
 
 pub covering-found : (a k : ℕ) (xs : List Region)
-    → k ≡ firstIndex (alikeBy ByGuest (regionOf a 0 1)) xs
+    → k ≡ firstIndex (alikeBy ByGuest (regionOf a 0 1 0)) xs
     → k ≡ firstIndex (coversGuest a) xs
 covering-found a k xs e = e ∙ ap (λ (p : Region → Bool). firstIndex p xs) (fun-ext (byte-covers a))
 

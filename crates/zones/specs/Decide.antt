@@ -1,7 +1,7 @@
 -- Requests decided on: refused with a number, or a change to the table; and the change made.
 use Prim.Native.Nat.{ℕ, _<_}
 use mathlib.Core.Bool.{Bool, true, not, _&&_}
-use mathlib.Core.List.{List, _∷_, map}
+use mathlib.Core.List.{List, [], _∷_, map}
 use mathlib.Core.Path.{_≡_}
 use lib.Dec.{ltb}
 use lib.ListN.{length}
@@ -11,8 +11,8 @@ use Rattle.rules.specs.Changes.{setAt, added, pushed, cut, dropped}
 use Rattle.rules.specs.Configuration.{gicOf, Configuration}
 use Rattle.rules.specs.Limits.{mostZones, highestId, mostInSet, limits}
 use Rattle.rules.specs.Regions.{regionEq}
-use Rattle.rules.specs.Requests.{find, others, addRules, removeZoneRules, insertRules, removeRules}
-use Rattle.rules.specs.Tables.{sound, Zone}
+use Rattle.rules.specs.Requests.{find, others, onGic, addRules, removeZoneRules, insertRules, removeRules}
+use Rattle.rules.specs.Tables.{excessive, sound, Zone}
 use Rattle.rules.specs.declared.Kind.{Kind}
 use Rattle.rules.specs.declared.Kind.the-variants.{AddZone, RemoveZone, Insert, Remove, NoRequest}
 use Rattle.rules.specs.declared.Region.{Region}
@@ -27,6 +27,10 @@ use Rattle.zones.specs.declared.decide.Change.the-variants.{Refuse, Add,
 -- the rules with a change in the place of 0: the first number that applies refuses
 abbrev pub refusing : List (Rule ℕ) → List (Rule Change)
 refusing rs = map (λ (r : Rule ℕ). Refuse (r .0) when r .1) rs
+
+-- 19 and 12, which look at how a region is to be used
+unfoldable pub useRules : Configuration → Side → Region → List (Rule ℕ)
+useRules c s r = 19 when excessive s r ∷ 12 when onGic c s r ∷ []
 
 unfoldable pub decidedAdd : ℕ → List Zone → Change
 decidedAdd id t = firstRule (refusing (4 when ltb highestId id ∷ addRules limits id t)) (Add id)

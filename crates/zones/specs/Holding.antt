@@ -1,17 +1,19 @@
 -- Which zones hold a region: how the check tells that two zones share none.
 use Prim.Native.Nat.{ℕ, _+_, _-_}
 use mathlib.Core.Bool.{Bool, not, _&&_, _||_}
-use mathlib.Core.List.{List}
+use mathlib.Core.List.{List, [], _∷_}
 use lib.Dec.{eqb}
 use lib.ListN.{length, getD}
 use Rattle.lists.specs.First.{firstIndex, any, all}
 use Rattle.lists.specs.Pairs.{pairwise}
 use Rattle.lists.specs.Places.{places}
+use Rattle.lists.specs.Tests.{allOf}
 use Rattle.rules.specs.Configuration.{Configuration}
 use Rattle.rules.specs.Regions.{regionEq, noRegion}
-use Rattle.rules.specs.Tables.{noZone, hasId, regionsOf, guestApart, Zone}
+use Rattle.rules.specs.Tables.{noZone, hasId, regionsOf, guestApart, offGic, modest, Zone}
 use Rattle.rules.specs.declared.Region.{Region}
 use Rattle.rules.specs.declared.Side.{Side}
+use Rattle.rules.specs.declared.Side.the-variants.{Cpu, Iommu}
 use Rattle.zones.specs.View.{recordIn, setIn, zoneIn}
 
 -- the zone holds the region, on either side
@@ -33,6 +35,10 @@ heldApart c t = all (heldAt c t) (places 0 (length (c .regions)))
 -- the id at z is that of no earlier zone
 unfoldable pub newId : List Zone → ℕ → Bool
 newId t z = eqb (firstIndex (hasId (getD t z noZone .id)) t) z
+
+-- how the regions of the two sets are used: none of the CPU's overlaps the GIC, and none has too many rights
+unfoldable pub usedWell : Configuration → List Region → List Region → Bool
+usedWell c cpu iommu = allOf (all (offGic c) cpu ∷ all (modest Cpu) cpu ∷ all (modest Iommu) iommu ∷ [])
 
 -- ---- tests place by place
 -- of record i of a set, of zone z

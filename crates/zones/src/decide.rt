@@ -10,6 +10,7 @@ use crate::table::set_len;
 use crate::table::zone_count;
 use crate::words::By;
 use region::in_reach;
+use region::is_excessive;
 use region::phys_overlap;
 use region::region_eq;
 use region::well_formed;
@@ -31,6 +32,7 @@ use rules::numbers::PHYSICAL_OVERLAP;
 use rules::numbers::REACH;
 use rules::numbers::REGION_THERE;
 use rules::numbers::SET_FULL;
+use rules::numbers::TOO_MANY_RIGHTS;
 use rules::numbers::ZONE_ID_TOO_HIGH;
 use rules::numbers::ZONE_IN_USE;
 use rules::numbers::ZONE_THERE;
@@ -44,7 +46,7 @@ ghost use Rattle.lists.specs.Rules.{firstRule};
 ghost use Rattle.rules.specs.Limits.{limits};
 ghost use Rattle.rules.specs.Tables.{configured};
 ghost use Rattle.rules.specs.Requests.{others, holdsAny, onGic, regionRules, setRules};
-ghost use Rattle.zones.specs.Decide.{decided, decidedAdd, decidedDrop, decidedInsert, decidedCut, Ready, sharedElsewhere};
+ghost use Rattle.zones.specs.Decide.{useRules, decided, decidedAdd, decidedDrop, decidedInsert, decidedCut, Ready, sharedElsewhere};
 ghost use Rattle.zones.specs.Holding.{holds};
 ghost use Rattle.zones.specs.View.{configIn, ConfigPassed, zonesIn};
 ghost use Rattle.zones.specs.Words.{Within};
@@ -164,7 +166,7 @@ fn holds_any(t: &[u64; TABLE_WORDS], z: usize) -> bool
     0 < set_len(t, z, Side::Iommu)
 }
 
-// The numbers that look at the region and the configuration: 9 to 12.
+// The numbers that look at the region and the configuration: 9 to 11, 19 and 12.
 fn refuse_region(c: &[u64; CONFIG_WORDS], side: Side, r: Region) -> u32
     requires { ⌜ ConfigPassed (now c) ⌝ }
     ensures { λ n. ⌜ n ≡ firstRule (regionRules limits (configIn (now (c .entry))) side r) 0 ⌝ }
@@ -177,6 +179,17 @@ fn refuse_region(c: &[u64; CONFIG_WORDS], side: Side, r: Region) -> u32
     }
     if !is_configured(c, r) {
         return NOT_CONFIGURED;
+    }
+    refuse_use(c, side, r)
+}
+
+// Those of them that look at how the region is to be used.
+fn refuse_use(c: &[u64; CONFIG_WORDS], side: Side, r: Region) -> u32
+    requires { ⌜ ConfigPassed (now c) ⌝ }
+    ensures { λ n. ⌜ n ≡ firstRule (useRules (configIn (now (c .entry))) side r) 0 ⌝ }
+{
+    if is_excessive(side, r) {
+        return TOO_MANY_RIGHTS;
     }
     if on_gic(c, side, r) {
         return OVER_GIC;

@@ -19,6 +19,7 @@ use crate::table::set_len;
 use crate::table::zone_count;
 use crate::words::By;
 use region::guest_overlap;
+use region::is_excessive;
 use region::phys_overlap;
 use rules::Checked;
 use rules::Region;
@@ -35,8 +36,8 @@ ghost use Rattle.lists.specs.Pairs.{pairwise};
 ghost use Rattle.rules.specs.Requests.{standing};
 ghost use Rattle.rules.specs.declared.Side.{Side};
 ghost use Rattle.rules.specs.Limits.{mostRegions, mostZones, mostInSet, limits};
-ghost use Rattle.rules.specs.Tables.{configured, guestApart, offGic, soundSet, soundZone, idsDiffer, sound, checkTable};
-ghost use Rattle.zones.specs.Holding.{holds, heldOnce, heldAt, heldApart, apartAfter};
+ghost use Rattle.rules.specs.Tables.{modest, configured, guestApart, offGic, soundSet, soundZone, idsDiffer, sound, checkTable};
+ghost use Rattle.zones.specs.Holding.{usedWell, holds, heldOnce, heldAt, heldApart, apartAfter};
 ghost use Rattle.zones.specs.View.{storedConfig, storedTable, configIn, ConfigPassed, setIn, zoneIn, zonesIn};
 ghost use Rattle.zones.specs.Words.{Within};
 
@@ -130,7 +131,21 @@ fn zone_sound(c: &[u64; CONFIG_WORDS], t: &[u64; TABLE_WORDS], keys: &[u64], z: 
     if !set_sound(c, t, keys, z, Side::Iommu) {
         return false;
     }
-    off_gic(c, t, z)
+    used_well(c, t, z)
+}
+
+// How the regions of a zone are used: none of its processor overlaps the GIC, and none has too many rights.
+fn used_well(c: &[u64; CONFIG_WORDS], t: &[u64; TABLE_WORDS], z: usize) -> bool
+    requires { ⌜ ((ConfigPassed (now c) × (z < mostZones)) × (length (setIn (now t) z Side.Cpu) ≤ mostInSet)) × (length (setIn (now t) z Side.Iommu) ≤ mostInSet) ⌝ }
+    ensures { λ b. ⌜ b ≡ usedWell (configIn (now (c .entry))) (setIn (now (t .entry)) z Side.Cpu) (setIn (now (t .entry)) z Side.Iommu) ⌝ }
+{
+    if !off_gic(c, t, z) {
+        return false;
+    }
+    if !set_modest(t, z, Side::Cpu) {
+        return false;
+    }
+    set_modest(t, z, Side::Iommu)
 }
 
 fn set_sound(
@@ -211,6 +226,22 @@ fn off_gic(c: &[u64; CONFIG_WORDS], t: &[u64; TABLE_WORDS], z: usize) -> bool
     let mut i = 0;
     while i < n {
         if phys_overlap(region_at(t, z, Side::Cpu, i), gic) {
+            return false;
+        }
+        i += 1;
+    }
+    true
+}
+
+// Whether no region of a set has too many rights for its side.
+fn set_modest(t: &[u64; TABLE_WORDS], z: usize, side: Side) -> bool
+    requires { ⌜ (z < mostZones) × (length (setIn (now t) z side) ≤ mostInSet) ⌝ }
+    ensures { λ b. ⌜ b ≡ all (modest side) (setIn (now (t .entry)) z side) ⌝ }
+{
+    let n = set_len(t, z, side);
+    let mut i = 0;
+    while i < n {
+        if is_excessive(side, region_at(t, z, side, i)) {
             return false;
         }
         i += 1;

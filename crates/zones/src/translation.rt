@@ -14,6 +14,7 @@ use crate::words::count_words;
 use rules::Guest;
 use rules::Phys;
 use rules::Region;
+use rules::Rights;
 use rules::Side;
 use rules::Translated;
 use rules::limits::HIGHEST_ID;
@@ -91,6 +92,7 @@ fn find_covering(t: &[u64; TABLE_WORDS], z: usize, side: Side, a: Guest) -> usiz
         v: a,
         p: Phys(0),
         size: 1,
+        rights: Rights(0),
     };
     set_find(t, z, side, By::Guest, byte)
 }

@@ -7,6 +7,7 @@ use region::region_eq;
 use rules::Guest;
 use rules::Phys;
 use rules::Region;
+use rules::Rights;
 ghost use Prim.Native.Nat.{_+_, _-_, _*_, _≤_};
 ghost use mathlib.Core.Path.{_≡_};
 ghost use lib.Dec.{eqb};
@@ -62,6 +63,7 @@ pub fn is_used(r: Region) -> bool
         v: Guest(0),
         p: Phys(0),
         size: 0,
+        rights: Rights(0),
     };
     !region_eq(r, none)
 }
@@ -75,6 +77,7 @@ pub fn read_region(s: &[u64], k: usize) -> Region
         v: Guest(s[k]),
         p: Phys(s[k + 1]),
         size: s[k + 2],
+        rights: Rights(s[k + 3]),
     }
 }
 
@@ -86,6 +89,7 @@ pub fn write_region(s: &mut [u64], k: usize, r: Region)
     s[k] = r.v.0;
     s[k + 1] = r.p.0;
     s[k + 2] = r.size;
+    s[k + 3] = r.rights.0;
 }
 
 // The same at any word; where the record has no room, nothing is written.
@@ -122,10 +126,12 @@ pub fn region_in(s: &[u8]) -> Region
     let v = u64_at(s, 0);
     let p = u64_at(s, 8);
     let size = u64_at(s, 16);
+    let rights = u64_at(s, 24);
     Region {
         v: Guest(v),
         p: Phys(p),
         size,
+        rights: Rights(rights),
     }
 }
 

@@ -5,7 +5,8 @@
 
 use ordinary::limits::{GUEST_REACH, MAX_ID, MAX_IN_SET, MAX_REGIONS, MAX_REQUESTS, MAX_ZONES, PAGE, PHYS_REACH};
 
-const MARKS: usize = 2;
+const MARKS: usize = 3;
+const FORMAT: usize = 2;
 const REGION_BYTES: usize = Region::NUMBERS * 8;
 const REQUEST_BYTES: usize = 4 + 4 + REGION_BYTES;
 
@@ -18,6 +19,7 @@ pub struct Region {
     pub v: u64,
     pub p: u64,
     pub size: u64,
+    pub rights: u64,
 }
 
 #[derive(Clone, Debug)]
@@ -73,16 +75,25 @@ pub struct Request {
 }
 
 impl Region {
-    pub const NUMBERS: usize = 3;
+    pub const NUMBERS: usize = 4;
 
     pub const ZERO: Region = Region::from_numbers([0; Region::NUMBERS]);
 
-    pub const fn from_numbers([v, p, size]: [u64; Region::NUMBERS]) -> Region {
-        Region { v, p, size }
+    pub const fn from_numbers([v, p, size, rights]: [u64; Region::NUMBERS]) -> Region {
+        Region { v, p, size, rights }
     }
 
     fn is_well_formed(&self) -> bool {
-        self.size > 0 && (self.v | self.p | self.size) % PAGE == 0
+        self.size > 0 && (self.v | self.p | self.size) % PAGE == 0 && (1..=7).contains(&self.rights)
+    }
+
+    /// Whether it may be executed by devices, or written and executed by the processor.
+    fn is_excessive(&self, side: Side) -> bool {
+        let forbidden = match side {
+            Side::Cpu => 6,
+            Side::Iommu => 4,
+        };
+        self.rights & forbidden == forbidden
     }
 
     fn is_in_reach(&self) -> bool {
@@ -208,7 +219,8 @@ impl Zone {
         self.id <= u64::from(MAX_ID)
             && self.cpu.is_sound(config)
             && self.iommu.is_sound(config)
-            && !self.cpu.regions().iter().any(|region| region.overlaps_physically(config.gic()))
+            && !self.cpu.regions().iter().any(|region| region.overlaps_physically(config.gic()) || region.is_excessive(Side::Cpu))
+            && !self.iommu.regions().iter().any(|region| region.is_excessive(Side::Iommu))
     }
 
     fn is_empty(&self) -> bool {
@@ -331,6 +343,9 @@ impl Table {
         if !config.regions().contains(&region) {
             return Err(11);
         }
+        if region.is_excessive(side) {
+            return Err(19);
+        }
         if side == Side::Cpu && region.overlaps_physically(config.gic()) {
             return Err(12);
         }
@@ -447,6 +462,7 @@ impl<'a> Plan<'a> {
         let mut reader = Reader { bytes, at: 0 };
         reader.count(MARKS, MARKS)?;
         let (gic, edition) = (reader.number()?, reader.number()?);
+        reader.count(FORMAT, FORMAT)?;
         let regions = reader.regions(1, MAX_REGIONS)?;
         let zones_at = reader.at;
         for _ in 0..reader.count(0, MAX_ZONES)? {
@@ -584,7 +600,7 @@ mod tests {
     }
 
     fn numbers_of(region: &Region) -> [u64; Region::NUMBERS] {
-        [region.v, region.p, region.size]
+        [region.v, region.p, region.size, region.rights]
     }
 
     fn ask(case: &Case, state: &mut State) -> Answer {

@@ -88,7 +88,7 @@ impl Terminal {
 }
 
 fn pages(count: usize) -> ordinary::Config {
-    let page = |number: u64| Region::new(number * PAGE, number * PAGE, PAGE);
+    let page = |number: u64| Region::new(number * PAGE, number * PAGE, PAGE, 3);
     ordinary::Config { regions: (1..=count as u64).map(page).collect(), gic: count - 1 }
 }
 
@@ -330,7 +330,7 @@ pub fn all() -> Vec<Job> {
     let full_name = format!("{MAX_REGIONS} regions, {MAX_ZONES} zones");
     vec![
         accepted(&format!("request 14's plan, {full_name}"), full.clone(), &all_zones(&full, 512)),
-        accepted(&format!("longest accepted plan, {full_name}"), full.clone(), &one_region(&full, MAX_REQUESTS)),
+        accepted(&format!("as many requests in one zone, {full_name}"), full.clone(), &one_region(&full, MAX_REQUESTS)),
         accepted("large plan, 64 regions, 8 zones", large.clone(), &one_region(&large, 64)),
         accepted("typical plan, 16 regions, 4 zones", typical.clone(), &one_region(&typical, 16)),
         accepted("small plan, 4 regions, 2 zones", small.clone(), &one_region(&small, 2)),

@@ -5,7 +5,7 @@ use ordinary::limits::{GUEST_REACH, MAX_REGIONS, PAGE, PHYS_REACH};
 use ordinary::{ConfigWords, Region, CONFIG_WORDS};
 
 use crate::book::Book;
-use crate::given::{config_words, with_word, AT_THE_REACHES, G, P, SIZE, V};
+use crate::given::{config_words, with_rights, with_word, ALL_RIGHTS, AT_THE_REACHES, G, P, RIGHTS, SIZE, V};
 
 /// The last page of 64-bit addresses.
 const LAST_PAGE: u64 = PAGE.wrapping_neg();
@@ -21,13 +21,14 @@ pub fn add(book: &mut Book) {
         one_fault(book, place, i);
     }
     reaches(book);
+    rights(book);
     overlaps(book);
     two_faults(book);
 }
 
 /// So many regions of one page each, every second page left free, all at guest address 0; position 0 is the GIC.
 fn sound(count: usize) -> ConfigWords {
-    let regions: Vec<Region> = (0..count).map(|i| Region::new(0, start(i), PAGE)).collect();
+    let regions: Vec<Region> = (0..count).map(|i| Region::new(0, start(i), PAGE, 3)).collect();
     config_words(&regions, 0)
 }
 
@@ -54,7 +55,7 @@ fn few(book: &mut Book) {
 }
 
 fn past_the_count(book: &mut Book) {
-    for (name, word) in [("v", V), ("p", P), ("size", SIZE)] {
+    for (name, word) in [("v", V), ("p", P), ("size", SIZE), ("rights", RIGHTS)] {
         book.ask_config(format!("{name} after the count"), poked(sound(3), &[(3, word, 1)]));
         book.ask_config(format!("{name} in the last record"), poked(sound(3), &[(LAST, word, u64::MAX)]));
     }
@@ -101,6 +102,11 @@ fn one_fault(book: &mut Book, place: &str, i: usize) {
         ("v ends at 2^40", V, GUEST_REACH - PAGE),
         ("v ends at 2^48", V, PHYS_REACH - PAGE),
         ("p ends at 2^48", P, PHYS_REACH - PAGE),
+        ("rights 0", RIGHTS, 0),
+        ("all rights", RIGHTS, ALL_RIGHTS),
+        ("rights 8", RIGHTS, 8),
+        ("rights 3 + 2^32", RIGHTS, 3 + (1 << 32)),
+        ("rights 2^64 - 1", RIGHTS, u64::MAX),
     ] {
         book.ask_config(format!("{place}, {name}"), poked(all(), &[(i, word, x)]));
     }
@@ -110,6 +116,14 @@ fn one_fault(book: &mut Book, place: &str, i: usize) {
 fn reaches(book: &mut Book) {
     for (name, region, is_in_reach) in AT_THE_REACHES {
         book.ask_config(name, config_words(&[G, region], 0)).known(if is_in_reach { 0 } else { 5 });
+    }
+}
+
+/// The GIC with each number as its rights: a configuration may have what no zone may hold.
+fn rights(book: &mut Book) {
+    for rights in 0..=2 * ALL_RIGHTS {
+        let number = if (1..=ALL_RIGHTS).contains(&rights) { 0 } else { 4 };
+        book.ask_config(format!("rights {rights}"), config_words(&[with_rights(G, rights)], 0)).known(number);
     }
 }
 
@@ -133,7 +147,7 @@ fn overlaps(book: &mut Book) {
 
 /// The lower position counts, and at one position the lower number.
 fn two_faults(book: &mut Book) {
-    let faults = [("form", SIZE, 0), ("reach", P, PHYS_REACH), ("overlap", P, 0)];
+    let faults = [("form", SIZE, 0), ("rights", RIGHTS, 0), ("reach", P, PHYS_REACH), ("overlap", P, 0)];
     for (first, at_3, x) in faults {
         for (second, at_5, y) in faults.into_iter().filter(|fault| fault.0 != first) {
             book.ask_config(format!("{first} at 3, {second} at 5"), poked(all(), &[(3, at_3, x), (5, at_5, y)]));

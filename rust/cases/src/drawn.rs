@@ -5,7 +5,7 @@ use ordinary::limits::{MAX_ID, MAX_IN_SET, MAX_REGIONS, MAX_ZONES, PAGE};
 use ordinary::{Config, ConfigWords, Region, Side, Table, TableWords, Zone, TABLE_WORDS};
 
 use crate::book::Book;
-use crate::given::{reach_of, table_words, with_p, with_v, with_word, P, SIZE, V};
+use crate::given::{reach_of, table_words, with_p, with_v, with_word, P, RIGHTS, SIZE, V};
 use crate::rng::Rng;
 
 const SIDES: [Side; 2] = [Side::Cpu, Side::Iommu];
@@ -19,14 +19,19 @@ pub fn add(book: &mut Book, rng: &mut Rng) {
 
 // ---- configurations
 
-/// Up to `most` regions: some adjoin, some share guest addresses, some end where reach ends.
+/// Most often to read and write; each of the others now and then.
+fn some_rights(rng: &mut Rng) -> u64 {
+    *rng.pick(&[1, 2, 3, 3, 3, 3, 3, 3, 4, 5, 6, 7])
+}
+
+/// Up to `most` regions: some adjoin, some share guest addresses, some end where reach ends, some have other rights.
 pub fn sound_config(rng: &mut Rng, most: usize) -> Config {
     let mut regions = Vec::new();
     let mut p = *rng.pick(&[0, PAGE, 0x8000_0000]);
     for _ in 0..1 + rng.below(most) {
         p += rng.pick(&[0, 0, PAGE, 16 * PAGE]);
         let size = rng.pick(&[1, 1, 2, 3, 16]) * PAGE;
-        regions.push(Region::new(rng.below(24) as u64 * PAGE, p, size));
+        regions.push(Region::new(rng.below(24) as u64 * PAGE, p, size, some_rights(rng)));
         p += size;
     }
     let last = regions.last_mut().expect("at least one region");
@@ -47,12 +52,15 @@ pub fn poke_config(rng: &mut Rng, words: &ConfigWords) -> ConfigWords {
     let mut places = (0..used).collect::<Vec<_>>().repeat(4);
     places.extend([used.min(MAX_REGIONS - 1), MAX_REGIONS - 1]);
     let record = config_record(*rng.pick(&places));
-    let of_record = [record + V, record + P, record + P, record + SIZE].repeat(4);
+    let of_record = [record + V, record + P, record + P, record + SIZE, record + RIGHTS].repeat(4);
     let at = *rng.pick(&[&[CONFIG_COUNT, CONFIG_GIC], &of_record[..]].concat());
     if at == CONFIG_COUNT || at == CONFIG_GIC {
         const MOST: u64 = MAX_REGIONS as u64;
         let used = used as u64;
         return with_word(*words, at, *rng.pick(&[0, 1, used.max(1) - 1, used, used + 1, MOST, MOST + 1, u64::MAX]));
+    }
+    if at == record + RIGHTS {
+        return with_word(*words, at, rng.below(10) as u64);
     }
     let other = config_record(*rng.pick(&places));
     let near = [words[other + at - record], words[other + rng.below(REGION_WORDS)], words[at].wrapping_add(PAGE)];
@@ -138,7 +146,7 @@ pub fn poke_table(rng: &mut Rng, words: &TableWords) -> TableWords {
     let side = *rng.pick(&SIDES);
     let count = set_count(z, side);
     let record = set_record(z, side, rng.below(just_past(words[count], MAX_IN_SET)));
-    let of_record = [record + V, record + P, record + SIZE].repeat(3);
+    let of_record = [record + V, record + P, record + SIZE, record + RIGHTS].repeat(3);
     let at = *rng.pick(&[&[TABLE_COUNT, zone_id(z), count, TABLE_WORDS - 1], &of_record[..]].concat());
     if at == TABLE_COUNT || at == count {
         let (more, less) = (words[at].wrapping_add(1), words[at].saturating_sub(1));
@@ -147,6 +155,9 @@ pub fn poke_table(rng: &mut Rng, words: &TableWords) -> TableWords {
     }
     if at == zone_id(z) {
         return with_word(*words, at, *rng.pick(&[0, 1, 255, 256, u64::MAX, words[zone_id(0)]]));
+    }
+    if at == record + RIGHTS {
+        return with_word(*words, at, rng.below(10) as u64);
     }
     let other = set_record(rng.below(2), *rng.pick(&SIDES), rng.below(2)) + rng.below(REGION_WORDS);
     let reach = reach_of(at - record);

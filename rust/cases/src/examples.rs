@@ -13,7 +13,7 @@ pub fn add(files: &mut PlanFiles) {
     files.add("first", first().bytes()).is(0, 1);
     let to_another_zone = [of_zone(ADD_ZONE, 6), of_region(CPU_INSERT, 6, B), of_region(IOMMU_INSERT, 6, A), of_zone(ADD_ZONE, 7)];
     files.add("refused", desk().with_requests(&to_another_zone).bytes()).refused(2, 14);
-    files.add("cut", first().bytes()[..60].to_vec()).is(20, 48);
+    files.add("cut", first().bytes()[..80].to_vec()).is(20, 60);
     let two_hold_a = [zone(5, &[A], &[A, G]), zone(6, &[A], &[])];
     files.add("unsound", desk().with_zones(&two_hold_a).bytes()).is(2, 0);
 }
@@ -23,9 +23,9 @@ mod tests {
     use super::*;
     use ordinary::layout::REGION_BYTES;
 
-    /// Document 01's whole plan as it is printed there, without the zero bytes of its last region.
-    const FIRST_PRINTED: &str = "02000000 00000000 00000000 01000000 0000000800000000 0000000800000000 0000010000000000 \
-                                 00000000 01000000 01000000 05000000";
+    /// Document 01's whole plan in the second format, without the zero bytes of its last region.
+    const FIRST_PRINTED: &str = "03000000 00000000 00000000 02000000 01000000 0000000800000000 0000000800000000 0000010000000000 \
+                                 0300000000000000 00000000 01000000 01000000 05000000";
 
     #[test]
     fn the_first_is_the_documents() {

@@ -49,9 +49,10 @@ impl Plan {
     /// Every field in file order.
     pub fn fields(&self) -> Vec<Field> {
         let mut fields = Fields::default();
-        fields.count("marks-count", 2..=2);
+        fields.count("marks-count", 3..=3);
         fields.add("gic-position", NUMBER_BYTES);
         fields.add("edition", NUMBER_BYTES);
+        fields.count("third-mark", 2..=2);
         fields.count("regions-count", 1..=MAX_REGIONS as u32);
         fields.elements("region", self.base.config.regions.len(), REGION_BYTES);
         fields.count("zones-count", 0..=MAX_ZONES as u32);
@@ -75,7 +76,7 @@ pub struct Field {
     pub name: String,
     pub start: usize,
     pub end: usize,
-    /// Of a count, what it may be.
+    /// Of a count, and of the third mark, what it may be.
     pub limits: Option<RangeInclusive<u32>>,
 }
 

@@ -6,7 +6,7 @@ use ordinary::{apply_alone, Config, Record, Region, State, Table, Zone};
 
 use crate::case::{Case, Outcome};
 use crate::fields::{Field, Plan};
-use crate::given::{of_region, of_zone, with_p, with_size, with_v, zone};
+use crate::given::{of_region, of_zone, with_p, with_rights, with_size, with_v, zone};
 use crate::given::{A, ADD_ZONE, B, C, CPU_INSERT, CPU_REMOVE, G, IOMMU_INSERT, IOMMU_REMOVE, REMOVE_ZONE};
 use crate::rng::Rng;
 
@@ -16,11 +16,14 @@ pub const LAST_EDITION: u32 = u32::MAX;
 const LAST_PAGE: u64 = PAGE.wrapping_neg();
 
 // The document's lengths.
-const LEAST_LENGTH: usize = 48;
-const MOST_LENGTH: usize = 63_896;
+const LEAST_LENGTH: usize = 60;
+const MOST_LENGTH: usize = 61_852;
 
 /// A region whose numbers need more than 32 bits, beside the desk's.
-pub const H: Region = Region::new(0x1_0000_0000, 0x12_3456_7000, 0x5000);
+pub const H: Region = Region::new(0x1_0000_0000, 0x12_3456_7000, 0x5000, 3);
+
+/// A region that no zone may hold: it may be written and executed.
+pub const X: Region = Region::new(0x6000_0000, 0xC000_0000, PAGE, 6);
 
 /// A plan file, with what the program prints of it by the ordinary implementation and, where it is known without that, by hand.
 #[derive(Clone, Debug)]
@@ -78,6 +81,7 @@ impl PlanFiles {
 pub fn add(files: &mut PlanFiles, rng: &mut Rng) {
     accepted_plans(files);
     lengths(files);
+    formats(files);
     cuts(files);
     counts(files);
     too_many(files);
@@ -99,7 +103,7 @@ pub fn add(files: &mut PlanFiles, rng: &mut Rng) {
 /// Regions of a page each, apart from one another and from the others.
 pub fn page(k: usize) -> Region {
     let offset = k as u64 * 2 * PAGE;
-    Region::new(0x5000_0000 + offset, 0xA000_0000 + offset, PAGE)
+    Region::new(0x5000_0000 + offset, 0xA000_0000 + offset, PAGE, 3)
 }
 
 fn pages(positions: std::ops::Range<usize>) -> Vec<Region> {
@@ -108,7 +112,7 @@ fn pages(positions: std::ops::Range<usize>) -> Vec<Region> {
 
 /// A plan with all there is to damage: three zones, both sets in use, and a request of each kind.
 pub fn rich() -> Plan {
-    let config = Config { regions: vec![A, B, C, G, H], gic: 3 };
+    let config = Config { regions: vec![A, B, C, G, H, X], gic: 3 };
     let zones = vec![zone(9, &[A, H], &[A, G]), zone(200, &[B], &[G]), zone(0, &[], &[])];
     let requests = vec![
         of_zone(ADD_ZONE, 77),
@@ -213,10 +217,33 @@ fn lengths(files: &mut PlanFiles) {
     files.add("longest-sound-last-request-refused", sound.with_requests(&last_refused).bytes()).refused(last, 7);
 }
 
+// ---- formats
+
+/// Document 01's whole plan as it stood in the first format; and another third mark before a regions' count that is out of range too.
+fn formats(files: &mut PlanFiles) {
+    let second = first().bytes();
+    let region = first().field("region-0");
+    let request = first().field("request-0");
+    let three_numbers = |bytes: &[u8]| bytes[..bytes.len() - 8].to_vec();
+    let of_first = [
+        &[2, 0, 0, 0],
+        &second[4..12],
+        &second[16..region.start],
+        &three_numbers(&second[region.start..region.end]),
+        &second[region.end..request.start],
+        &three_numbers(&second[request.start..]),
+    ];
+    files.add("first-of-document-01-in-the-first-format", of_first.concat()).is(21, 0);
+    let no_regions = with_number(&second, 16, 0);
+    files.add("third-mark-of-a-log", with_number(&second, 12, 3)).is(21, 12);
+    files.add("third-mark-and-no-regions", with_number(&no_regions, 12, 1)).is(21, 12);
+    files.add("no-regions", no_regions).is(21, 16);
+}
+
 // ---- cut files
 
-/// One count of each kind in the rich plan.
-const COUNTS: [&str; 5] = ["marks-count", "regions-count", "zones-count", "zone-1-cpu-count", "requests-count"];
+/// One count of each kind in the rich plan, and the third mark.
+const COUNTS: [&str; 6] = ["marks-count", "third-mark", "regions-count", "zones-count", "zone-1-cpu-count", "requests-count"];
 
 /// Before each field of the rich plan, and before the field's last byte: 20 at the field's offset.
 fn cuts(files: &mut PlanFiles) {
@@ -225,9 +252,10 @@ fn cuts(files: &mut PlanFiles) {
         files.add(format!("cut-before-{name}"), bytes[..start].to_vec()).is(20, start);
         files.add(format!("cut-in-{name}"), bytes[..end - 1].to_vec()).is(20, start);
     }
-    for (name, numbers) in
-        [("region-2", &[("v", 8), ("p", 8)][..]), ("request-3", &[("kind", 4), ("zone-id", 4), ("v", 8), ("p", 8)])]
-    {
+    for (name, numbers) in [
+        ("region-2", &[("v", 8), ("p", 8), ("size", 8)][..]),
+        ("request-3", &[("kind", 4), ("zone-id", 4), ("v", 8), ("p", 8), ("size", 8)]),
+    ] {
         let start = plan.field(name).start;
         let mut end = start;
         for (number, length) in numbers {
@@ -289,7 +317,8 @@ fn other_counts(count: u32, least: u32, most: u32) -> Vec<(&'static str, u32)> {
 
 /// As many elements as the limit allows, and one more, of regions and zones one fewer too; all of them are there.
 fn too_many(files: &mut PlanFiles) {
-    for (count, number, place) in [(MAX_REGIONS - 1, 0, 0), (MAX_REGIONS, 0, 0), (MAX_REGIONS + 1, 21, 12)] {
+    let regions_at = least().field("regions-count").start;
+    for (count, number, place) in [(MAX_REGIONS - 1, 0, 0), (MAX_REGIONS, 0, 0), (MAX_REGIONS + 1, 21, regions_at)] {
         let regions = [vec![G], pages(0..count - 1)].concat();
         files.add(format!("{count}-regions"), least().with_regions(&regions).bytes()).is(number, place);
     }
@@ -331,7 +360,7 @@ fn after_the_end(files: &mut PlanFiles) {
 // ---- what the plan says of its base
 
 fn unsound_configurations(files: &mut PlanFiles) {
-    files.add("gic-position-at-the-count", rich().with_gic(5).bytes()).is(1, 0);
+    files.add("gic-position-at-the-count", rich().with_gic(6).bytes()).is(1, 0);
     files.add("gic-position-highest", rich().with_gic(u32::MAX).bytes()).is(1, 0);
     files.add("gic-position-256-more", rich().with_gic(256 + 3).bytes()).is(1, 0);
     for (name, at, region) in [
@@ -341,13 +370,16 @@ fn unsound_configurations(files: &mut PlanFiles) {
         ("last-region-out-of-guest-reach", 4, with_v(H, GUEST_REACH - PAGE)),
         ("last-region-with-an-end-that-wraps", 4, with_p(H, LAST_PAGE)),
         ("two-regions-equal", 4, A),
-        ("a-region-around-another", 4, Region::new(0, B.p.0 - PAGE, 0x40_0000)),
-        ("a-region-over-the-gic", 4, Region::new(0, G.p.0, PAGE)),
+        ("a-region-around-another", 4, Region::new(0, B.p.0 - PAGE, 0x40_0000, 3)),
+        ("a-region-over-the-gic", 4, Region::new(0, G.p.0, PAGE, 3)),
+        ("first-region-without-rights", 0, with_rights(A, 0)),
+        ("last-region-with-a-fourth-right", 4, with_rights(H, 3 + 8)),
+        ("last-region-with-rights-past-their-low-half", 4, with_rights(H, 3 + (1 << 32))),
     ] {
         files.add(name, rich().with_regions(&rich_regions_with(at, region)).bytes()).is(1, 0);
     }
     files.add("all-regions-zero", least().with_regions(&[Region::ZERO]).bytes()).is(1, 0);
-    let last = Region::new(GUEST_REACH - PAGE, PHYS_REACH - PAGE, PAGE);
+    let last = Region::new(GUEST_REACH - PAGE, PHYS_REACH - PAGE, PAGE, 3);
     for (name, number, region) in [
         ("a-region-that-ends-where-reach-ends", 0, last),
         ("a-region-a-page-past-the-guest-reach", 1, with_v(last, GUEST_REACH)),
@@ -372,6 +404,10 @@ fn unsound_zones(files: &mut PlanFiles) {
         ("iommu-region-not-configured", with_middle(zone(200, &[B], &[with_v(G, 0)]))),
         ("region-differs-in-the-high-half-only", with_first(zone(9, &[A, low_half], &[A, G]))),
         ("zero-region-in-a-set", with_last(zone(0, &[Region::ZERO], &[]))),
+        ("cpu-region-with-other-rights", with_first(zone(9, &[with_rights(A, 1), H], &[A, G]))),
+        ("iommu-region-with-other-rights", with_middle(zone(200, &[B], &[with_rights(G, 1)]))),
+        ("cpu-region-with-too-many-rights", with_last(zone(0, &[X], &[]))),
+        ("iommu-region-with-too-many-rights", with_last(zone(0, &[], &[X]))),
         ("guest-overlap-in-a-cpu-set", with_first(zone(9, &[A, C], &[A, G]))),
         ("guest-overlap-in-an-iommu-set", with_last(zone(0, &[], &[C, B]))),
         ("region-twice-in-a-set", with_first(zone(9, &[A, H, A], &[A, G]))),
@@ -414,8 +450,9 @@ fn refusals_at_places(files: &mut PlanFiles) {
         (7, all_zones(), of_zone(ADD_ZONE, 100)),
         (8, rich(), of_zone(REMOVE_ZONE, 200)),
         (9, rich(), of_region(CPU_INSERT, 0, with_size(C, 0x1800))),
-        (10, rich(), of_region(IOMMU_INSERT, 0, Region::new(0, LAST_PAGE, 2 * PAGE))),
+        (10, rich(), of_region(IOMMU_INSERT, 0, Region::new(0, LAST_PAGE, 2 * PAGE, 3))),
         (11, rich(), of_region(CPU_INSERT, 0, with_size(C, PAGE))),
+        (19, rich(), of_region(CPU_INSERT, 0, X)),
         (12, rich(), of_region(CPU_INSERT, 0, G)),
         (13, rich(), of_region(CPU_INSERT, 9, A)),
         (14, rich(), of_region(IOMMU_INSERT, 0, A)),
@@ -441,9 +478,11 @@ fn requests_as_bytes(files: &mut PlanFiles) {
         ("kind-highest-and-zone-id-highest", 3, of_zone(u32::MAX, u32::MAX)),
         ("zone-id-256-more", 4, of_region(CPU_REMOVE, 256 + 9, A)),
         ("zone-id-with-its-highest-byte-set", 4, of_region(CPU_REMOVE, (1 << 24) + 9, A)),
-        ("add-with-v", 3, of_region(ADD_ZONE, 77, Region::new(1 << 63, 0, 0))),
-        ("add-with-p", 3, of_region(ADD_ZONE, 77, Region::new(0, 1 << 32, 0))),
-        ("add-with-size", 3, of_region(ADD_ZONE, 77, Region::new(0, 0, 1))),
+        ("add-with-v", 3, of_region(ADD_ZONE, 77, Region::new(1 << 63, 0, 0, 3))),
+        ("add-with-p", 3, of_region(ADD_ZONE, 77, Region::new(0, 1 << 32, 0, 3))),
+        ("add-with-size", 3, of_region(ADD_ZONE, 77, Region::new(0, 0, 1, 0))),
+        ("add-with-rights", 3, of_region(ADD_ZONE, 77, Region::new(0, 0, 0, 1))),
+        ("add-with-rights-past-their-low-half", 3, of_region(ADD_ZONE, 77, Region::new(0, 0, 0, 1 << 63))),
         ("remove-zone-with-a-region", 3, of_region(REMOVE_ZONE, 0, A)),
         ("insert-off-by-a-byte-and-out-of-reach", 9, of_region(CPU_INSERT, 0, with_v(C, GUEST_REACH + 1))),
         ("insert-where-the-guest-reach-ends", 11, of_region(CPU_INSERT, 0, with_v(C, GUEST_REACH - C.size))),
@@ -452,6 +491,11 @@ fn requests_as_bytes(files: &mut PlanFiles) {
         ("insert-a-page-past-the-physical-reach", 10, of_region(IOMMU_INSERT, 0, with_p(C, PHYS_REACH - C.size + PAGE))),
         ("insert-with-its-highest-bit-set", 10, of_region(CPU_INSERT, 0, with_v(C, C.v.0 + (1 << 63)))),
         ("insert-without-its-high-half", 11, of_region(IOMMU_INSERT, 0, with_p(H, H.p.0 % (1 << 32)))),
+        ("insert-without-rights", 9, of_region(CPU_INSERT, 0, with_rights(C, 0))),
+        ("insert-with-a-fourth-right", 9, of_region(IOMMU_INSERT, 0, with_rights(C, 3 + 8))),
+        ("insert-with-other-rights", 11, of_region(CPU_INSERT, 0, with_rights(C, 1))),
+        ("insert-with-too-many-rights", 19, of_region(IOMMU_INSERT, 0, X)),
+        ("remove-with-other-rights", 17, of_region(CPU_REMOVE, 9, with_rights(A, 1))),
         ("remove-without-its-high-half", 17, of_region(CPU_REMOVE, 9, with_v(H, 0))),
     ] {
         let plan = rich().with_requests(&[accepted, request]);
@@ -502,7 +546,7 @@ fn bad_zones() -> [Zone; 1] {
 const BAD_REQUEST: Record = Record { kind: 0, zone: 0, region: Region::ZERO };
 
 fn two_faults(files: &mut PlanFiles) {
-    let bad_config = rich().with_gic(5);
+    let bad_config = rich().with_gic(6);
     let bad_zones = rich().with_zones(&bad_zones());
     let last = rich().with_edition(LAST_EDITION);
     let bad_request = rich().with_requests(&[BAD_REQUEST]);
@@ -519,7 +563,7 @@ fn two_faults(files: &mut PlanFiles) {
 }
 
 fn all_later_faults(files: &mut PlanFiles) {
-    let bad_config = rich().with_gic(5);
+    let bad_config = rich().with_gic(6);
     let all_later = bad_config.clone().with_edition(LAST_EDITION).with_zones(&bad_zones()).with_requests(&[BAD_REQUEST]);
     let (bytes, requests) = (all_later.bytes(), all_later.field("requests-count").start);
     files.add("cut-and-all-later-faults", bytes[..bytes.len() - 1].to_vec()).is(20, requests + 4);
@@ -567,7 +611,7 @@ mod tests {
     use super::*;
 
     /// The longest of a plan that is accepted: 255 regions twice and the GIC 32 times is all that sound zones can hold.
-    const MOST_SOUND_LENGTH: usize = 52_328;
+    const MOST_SOUND_LENGTH: usize = 46_428;
 
     #[test]
     fn the_lengths_are_the_documents() {

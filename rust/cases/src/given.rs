@@ -1,25 +1,25 @@
 //! What many cases are made from: the document's regions, and short ways to write words, zones and requests.
 
 use ordinary::limits::{GUEST_REACH, MAX_ZONES, PAGE, PHYS_REACH};
-use ordinary::{Config, ConfigWords, Guest, Phys, Record, Region, Table, TableWords, Zone};
+use ordinary::{Config, ConfigWords, Guest, Phys, Record, Region, Rights, Table, TableWords, Zone};
 
 // The desk's regions; G is the GIC's.
-pub const A: Region = Region::new(0x4000_0000, 0x8000_0000, 0x20_0000);
-pub const B: Region = Region::new(0x4000_0000, 0x8020_0000, 0x20_0000);
-pub const C: Region = Region::new(0x4010_0000, 0x9000_0000, 0x20_0000);
-pub const G: Region = Region::new(0x0800_0000, 0x0800_0000, 0x1_0000);
+pub const A: Region = Region::new(0x4000_0000, 0x8000_0000, 0x20_0000, 3);
+pub const B: Region = Region::new(0x4000_0000, 0x8020_0000, 0x20_0000, 3);
+pub const C: Region = Region::new(0x4010_0000, 0x9000_0000, 0x20_0000, 3);
+pub const G: Region = Region::new(0x0800_0000, 0x0800_0000, 0x1_0000, 3);
 
 /// Regions on both sides of each reach, and whether they are in reach, all by the document's own numbers. None overlaps the desk's.
 pub const AT_THE_REACHES: [(&str, Region, bool); 9] = [
-    ("guest end 2^40", Region::new((1 << 40) - PAGE, 0x7000_0000, PAGE), true),
-    ("guest end 2^40 + 4096", Region::new(1 << 40, 0x7000_0000, PAGE), false),
-    ("guest end 2^48", Region::new((1 << 48) - PAGE, 0x7000_0000, PAGE), false),
-    ("physical end 2^40 + 4096", Region::new(0, 1 << 40, PAGE), true),
-    ("physical end 2^48", Region::new(0, (1 << 48) - PAGE, PAGE), true),
-    ("physical end 2^48 + 4096", Region::new(0, 1 << 48, PAGE), false),
-    ("guest end 2^40, physical end 2^48", Region::new((1 << 40) - PAGE, (1 << 48) - PAGE, PAGE), true),
-    ("size 2^40", Region::new(0, 1 << 40, 1 << 40), true),
-    ("size 2^40 + 4096", Region::new(0, 1 << 40, (1 << 40) + PAGE), false),
+    ("guest end 2^40", Region::new((1 << 40) - PAGE, 0x7000_0000, PAGE, 3), true),
+    ("guest end 2^40 + 4096", Region::new(1 << 40, 0x7000_0000, PAGE, 3), false),
+    ("guest end 2^48", Region::new((1 << 48) - PAGE, 0x7000_0000, PAGE, 3), false),
+    ("physical end 2^40 + 4096", Region::new(0, 1 << 40, PAGE, 3), true),
+    ("physical end 2^48", Region::new(0, (1 << 48) - PAGE, PAGE, 3), true),
+    ("physical end 2^48 + 4096", Region::new(0, 1 << 48, PAGE, 3), false),
+    ("guest end 2^40, physical end 2^48", Region::new((1 << 40) - PAGE, (1 << 48) - PAGE, PAGE, 3), true),
+    ("size 2^40", Region::new(0, 1 << 40, 1 << 40, 3), true),
+    ("size 2^40 + 4096", Region::new(0, 1 << 40, (1 << 40) + PAGE, 3), false),
 ];
 
 // The kinds of a request.
@@ -30,12 +30,19 @@ pub const CPU_REMOVE: u32 = 4;
 pub const IOMMU_INSERT: u32 = 5;
 pub const IOMMU_REMOVE: u32 = 6;
 
+/// Read, write and execute together.
+pub const ALL_RIGHTS: u64 = 7;
+
+/// The rights that are too many on the CPU side, and on the IOMMU side.
+pub const EXCESSIVE: [&[u64]; 2] = [&[6, 7], &[4, 5, 6, 7]];
+
 // The words of a record, in order.
 pub const V: usize = 0;
 pub const P: usize = 1;
 pub const SIZE: usize = 2;
+pub const RIGHTS: usize = 3;
 
-/// The reach that a word of a record meets first: the physical one for p; the guest one, which is the lower, for v and the size.
+/// The reach that a word of a record meets first: the physical one for p; the guest one, which is the lower, for the others.
 pub fn reach_of(word: usize) -> u64 {
     if word == P {
         PHYS_REACH
@@ -98,4 +105,8 @@ pub fn with_p(region: Region, p: u64) -> Region {
 
 pub fn with_size(region: Region, size: u64) -> Region {
     Region { size, ..region }
+}
+
+pub fn with_rights(region: Region, rights: u64) -> Region {
+    Region { rights: Rights(rights), ..region }
 }

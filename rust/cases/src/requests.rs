@@ -7,8 +7,9 @@ use ordinary::{ConfigWords, Record, Region, TableWords, Zone};
 use crate::book::Book;
 use crate::drawn::{poke_config, poke_table, sound_config};
 use crate::given::{
-    all_empty, config_words, held_words, of_region, of_zone, reach_of, table_words, with_p, with_size, with_v, with_word, Held, A,
-    ADD_ZONE, AT_THE_REACHES, B, C, CPU_INSERT, CPU_REMOVE, G, IOMMU_INSERT, IOMMU_REMOVE, P, REMOVE_ZONE,
+    all_empty, config_words, held_words, of_region, of_zone, reach_of, table_words, with_p, with_rights, with_size, with_v,
+    with_word, zone, Held, A, ADD_ZONE, ALL_RIGHTS, AT_THE_REACHES, B, C, CPU_INSERT, CPU_REMOVE, EXCESSIVE, G, IOMMU_INSERT,
+    IOMMU_REMOVE, P, REMOVE_ZONE, RIGHTS,
 };
 use crate::rng::Rng;
 
@@ -25,7 +26,7 @@ const TWIN: u64 = 20;
 const OTHER_TWIN: u64 = 21;
 const GIC_TWIN: u64 = 22;
 
-const GIC: Region = Region::new(0x0800_0000, 0x0800_0000, 2 * PAGE);
+const GIC: Region = Region::new(0x0800_0000, 0x0800_0000, 2 * PAGE, 3);
 
 pub fn add(book: &mut Book, rng: &mut Rng) {
     desk(book);
@@ -33,6 +34,8 @@ pub fn add(book: &mut Book, rng: &mut Rng) {
     no_requests(book);
     zones(book);
     form(book);
+    rights(book);
+    rights_in_order(book);
     reaches(book);
     insertions(book);
     gic(book);
@@ -51,7 +54,7 @@ fn region(k: u64) -> Region {
         GIC_TWIN => GIC.v.0 + PAGE,
         _ => 0x6000_0000,
     };
-    Region::new(v, 0x8000_0000 + k * 2 * PAGE, PAGE)
+    Region::new(v, 0x8000_0000 + k * 2 * PAGE, PAGE, 3)
 }
 
 fn config() -> ConfigWords {
@@ -158,10 +161,10 @@ fn desk_regions(book: &mut Book) {
         &[
             ("size 0", 9, of_region(CPU_INSERT, 5, with_size(A, 0))),
             ("size 0x1800", 9, of_region(CPU_INSERT, 5, with_size(A, 0x1800))),
-            ("p 2^64 - 4096, size 8192, v 0", 10, of_region(CPU_INSERT, 5, Region::new(0, LAST_PAGE, 8192))),
-            ("physical end exactly 2^48", 11, of_region(CPU_INSERT, 5, Region::new(0, (1 << 48) - PAGE, PAGE))),
-            ("guest end exactly 2^40", 11, of_region(CPU_INSERT, 5, Region::new((1 << 40) - PAGE, 0, PAGE))),
-            ("guest end a page above 2^40", 10, of_region(CPU_INSERT, 5, Region::new(1 << 40, 0, PAGE))),
+            ("p 2^64 - 4096, size 8192, v 0", 10, of_region(CPU_INSERT, 5, Region::new(0, LAST_PAGE, 8192, 3))),
+            ("physical end exactly 2^48", 11, of_region(CPU_INSERT, 5, Region::new(0, (1 << 48) - PAGE, PAGE, 3))),
+            ("guest end exactly 2^40", 11, of_region(CPU_INSERT, 5, Region::new((1 << 40) - PAGE, 0, PAGE, 3))),
+            ("guest end a page above 2^40", 10, of_region(CPU_INSERT, 5, Region::new(1 << 40, 0, PAGE, 3))),
             ("A with size 0x1000", 11, of_region(CPU_INSERT, 5, with_size(A, 0x1000))),
         ],
     );
@@ -201,12 +204,14 @@ fn no_requests(book: &mut Book) {
         ask(book, base(), &format!("kind {text}, id 256, a region"), of_region(kind, 256, region(9)));
     }
     for (text, region) in [
-        ("v 1", Region::new(1, 0, 0)),
-        ("p 1", Region::new(0, 1, 0)),
-        ("size 1", Region::new(0, 0, 1)),
-        ("v 2^63", Region::new(1 << 63, 0, 0)),
-        ("p 2^32", Region::new(0, 1 << 32, 0)),
-        ("size 2^40", Region::new(0, 0, 1 << 40)),
+        ("v 1", Region::new(1, 0, 0, 0)),
+        ("p 1", Region::new(0, 1, 0, 0)),
+        ("size 1", Region::new(0, 0, 1, 0)),
+        ("rights 1", Region::new(0, 0, 0, 1)),
+        ("rights 2^63", Region::new(0, 0, 0, 1 << 63)),
+        ("v 2^63", Region::new(1 << 63, 0, 0, 3)),
+        ("p 2^32", Region::new(0, 1 << 32, 0, 3)),
+        ("size 2^40", Region::new(0, 0, 1 << 40, 3)),
         ("a configured region", region(9)),
     ] {
         ask(book, base(), &format!("add with {text}"), of_region(ADD_ZONE, 7, region));
@@ -268,14 +273,24 @@ fn form(book: &mut Book) {
         ("p 1 more", with_p(r, r.p.0 + 1)),
         ("p 2^64 - 1", with_p(r, u64::MAX)),
         ("v 2^40 + 1", with_v(r, GUEST_REACH + 1)),
-        ("size 0 at 2^40 + 4096", Region::new(GUEST_REACH + PAGE, 0, 0)),
+        ("size 0 at 2^40 + 4096", Region::new(GUEST_REACH + PAGE, 0, 0, 3)),
         ("size 2^64 - 1", with_size(r, u64::MAX)),
         ("v 2^40", with_v(r, GUEST_REACH)),
         ("p 2^48", with_p(r, PHYS_REACH)),
         ("v 2^64 - 4096", with_v(r, LAST_PAGE)),
         ("size 2^64 - 4096", with_size(r, LAST_PAGE)),
-        ("both ends a page past reach", Region::new(GUEST_REACH - PAGE, PHYS_REACH - PAGE, 2 * PAGE)),
-        ("both ends where reach ends", Region::new(GUEST_REACH - PAGE, PHYS_REACH - PAGE, PAGE)),
+        ("rights 0", with_rights(r, 0)),
+        ("rights 8", with_rights(r, 8)),
+        ("rights 3 + 8", with_rights(r, 3 + 8)),
+        ("rights 3 + 2^32", with_rights(r, 3 + (1 << 32))),
+        ("rights 2^64 - 1", with_rights(r, u64::MAX)),
+        ("rights 0, p 2^48", with_rights(with_p(r, PHYS_REACH), 0)),
+        ("other rights", with_rights(r, 1)),
+        ("all rights", with_rights(r, ALL_RIGHTS)),
+        ("all rights, p 2^48", with_rights(with_p(r, PHYS_REACH), ALL_RIGHTS)),
+        ("held, other rights", with_rights(region(1), 1)),
+        ("both ends a page past reach", Region::new(GUEST_REACH - PAGE, PHYS_REACH - PAGE, 2 * PAGE, 3)),
+        ("both ends where reach ends", Region::new(GUEST_REACH - PAGE, PHYS_REACH - PAGE, PAGE, 3)),
         ("another v", with_v(r, r.v.0 + PAGE)),
         ("another p", with_p(r, r.p.0 + PAGE)),
         ("another size", with_size(r, 2 * PAGE)),
@@ -284,13 +299,57 @@ fn form(book: &mut Book) {
         ("the GIC's start, size 0x1800", with_size(GIC, 0x1800)),
         ("the GIC's p, v 2^40", with_v(GIC, GUEST_REACH)),
         ("the GIC's p, v 2^40 + 1", with_v(GIC, GUEST_REACH + 1)),
-        ("the GIC's last page", Region::new(GIC.v.0, GIC.p.0 + PAGE, PAGE)),
-        ("around the GIC", Region::new(GIC.v.0, GIC.p.0 - PAGE, 4 * PAGE)),
+        ("the GIC's last page", Region::new(GIC.v.0, GIC.p.0 + PAGE, PAGE, 3)),
+        ("around the GIC", Region::new(GIC.v.0, GIC.p.0 - PAGE, 4 * PAGE, 3)),
     ] {
         for (side, kind) in INSERTS {
             ask(book, base(), &format!("{side} {text}"), of_region(kind, 5, bad));
         }
         ask(book, base(), &format!("CPU {text}, no zone"), of_region(CPU_INSERT, 7, bad));
+    }
+}
+
+/// The desk's A with each of the rights, on each side.
+fn rights(book: &mut Book) {
+    for rights in 1..=ALL_RIGHTS {
+        let a = with_rights(A, rights);
+        for ((side, kind), excessive) in INSERTS.into_iter().zip(EXCESSIVE) {
+            book.change_to(config_words(&[a, B, C, G], 3), table_words(&[Zone::empty(5), Zone::empty(6)]));
+            let number = if excessive.contains(&rights) { 19 } else { 0 };
+            book.ask_request(format!("{side} rights {rights}"), of_region(kind, 5, a)).known(number);
+        }
+    }
+}
+
+/// 19 with each number that can apply at once: after 6 and 9 to 11, before 12 and 14 to 16. What has 13 too stands in an unsound table.
+fn rights_in_order(book: &mut Book) {
+    let a = with_rights(A, 5);
+    let c = with_rights(C, ALL_RIGHTS);
+    let gic = with_rights(G, ALL_RIGHTS);
+    let config = config_words(&[a, B, c, gic], 3);
+    let five = |cpu: &[Region], iommu: &[Region]| table_words(&[zone(5, cpu, iommu), Zone::empty(6)]);
+    for (name, words, number, request) in [
+        ("6 before 19", five(&[], &[]), 6, of_region(CPU_INSERT, 7, c)),
+        ("11 before 19", five(&[], &[]), 11, of_region(CPU_INSERT, 5, with_rights(B, ALL_RIGHTS))),
+        ("19 before 12", five(&[], &[]), 19, of_region(CPU_INSERT, 5, gic)),
+        ("19, the GIC on the IOMMU side", five(&[], &[]), 19, of_region(IOMMU_INSERT, 5, gic)),
+        ("2 before 19 and 13", five(&[c], &[]), 2, of_region(CPU_INSERT, 5, c)),
+        ("2 before 19 and 13, IOMMU", five(&[], &[a]), 2, of_region(IOMMU_INSERT, 5, a)),
+        ("19, on the own CPU side", five(&[a], &[]), 19, of_region(IOMMU_INSERT, 5, a)),
+        ("19 before 14", five(&[a], &[]), 19, of_region(IOMMU_INSERT, 6, a)),
+        ("19 before 15", five(&[B], &[]), 19, of_region(CPU_INSERT, 5, c)),
+        ("13, rights that its side may have", five(&[a], &[]), 13, of_region(CPU_INSERT, 5, a)),
+        ("17, held with other rights", five(&[a], &[]), 17, of_region(CPU_REMOVE, 5, A)),
+        ("out, with its rights", five(&[a], &[]), 0, of_region(CPU_REMOVE, 5, a)),
+    ] {
+        book.change_to(config, words);
+        book.ask_request(name, request).known(number);
+    }
+    let mut regions: Vec<Region> = (0..=GIC_TWIN).map(region).collect();
+    regions[17] = with_rights(region(17), ALL_RIGHTS);
+    for ((side, kind), words) in INSERTS.into_iter().zip([table(&[(5, &ALL, &[])]), table(&[(5, &[], &ALL)])]) {
+        book.change_to(config_words(&regions, 0), words);
+        book.ask_request(format!("19 before 16, {side}"), of_region(kind, 5, regions[17])).known(19);
     }
 }
 
@@ -392,9 +451,11 @@ fn removals(book: &mut Book) {
         ("another size", with_size(r, 2 * PAGE)),
         ("another v", with_v(r, region(2).v.0)),
         ("another p", with_p(r, region(2).p.0)),
+        ("other rights", with_rights(r, 1)),
+        ("all rights", with_rights(r, ALL_RIGHTS)),
         ("v off by 1", with_v(r, r.v.0 + 1)),
         ("p 2^64 - 4096", with_p(r, LAST_PAGE)),
-        ("all 2^64 - 1", Region::new(u64::MAX, u64::MAX, u64::MAX)),
+        ("all 2^64 - 1", Region::new(u64::MAX, u64::MAX, u64::MAX, 3)),
     ] {
         for (side, kind) in REMOVES {
             ask(book, base(), &format!("{side} out, {text}"), of_region(kind, 5, bad));
@@ -479,7 +540,10 @@ fn poked(rng: &mut Rng, region: Region) -> Region {
     let at = rng.below(numbers.len());
     let more = numbers[at].wrapping_add(PAGE);
     let reach = reach_of(at);
-    numbers[at] = *rng.pick(&[0, 1, PAGE, more, reach - PAGE, reach, reach + 1, LAST_PAGE, u64::MAX]);
+    numbers[at] = match at {
+        RIGHTS => rng.below(10) as u64,
+        _ => *rng.pick(&[0, 1, PAGE, more, reach - PAGE, reach, reach + 1, LAST_PAGE, u64::MAX]),
+    };
     Region::from_numbers(numbers)
 }
 

@@ -6,7 +6,8 @@ use ordinary::{ConfigWords, Region, Side, TableWords, Zone, TABLE_WORDS};
 
 use crate::book::Book;
 use crate::given::{
-    all_empty, config_words, held_words, table_words, with_size, with_word, zone, Held, A, AT_THE_REACHES, B, C, G, P, SIZE, V,
+    all_empty, config_words, held_words, table_words, with_rights, with_size, with_word, zone, Held, A, ALL_RIGHTS, AT_THE_REACHES,
+    B, C, EXCESSIVE, G, P, RIGHTS, SIZE, V,
 };
 use crate::rng::Rng;
 
@@ -17,6 +18,7 @@ pub fn add(book: &mut Book) {
     unused(book);
     configured(book);
     reaches(book);
+    rights(book);
     guests(book);
     shared(book);
     full(book);
@@ -34,7 +36,7 @@ const LAST_IN_SET: usize = MAX_IN_SET - 1;
 /// Configured region k, of a page: 0 is the GIC, and the last two share guest addresses.
 fn region(k: u64) -> Region {
     let p = if k == 0 { 0x0800_0000 } else { 0x8000_0000 + k * 2 * PAGE };
-    Region::new(0x4000_0000 + k.min(LAST - 1) * 2 * PAGE, p, PAGE)
+    Region::new(0x4000_0000 + k.min(LAST - 1) * 2 * PAGE, p, PAGE, 3)
 }
 
 fn config() -> ConfigWords {
@@ -114,6 +116,7 @@ fn unused(book: &mut Book) {
         ("v in an unused record", set_record(0, Side::Cpu, 2) + V),
         ("p in an unused record", set_record(1, Side::Iommu, 1) + P),
         ("size in an unused record", set_record(0, Side::Iommu, 2) + SIZE),
+        ("rights in an unused record", set_record(1, Side::Cpu, 1) + RIGHTS),
         ("size in a set's last record", set_record(1, Side::Cpu, LAST_IN_SET) + SIZE),
         ("id in an unused zone", zone_id(2)),
         ("CPU count in an unused zone", set_count(2, Side::Cpu)),
@@ -136,6 +139,8 @@ fn configured(book: &mut Book) {
         ("v of a held region off by a page", held + V, region(2).v.0 + PAGE),
         ("p of a held region off by a page", held + P, region(2).p.0 + PAGE),
         ("size of a held region doubled", held + SIZE, 2 * PAGE),
+        ("rights of a held region 1", held + RIGHTS, 1),
+        ("rights of a held region 3 + 2^32", held + RIGHTS, 3 + (1 << 32)),
         ("v of one, p of another", held + P, region(9).p.0),
         ("v of a held region 0", set_record(1, Side::Cpu, 0) + V, 0),
         ("an IOMMU region not configured", set_record(1, Side::Iommu, 0) + P, 4 * PAGE),
@@ -155,6 +160,22 @@ fn reaches(book: &mut Book) {
     for (name, region, is_in_reach) in AT_THE_REACHES {
         let words = table_words(&[zone(5, &[region], &[region])]);
         book.ask_table(format!("{name}, held"), config_words(&[G, region], 0), words).known(is_in_reach.into());
+    }
+}
+
+/// A zone that holds a region of each rights, on one side; the GIC is not exempt.
+fn rights(book: &mut Book) {
+    for rights in 1..=ALL_RIGHTS {
+        let (region, gic) = (with_rights(A, rights), with_rights(G, rights));
+        for (side, held, excessive) in [
+            ("CPU", zone(5, &[region], &[]), EXCESSIVE[0]),
+            ("IOMMU", zone(5, &[], &[region]), EXCESSIVE[1]),
+            ("IOMMU GIC", zone(5, &[], &[gic]), EXCESSIVE[1]),
+        ] {
+            let is_sound = !excessive.contains(&rights);
+            let words = table_words(&[held]);
+            book.ask_table(format!("{side}, rights {rights}"), config_words(&[gic, region], 0), words).known(is_sound.into());
+        }
     }
 }
 

@@ -8,8 +8,8 @@ use crate::book::Book;
 use crate::drawn::{poke_config, poke_table, sound_config, sound_zones};
 use crate::fields::Plan;
 use crate::files::{all_zones, first, flipped, in_and_out, least, longest, longest_sound, page, rich};
-use crate::files::{rich_regions_with, rich_zones, H, LAST_EDITION};
-use crate::given::{of_region, of_zone, table_words, with_p, with_size, with_v, with_word, zone, P};
+use crate::files::{rich_regions_with, rich_zones, H, LAST_EDITION, X};
+use crate::given::{of_region, of_zone, table_words, with_p, with_rights, with_size, with_v, with_word, zone, P, RIGHTS};
 use crate::given::{A, ADD_ZONE, B, C, CPU_INSERT, CPU_REMOVE, G, IOMMU_INSERT, IOMMU_REMOVE, REMOVE_ZONE};
 use crate::requests::random_request;
 use crate::rng::Rng;
@@ -63,7 +63,7 @@ fn desk(book: &mut Book) {
 fn unsound(book: &mut Book) {
     stand_at(book, &rich());
     let (config, table) = (book.config, book.table);
-    let bad_config = with_word(config, CONFIG_GIC, 5);
+    let bad_config = with_word(config, CONFIG_GIC, config[CONFIG_COUNT]);
     let bad_table = with_word(table, zone_id(2), 256);
     for (name, number, config, table) in [
         ("GIC at the count", 1, bad_config, table),
@@ -74,6 +74,7 @@ fn unsound(book: &mut Book) {
         ("id 256", 2, config, bad_table),
         ("a zone too many counted", 2, config, with_word(table, TABLE_COUNT, MAX_ZONES as u64 + 1)),
         ("a region not configured", 2, config, with_word(table, set_record(0, Side::Cpu, 1) + P, PAGE)),
+        ("a region with other rights", 2, config, with_word(table, set_record(0, Side::Cpu, 1) + RIGHTS, 1)),
         ("an unused zone not zero", 2, config, with_word(table, zone_id(MAX_ZONES - 1), 1)),
     ] {
         book.change_to(config, table);
@@ -105,9 +106,12 @@ fn unread(book: &mut Book) {
         for (what, number, damaged) in [
             ("no bytes", 20, Vec::new()),
             ("cut in the marks", 20, bytes[..11].to_vec()),
+            ("cut in the third mark", 20, bytes[..15].to_vec()),
             ("cut in the zones", 20, bytes[..zones + 40].to_vec()),
             ("cut in the last request", 20, bytes[..bytes.len() - 1].to_vec()),
-            ("marks counted 3", 21, [&[3], &bytes[1..]].concat()),
+            ("marks counted 2", 21, [&[2], &bytes[1..]].concat()),
+            ("marks counted 4", 21, [&[4], &bytes[1..]].concat()),
+            ("third mark 3", 21, [&bytes[..12], &[3], &bytes[13..]].concat()),
             ("a zone too many", 21, [&bytes[..zones], &[MAX_ZONES as u8 + 1], &bytes[zones + 1..]].concat()),
             ("requests counted 2^32 - 1, then cut", 21, [&bytes[..requests], &[0xff; 4]].concat()),
             ("a byte after the end", 22, [&bytes[..], &[0]].concat()),
@@ -128,6 +132,8 @@ fn other_regions(book: &mut Book) {
         ("v in its highest bit", with_v(C, C.v.0 + (1 << 63))),
         ("p", with_p(C, C.p.0 - PAGE)),
         ("size", with_size(C, C.size + PAGE)),
+        ("rights", with_rights(C, 1)),
+        ("rights in their highest bit", with_rights(C, 3 + (1 << 63))),
         ("all numbers", Region::ZERO),
     ] {
         let name = format!("a configured region differs in {what}");
@@ -137,15 +143,15 @@ fn other_regions(book: &mut Book) {
 
 fn other_configurations(book: &mut Book) {
     for (name, regions, gic) in [
-        ("two regions exchanged", &[B, A, C, G, H][..], 3),
-        ("the GIC moved to the front", &[G, A, B, C, H], 0),
-        ("one region more", &[A, B, C, G, H, page(0)], 3),
-        ("one region less", &[A, B, C, G], 3),
-        ("the free region left out", &[A, B, G, H], 2),
-        ("another GIC position", &[A, B, C, G, H], 2),
-        ("GIC position at the count", &[A, B, C, G, H], 5),
-        ("GIC position 256 more", &[A, B, C, G, H], 256 + 3),
-        ("GIC position 2^32 - 1", &[A, B, C, G, H], u32::MAX),
+        ("two regions exchanged", &[B, A, C, G, H, X][..], 3),
+        ("the GIC moved to the front", &[G, A, B, C, H, X], 0),
+        ("one region more", &[A, B, C, G, H, X, page(0)], 3),
+        ("one region less", &[A, B, C, G, H], 3),
+        ("the free region left out", &[A, B, G, H, X], 2),
+        ("another GIC position", &[A, B, C, G, H, X], 2),
+        ("GIC position at the count", &[A, B, C, G, H, X], 6),
+        ("GIC position 256 more", &[A, B, C, G, H, X], 256 + 3),
+        ("GIC position 2^32 - 1", &[A, B, C, G, H, X], u32::MAX),
     ] {
         ask(book, &rich(), 23, name, rich().with_regions(regions).with_gic(gic));
     }
@@ -214,6 +220,7 @@ fn other_zones(book: &mut Book) {
         ("an IOMMU region more", vec![first(), second(), zone(0, &[], &[G])]),
         ("another region in a set", vec![first(), zone(200, &[C], &[G]), third()]),
         ("a region differs in p", vec![first(), zone(200, &[low_b], &[G]), third()]),
+        ("a region differs in its rights", vec![first(), zone(200, &[with_rights(B, 1)], &[G]), third()]),
         ("a region differs in its size's highest bit", vec![first(), zone(200, &[B], &[high_g]), third()]),
         ("a region moved to the next zone", vec![zone(9, &[A], &[A, G]), zone(200, &[B, H], &[G]), third()]),
     ] {
@@ -236,6 +243,7 @@ fn refused(book: &mut Book) {
     for (number, base, request) in [
         (3, rich(), of_zone(u32::MAX, 0)),
         (7, all_zones(), of_zone(ADD_ZONE, 100)),
+        (19, rich(), of_region(CPU_INSERT, 0, X)),
         (12, rich(), of_region(CPU_INSERT, 0, G)),
         (14, rich(), of_region(IOMMU_INSERT, 200, A)),
         (17, rich(), of_region(CPU_REMOVE, 200, H)),
@@ -246,7 +254,7 @@ fn refused(book: &mut Book) {
 }
 
 fn orders(book: &mut Book) {
-    let regions = [B, A, C, G, H];
+    let regions = [B, A, C, G, H, X];
     let [nine, two_hundred, _] = rich_zones();
     let zones = [nine, two_hundred];
     let changed = rich().with_gic(0).with_edition(41).with_zones(&zones).with_requests(&[REFUSED]);

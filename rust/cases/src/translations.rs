@@ -13,16 +13,16 @@ use crate::drawn::{sound_config, sound_zones};
 use crate::given::{config_words, table_words, with_word, zone, G};
 use crate::rng::Rng;
 
-const ZEROTH: Region = Region::new(0, 0x7000_0000, PAGE);
-const LOW: Region = Region::new(0x4000_0000, 0x8000_0000, 2 * PAGE);
+const ZEROTH: Region = Region::new(0, 0x7000_0000, PAGE, 3);
+const LOW: Region = Region::new(0x4000_0000, 0x8000_0000, 2 * PAGE, 3);
 /// Its guest addresses adjoin those of LOW, its physical ones do not.
-const NEXT: Region = Region::new(0x4000_2000, 0x7fff_0000, PAGE);
+const NEXT: Region = Region::new(0x4000_2000, 0x7fff_0000, PAGE, 3);
 /// Shares guest addresses with LOW and NEXT.
-const SHIFTED: Region = Region::new(0x4000_1000, 0x9000_0000, 4 * PAGE);
+const SHIFTED: Region = Region::new(0x4000_1000, 0x9000_0000, 4 * PAGE, 3);
 /// Shares guest addresses with LOW and NEXT too, and goes on past the end of LOW.
-const WHOLE: Region = Region::new(0x4000_0000, 0xa000_0000, 3 * PAGE);
+const WHOLE: Region = Region::new(0x4000_0000, 0xa000_0000, 3 * PAGE, 3);
 /// Both its ends are where reach ends.
-const LAST: Region = Region::new(GUEST_REACH - PAGE, PHYS_REACH - PAGE, PAGE);
+const LAST: Region = Region::new(GUEST_REACH - PAGE, PHYS_REACH - PAGE, PAGE, 3);
 
 /// The sides with their numbers.
 const SIDES: [(&str, u32); 2] = [("cpu", 0), ("iommu", 1)];

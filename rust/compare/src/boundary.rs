@@ -3,14 +3,16 @@
 use cases::Case;
 use ordinary::layout::{config_record, set_count, set_record, zone_id, CONFIG_COUNT, CONFIG_GIC, LONGEST_PLAN, TABLE_COUNT};
 use ordinary::limits::{GUEST_REACH, MAX_IN_SET, MAX_REGIONS, MAX_REQUESTS, MAX_ZONES, PAGE, PHYS_REACH};
-use ordinary::{encode, Config, ConfigWords, Record, Region, Side, State, Table, TableWords, Zone, CONFIG_WORDS, TABLE_WORDS};
+use ordinary::{
+    encode, Config, ConfigWords, Record, Region, Rights, Side, State, Table, TableWords, Zone, CONFIG_WORDS, TABLE_WORDS,
+};
 
 use crate::random::{EDGES, EDITIONS};
 
-const A: Region = Region::new(0x4000_0000, 0x8000_0000, 0x20_0000);
-const B: Region = Region::new(0x4000_0000, 0x8020_0000, 0x20_0000);
-const C: Region = Region::new(0x4010_0000, 0x9000_0000, 0x20_0000);
-const G: Region = Region::new(0x0800_0000, 0x0800_0000, 0x1_0000);
+const A: Region = Region::new(0x4000_0000, 0x8000_0000, 0x20_0000, 3);
+const B: Region = Region::new(0x4000_0000, 0x8020_0000, 0x20_0000, 3);
+const C: Region = Region::new(0x4010_0000, 0x9000_0000, 0x20_0000, 3);
+const G: Region = Region::new(0x0800_0000, 0x0800_0000, 0x1_0000, 3);
 
 /// All cases, in parts: of all at once the words would take a gigabyte.
 pub const PARTS: [fn() -> Vec<Case>; 12] = [
@@ -43,7 +45,7 @@ fn desk(zones: &[Zone]) -> State {
 
 /// So many regions of a page each, one after the other, the last of them the GIC's.
 fn pages(count: u64) -> Config {
-    let regions = (1..=count).map(|page| Region::new(page * PAGE, page * PAGE, PAGE)).collect();
+    let regions = (1..=count).map(|page| Region::new(page * PAGE, page * PAGE, PAGE, 3)).collect();
     Config { regions, gic: count as usize - 1 }
 }
 
@@ -59,7 +61,7 @@ fn all_held(count: usize) -> State {
 /// One zone with so many regions in both sets, another that holds a region, and a region that has guest addresses of the first zone's.
 fn sets_of(count: usize) -> State {
     let mut config = pages(20);
-    config.regions.push(Region::new(PAGE, 40 * PAGE, PAGE));
+    config.regions.push(Region::new(PAGE, 40 * PAGE, PAGE, 3));
     let held = &config.regions[..count];
     let zones = vec![zone(255, held, held), zone(0, &config.regions[16..17], &[])];
     State { config, table: Table { zones }, edition: 0 }
@@ -77,6 +79,14 @@ fn beside_the_gic(region: Region) -> State {
     State { config, table: Table { zones: vec![zone(5, &[region], &[region])] }, edition: 0 }
 }
 
+/// A region of each rights, and the GIC with all; what a zone may hold of them, zone 5 holds.
+fn of_each_rights() -> State {
+    let regions: Vec<Region> = (1..=7).map(|rights| Region::new(rights * PAGE, rights * PAGE, PAGE, rights)).collect();
+    let held = zone(5, &regions[..5], &regions[..3]);
+    let config = Config { regions: [&[Region { rights: Rights(7), ..G }], &regions[..]].concat(), gic: 0 };
+    State { config, table: Table { zones: vec![held, Zone::empty(6)] }, edition: 0 }
+}
+
 /// The states that the cases are made from. All are sound.
 fn states() -> Vec<State> {
     vec![
@@ -91,26 +101,28 @@ fn states() -> Vec<State> {
         sets_of(MAX_IN_SET),
         table_of(MAX_ZONES - 1),
         table_of(MAX_ZONES),
-        beside_the_gic(Region::new(GUEST_REACH - PAGE, PHYS_REACH - PAGE, PAGE)),
+        beside_the_gic(Region::new(GUEST_REACH - PAGE, PHYS_REACH - PAGE, PAGE, 3)),
+        of_each_rights(),
     ]
 }
 
-/// Regions on both sides of form and reach.
+/// Regions on both sides of form and reach, and with too many rights.
 fn edge_regions() -> Vec<Region> {
     let mut regions = vec![
         Region::ZERO,
         Region { size: 0, ..A },
         Region { size: 0x1800, ..A },
         Region { size: 0x1000, ..A },
-        Region::new(0, PAGE.wrapping_neg(), 2 * PAGE),
-        Region::new(PAGE.wrapping_neg(), 0, 2 * PAGE),
-        Region::new(0, 0, GUEST_REACH),
-        Region::new(0, 0, GUEST_REACH + PAGE),
+        Region::new(0, PAGE.wrapping_neg(), 2 * PAGE, 3),
+        Region::new(PAGE.wrapping_neg(), 0, 2 * PAGE, 3),
+        Region::new(0, 0, GUEST_REACH, 3),
+        Region::new(0, 0, GUEST_REACH + PAGE, 3),
     ];
+    regions.extend(EDGES.map(|rights| Region { rights: Rights(rights), ..A }));
     for start in EDGES {
         for size in [PAGE, PAGE.wrapping_neg()] {
-            regions.push(Region::new(start, 0, size));
-            regions.push(Region::new(0, start, size));
+            regions.push(Region::new(start, 0, size, 3));
+            regions.push(Region::new(0, start, size, 3));
         }
     }
     regions
@@ -132,7 +144,7 @@ fn all_configs() -> Vec<ConfigWords> {
     let mut configs: Vec<ConfigWords> = states().iter().map(|state| state.config.to_words()).collect();
     for config in configs.clone() {
         let first = config_record(0);
-        let places = [CONFIG_COUNT, CONFIG_GIC, first, first + 1, first + 2, CONFIG_WORDS - 1];
+        let places = [CONFIG_COUNT, CONFIG_GIC, first, first + 1, first + 2, first + 3, CONFIG_WORDS - 1];
         configs.extend(with_edges(config, &places));
     }
     for region in edge_regions() {
@@ -140,7 +152,7 @@ fn all_configs() -> Vec<ConfigWords> {
         configs.push(Config { regions: vec![region, G], gic: 1 }.to_words());
     }
     configs.push(Config { regions: vec![G, A, Region { p: A.p, ..C }, B], gic: 0 }.to_words());
-    configs.push(Config { regions: vec![B, A, Region::new(0, A.p.0 - PAGE, 0x100_0000)], gic: 0 }.to_words());
+    configs.push(Config { regions: vec![B, A, Region::new(0, A.p.0 - PAGE, 0x100_0000, 3)], gic: 0 }.to_words());
     configs
 }
 
@@ -164,6 +176,7 @@ fn broken_tables() -> Vec<TableWords> {
         vec![zone(5, &[], &[A]), zone(6, &[A], &[])],
         vec![zone(5, &[], &[A]), zone(6, &[], &[A])],
         vec![zone(5, &[Region { size: 0x1000, ..A }], &[])],
+        vec![zone(5, &[Region { rights: Rights(1), ..A }], &[])],
         vec![zone(5, &[Region::ZERO], &[])],
         vec![zone(5, &[], &[Region { v: A.v, ..G }])],
     ]
@@ -176,7 +189,7 @@ fn table_cases() -> Vec<Case> {
     let mut cases = Vec::new();
     let (cpu, iommu) = (set_count(0, Side::Cpu), set_count(0, Side::Iommu));
     let (first, last) = (set_record(0, Side::Cpu, 0), iommu - 1);
-    let places = [TABLE_COUNT, zone_id(0), cpu, first, last, iommu, zone_id(1), zone_id(MAX_ZONES - 1), TABLE_WORDS - 1];
+    let places = [TABLE_COUNT, zone_id(0), cpu, first, first + 3, last, iommu, zone_id(1), zone_id(MAX_ZONES - 1), TABLE_WORDS - 1];
     for state in states() {
         let (config, table) = (state.config.to_words(), state.table.to_words());
         cases.push(Case::table(config, table));
@@ -258,13 +271,13 @@ fn translate_cases() -> Vec<Case> {
     cases
 }
 
-/// Plans for editions at which something changes: cut at every length, and with each of the first four fields set to each edge in turn.
+/// Plans for editions at which something changes: cut at every length, and with each of the first five fields set to each edge in turn.
 fn edition_cases() -> Vec<Case> {
     let mut plans = Vec::new();
     for edition in EDITIONS {
         let plan = encode(&State { edition, ..desk(&[]) }, &[]);
         plans.extend((0..=plan.len()).map(|length| plan[..length].to_vec()));
-        for at in [0, 4, 8, 12] {
+        for at in [0, 4, 8, 12, 16] {
             for edge in EDGES {
                 let mut changed = plan.clone();
                 changed[at..at + 4].copy_from_slice(&(edge as u32).to_le_bytes());
@@ -400,8 +413,8 @@ fn plans_in_pieces() -> Vec<Case> {
         plans.push([&longest[..], &vec![0xff; more]].concat());
         plans.push([&plan[..], &vec![0xff; LONGEST_PLAN - plan.len() + more]].concat());
     }
-    // A count that is out of range, behind which more comes than the longest plan has.
-    plans.push([&plan[..12], &vec![0xff; LONGEST_PLAN]].concat());
+    // A mark or a count that is out of range, behind which more comes than the longest plan has.
+    plans.extend([12, 16].map(|count| [&plan[..count], &vec![0xff; LONGEST_PLAN]].concat()));
     let cuts: [&[usize]; 8] = [
         &[],
         &[0, 0],
@@ -429,6 +442,12 @@ fn plans_in_pieces() -> Vec<Case> {
     }
     let broken = broken_tables().into_iter().map(|table| Case::apply(config, table, 0, plan.clone()));
     cases.extend(broken.map(|apply| Case::pieces(apply, [0, 0], vec![9], vec![0; LONGEST_PLAN])));
+    // For another edition, for the last one, and for other zones.
+    let last = State { edition: u32::MAX, ..state.clone() };
+    for (edition, base) in [(0, State { edition: 1, ..state.clone() }), (u32::MAX, last), (0, desk(&[]))] {
+        let apply = Case::apply(config, table, edition, encode(&base, &[]));
+        cases.push(Case::pieces(apply, [0, 0], vec![9], vec![0; LONGEST_PLAN]));
+    }
     let apply = Case::apply([0; CONFIG_WORDS], [u64::MAX; TABLE_WORDS], 0, plan);
     cases.extend([LONGEST_PLAN - 1, LONGEST_PLAN].map(|room| Case::pieces(apply.clone(), [0, 0], vec![9], vec![0; room])));
     cases

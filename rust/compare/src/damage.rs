@@ -1,11 +1,11 @@
 //! Damage to words and to bytes.
 
 use cases::rng::Rng;
-use ordinary::layout::REGION_WORDS;
+use ordinary::layout::{REGION_BYTES, REGION_WORDS, REQUEST_BYTES};
 
 use crate::random::number;
 
-/// Changes one word, or copies one stretch of three over another.
+/// Changes one word, or copies one stretch as long as a record over another.
 pub fn damage_words(rng: &mut Rng, words: &mut [u64]) {
     let at = word_to_damage(rng, words);
     match rng.below(6) {
@@ -13,7 +13,7 @@ pub fn damage_words(rng: &mut Rng, words: &mut [u64]) {
         1 => words[at] = words[at].wrapping_add(1),
         2 => words[at] = words[at].wrapping_sub(1),
         3 => words[at] = *rng.pick(words),
-        4 => copy_three(rng, words),
+        4 => copy_record(rng, words),
         _ => words[at] = number(rng),
     }
 }
@@ -27,14 +27,14 @@ fn word_to_damage(rng: &mut Rng, words: &[u64]) -> usize {
     *rng.pick(&used)
 }
 
-fn copy_three(rng: &mut Rng, words: &mut [u64]) {
+fn copy_record(rng: &mut Rng, words: &mut [u64]) {
     let last = words.len() - REGION_WORDS;
     let from = rng.below(last + 1);
     let to = rng.below(last + 1);
     words.copy_within(from..from + REGION_WORDS, to);
 }
 
-/// Damages a plan in one to three places. It has at least 16 bytes.
+/// Damages a plan in one to three places.
 pub fn damage_bytes(rng: &mut Rng, plan: &mut Vec<u8>) {
     for _ in 0..1 + rng.below(3) {
         damage_once(rng, plan);
@@ -86,6 +86,6 @@ fn overwrite_field(rng: &mut Rng, plan: &mut [u8]) {
 
 fn cut_out(rng: &mut Rng, plan: &mut Vec<u8>) {
     let start = field(rng, plan);
-    let end = plan.len().min(start + *rng.pick(&[1, 4, 24, 32]));
+    let end = plan.len().min(start + *rng.pick(&[1, 4, REGION_BYTES, REQUEST_BYTES]));
     plan.drain(start..end);
 }

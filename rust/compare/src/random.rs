@@ -4,7 +4,7 @@ use cases::rng::Rng;
 use cases::Case;
 use ordinary::layout::LONGEST_PLAN;
 use ordinary::limits::{GUEST_REACH, MAX_IN_SET, MAX_REGIONS, MAX_REQUESTS, MAX_ZONES, PAGE, PHYS_REACH};
-use ordinary::{encode, Config, ConfigWords, Record, Region, State, Table, TableWords, Zone};
+use ordinary::{encode, Config, ConfigWords, Record, Region, Rights, State, Table, TableWords, Zone};
 
 use crate::damage::{damage_bytes, damage_words};
 
@@ -12,8 +12,11 @@ use crate::damage::{damage_bytes, damage_words};
 const OLD_ZONES: u64 = 8;
 const OLD_REGIONS: u64 = 64;
 
+/// The place of the rights among a region's numbers.
+const RIGHTS: usize = 3;
+
 /// Numbers at which something changes or changed, or just beside.
-pub const EDGES: [u64; 44] = [
+pub const EDGES: [u64; 45] = [
     0,
     1,
     2,
@@ -21,6 +24,7 @@ pub const EDGES: [u64; 44] = [
     4,
     5,
     6,
+    7,
     MAX_ZONES as u64 - 1,
     MAX_ZONES as u64,
     MAX_ZONES as u64 + 1,
@@ -100,12 +104,20 @@ pub fn config(rng: &mut Rng) -> Config {
         if has_gaps && rng.one_in(4) {
             p += PAGE * (1 + rng.below(16) as u64);
         }
-        regions.push(Region::new(guest_start(rng, p, size, is_crowded), p, size));
+        regions.push(Region::new(guest_start(rng, p, size, is_crowded), p, size, rights(rng)));
         p += size;
     }
     rng.shuffle(&mut regions);
     let gic = rng.below(count);
     Config { regions, gic }
+}
+
+/// Rights that a configuration may have: most often to read and write, now and then each of the others.
+fn rights(rng: &mut Rng) -> u64 {
+    match rng.below(2) {
+        0 => 3,
+        _ => 1 + rng.below(7) as u64,
+    }
 }
 
 /// Where a region stands in guest addresses: where it is physically, as far as guest addresses go (2^48 is a multiple of 2^40, so one
@@ -137,7 +149,8 @@ fn zone_id(rng: &mut Rng, table: &Table) -> u32 {
 
 fn altered(rng: &mut Rng, region: Region) -> Region {
     let mut numbers = region.numbers();
-    numbers[rng.below(numbers.len())] = number(rng);
+    let at = rng.below(numbers.len());
+    numbers[at] = if at == RIGHTS && !rng.one_in(4) { rng.below(9) as u64 } else { number(rng) };
     Region::from_numbers(numbers)
 }
 
@@ -233,10 +246,11 @@ fn bent_config(rng: &mut Rng, config: &Config) -> Config {
     let at = rng.below(config.regions.len());
     let other = *rng.pick(&config.regions);
     let region = &mut config.regions[at];
-    match rng.below(4) {
+    match rng.below(5) {
         0 => *region = altered(rng, *region),
-        1 => region.p = other.p,
-        2 => region.size += PAGE * (1 + rng.below(64) as u64),
+        1 => region.rights = Rights(rng.below(9) as u64),
+        2 => region.p = other.p,
+        3 => region.size += PAGE * (1 + rng.below(64) as u64),
         _ => region.p.0 = region.p.0.wrapping_sub(PAGE),
     }
     config
@@ -398,7 +412,7 @@ impl World {
     fn plan_begun(&self, rng: &mut Rng) -> Vec<u8> {
         let mut plan = self.plan(rng);
         if rng.one_in(2) {
-            plan.truncate(16);
+            plan.truncate(20);
             damage_bytes(rng, &mut plan);
         }
         plan

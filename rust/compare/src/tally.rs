@@ -12,7 +12,7 @@ use crate::event::Event;
 const ALL_NUMBERS: [(Question, &[u32]); 8] = [
     (Question::Config, &[0, 1, 2, 3, 4, 5, 6]),
     (Question::Table, &[0, 1]),
-    (Question::Request, &[0, 1, 2, 3, 4, 5, 6, 7, 8, 9, 10, 11, 12, 13, 14, 15, 16, 17]),
+    (Question::Request, &[0, 1, 2, 3, 4, 5, 6, 7, 8, 9, 10, 11, 12, 13, 14, 15, 16, 17, 19]),
     (Question::Translate, &[0, 1, 2, 4, 6, 18]),
     (Question::Edition, &[0, 20, 21]),
     (Question::Read, &[0, 20, 21, 22]),
@@ -23,7 +23,7 @@ const ALL_NUMBERS: [(Question, &[u32]); 8] = [
 const REQUEST_REFUSED: u32 = 27;
 
 /// The numbers of requests that can stand inside 27.
-const ALL_INNER: [u64; 15] = [3, 4, 5, 6, 7, 8, 9, 10, 11, 12, 13, 14, 15, 16, 17];
+const ALL_INNER: [u64; 16] = [3, 4, 5, 6, 7, 8, 9, 10, 11, 12, 13, 14, 15, 16, 17, 19];
 
 #[derive(Default)]
 pub struct Tally {

@@ -111,7 +111,7 @@ mod tests {
     }
 
     fn page(number: u64) -> Region {
-        Region::new(0, number * PAGE, PAGE)
+        Region::new(0, number * PAGE, PAGE, 3)
     }
 
     #[test]
@@ -125,8 +125,8 @@ mod tests {
 
     #[test]
     fn faults_are_found_position_by_position() {
-        let bad = Region::new(0, 1, PAGE);
-        for high in [Region::new(0, PHYS_REACH, PAGE), Region::new(GUEST_REACH, 0, PAGE)] {
+        let bad = Region::new(0, 1, PAGE, 3);
+        for high in [Region::new(0, PHYS_REACH, PAGE, 3), Region::new(GUEST_REACH, 0, PAGE, 3)] {
             assert_eq!(check(0, &[high, bad]), Err(ConfigFault::Reach { place: 0 }));
             assert_eq!(check(0, &[bad, high]), Err(ConfigFault::Form { place: 0 }));
         }
@@ -135,7 +135,7 @@ mod tests {
 
     #[test]
     fn an_overlap_names_the_lowest_earlier_position() {
-        let over_both = Region::new(0, PAGE, 2 * PAGE);
+        let over_both = Region::new(0, PAGE, 2 * PAGE, 3);
         assert_eq!(check(0, &[page(9), page(2), page(1), over_both]), Err(ConfigFault::Overlap { place: 3, earlier: 1 }));
     }
 }

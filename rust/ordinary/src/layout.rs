@@ -18,12 +18,12 @@ pub const REGION_BYTES: usize = Region::NUMBERS * NUMBER_BYTES;
 /// How many bytes a request is in a plan: its kind and its zone id have 4 each, then its region.
 pub const REQUEST_BYTES: usize = 4 + 4 + REGION_BYTES;
 
-/// How many bytes the longest plan has: the marks after their count, then regions, zones and requests, each after theirs, as many as there
+/// How many bytes the longest plan has: the three marks after their count, then regions, zones and requests, each after theirs, as many as there
 /// can be.
 pub const LONGEST_PLAN: usize = {
     let set = 4 + MAX_IN_SET * REGION_BYTES;
     let zones = 4 + MAX_ZONES * (4 + 2 * set);
-    3 * 4 + (4 + MAX_REGIONS * REGION_BYTES) + zones + (4 + MAX_REQUESTS * REQUEST_BYTES)
+    4 * 4 + (4 + MAX_REGIONS * REGION_BYTES) + zones + (4 + MAX_REQUESTS * REQUEST_BYTES)
 };
 
 /// Where a configuration has its count.

@@ -21,7 +21,7 @@ mod words;
 pub use config::{Config, ConfigFault};
 pub use plan::{base_edition, encode, Plan, ReadFault, Requests};
 pub use receiver::{BufferShort, Receiver};
-pub use region::{Guest, Phys, Region};
+pub use region::{Guest, Phys, Region, Rights};
 pub use request::{Action, Record, Refusal};
 pub use table::{Side, Table, Translated, Zone};
 pub use terminal::{apply_alone, PlanRefusal, State};
@@ -44,5 +44,5 @@ pub mod limits {
     /// The highest zone id.
     pub const MAX_ID: u32 = 255;
     /// The most requests of a plan.
-    pub const MAX_REQUESTS: usize = 1024;
+    pub const MAX_REQUESTS: usize = 512;
 }

@@ -8,7 +8,9 @@ use crate::request::Record;
 use crate::table::{Table, Zone};
 use crate::terminal::State;
 
-const MARKS: u32 = 2;
+/// How many marks a plan of the second format has, and its third, by which the format is told.
+const MARKS: u32 = 3;
+const FORMAT: u32 = 2;
 
 /// A plan that was read whole. The requests stay where they are in its bytes.
 #[derive(Clone, Debug)]
@@ -34,7 +36,7 @@ pub struct Requests<'a>(&'a [u8]);
 pub enum ReadFault {
     /// 20: a field is not wholly there.
     Cut(usize),
-    /// 21: a count is out of range.
+    /// 21: a count is out of range, or the third mark is another format's.
     Count(usize),
     /// 22: there are bytes after the last section.
     Trailing(usize),
@@ -125,10 +127,12 @@ impl<'a> Reader<'a> {
         Ok(count as usize)
     }
 
-    /// The GIC's position and the base edition.
+    /// The GIC's position and the base edition. The mark behind them is judged as it is read.
     fn marks(&mut self) -> Result<(u32, u32), ReadFault> {
         self.count(MARKS..=MARKS)?;
-        Ok((self.number()?, self.number()?))
+        let marks = (self.number()?, self.number()?);
+        self.count(FORMAT..=FORMAT)?;
+        Ok(marks)
     }
 
     fn regions(&mut self, range: RangeInclusive<u32>) -> Result<Vec<Region>, ReadFault> {
@@ -194,6 +198,7 @@ pub fn encode(base: &State, requests: &[Record]) -> Vec<u8> {
     put_u32(&mut plan, MARKS);
     put_u32(&mut plan, base.config.gic as u32);
     put_u32(&mut plan, base.edition);
+    put_u32(&mut plan, FORMAT);
     put_regions(&mut plan, &base.config.regions);
     put_u32(&mut plan, base.table.zones.len() as u32);
     for zone in &base.table.zones {

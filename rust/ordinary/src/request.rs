@@ -66,6 +66,8 @@ pub enum Refusal {
     NoRegion = 17,
     /// No region covers the address.
     NotCovered = 18,
+    /// The region has too many rights for its side.
+    TooManyRights = 19,
 }
 
 impl Refusal {
@@ -184,6 +186,9 @@ fn check_region(config: &Config, side: Side, region: &Region) -> Result<(), Refu
     }
     if !config.has(region) {
         return Err(Refusal::NotConfigured);
+    }
+    if region.is_excessive(side) {
+        return Err(Refusal::TooManyRights);
     }
     if side == Side::Cpu && region.overlaps_physically(config.gic_region()) {
         return Err(Refusal::OverGic);

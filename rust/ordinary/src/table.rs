@@ -73,7 +73,8 @@ impl Zone {
         self.id <= MAX_ID
             && is_sound_set(config, &self.cpu)
             && is_sound_set(config, &self.iommu)
-            && !self.cpu.iter().any(|region| region.overlaps_physically(gic))
+            && !self.cpu.iter().any(|region| region.overlaps_physically(gic) || region.is_excessive(Side::Cpu))
+            && !self.iommu.iter().any(|region| region.is_excessive(Side::Iommu))
     }
 }
 

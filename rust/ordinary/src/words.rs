@@ -106,7 +106,7 @@ mod tests {
     use crate::layout::config_record;
 
     fn gic_only() -> Config {
-        Config { regions: vec![Region::new(0x0800_0000, 0x0800_0000, 0x1_0000)], gic: 0 }
+        Config { regions: vec![Region::new(0x0800_0000, 0x0800_0000, 0x1_0000, 3)], gic: 0 }
     }
 
     #[test]

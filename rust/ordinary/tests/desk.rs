@@ -2,13 +2,14 @@
 
 use ordinary::limits::{GUEST_REACH, MAX_IN_SET, MAX_REGIONS, MAX_REQUESTS, MAX_ZONES, PAGE, PHYS_REACH};
 use ordinary::{
-    encode, Config, Guest, Phys, Plan, PlanRefusal, ReadFault, Record, Refusal, Region, Side, State, Table, Translated, Zone,
+    encode, Config, Guest, Phys, Plan, PlanRefusal, ReadFault, Record, Refusal, Region, Rights, Side, State, Table, Translated,
+    Zone,
 };
 
-const A: Region = Region::new(0x4000_0000, 0x8000_0000, 0x20_0000);
-const B: Region = Region::new(0x4000_0000, 0x8020_0000, 0x20_0000);
-const C: Region = Region::new(0x4010_0000, 0x9000_0000, 0x20_0000);
-const G: Region = Region::new(0x0800_0000, 0x0800_0000, 0x1_0000);
+const A: Region = Region::new(0x4000_0000, 0x8000_0000, 0x20_0000, 3);
+const B: Region = Region::new(0x4000_0000, 0x8020_0000, 0x20_0000, 3);
+const C: Region = Region::new(0x4010_0000, 0x9000_0000, 0x20_0000, 3);
+const G: Region = Region::new(0x0800_0000, 0x0800_0000, 0x1_0000, 3);
 
 const ADD: u32 = 1;
 const REMOVE_ZONE: u32 = 2;
@@ -120,17 +121,17 @@ fn form_reach_and_configured() {
     let mut desk = Desk::new();
     assert_eq!(desk.ask(CPU_INSERT, 5, Region { size: 0, ..A }), 9);
     assert_eq!(desk.ask(CPU_INSERT, 5, Region { size: 0x1800, ..A }), 9);
-    assert_eq!(desk.ask(CPU_INSERT, 5, Region::new(0, PAGE.wrapping_neg(), 2 * PAGE)), 10);
-    assert_eq!(desk.ask(CPU_INSERT, 5, Region::new(0, PHYS_REACH - PAGE, PAGE)), 11);
-    assert_eq!(desk.ask(CPU_INSERT, 5, Region::new(0, PHYS_REACH, PAGE)), 10);
-    assert_eq!(desk.ask(CPU_INSERT, 5, Region::new(GUEST_REACH - PAGE, 0, PAGE)), 11);
-    assert_eq!(desk.ask(CPU_INSERT, 5, Region::new(GUEST_REACH, 0, PAGE)), 10);
+    assert_eq!(desk.ask(CPU_INSERT, 5, Region::new(0, PAGE.wrapping_neg(), 2 * PAGE, 3)), 10);
+    assert_eq!(desk.ask(CPU_INSERT, 5, Region::new(0, PHYS_REACH - PAGE, PAGE, 3)), 11);
+    assert_eq!(desk.ask(CPU_INSERT, 5, Region::new(0, PHYS_REACH, PAGE, 3)), 10);
+    assert_eq!(desk.ask(CPU_INSERT, 5, Region::new(GUEST_REACH - PAGE, 0, PAGE, 3)), 11);
+    assert_eq!(desk.ask(CPU_INSERT, 5, Region::new(GUEST_REACH, 0, PAGE, 3)), 10);
     assert_eq!(desk.ask(CPU_INSERT, 5, Region { size: 0x1000, ..A }), 11);
 }
 
 #[test]
 fn ends_exactly_at_both_reaches() {
-    let last = Region::new(GUEST_REACH - PAGE, PHYS_REACH - PAGE, PAGE);
+    let last = Region::new(GUEST_REACH - PAGE, PHYS_REACH - PAGE, PAGE, 3);
     let mut desk = Desk::with(&[last, G], 1);
     assert_eq!(desk.ask(CPU_INSERT, 5, last), 0);
     let answer = desk.table.translate(&desk.config, 5, Side::Cpu, Guest(GUEST_REACH - 1));
@@ -143,7 +144,7 @@ fn numbers_that_make_no_request() {
     for kind in [0, 7, 0x101, u32::MAX] {
         assert_eq!(desk.zone(kind, 256), 3);
     }
-    for region in [Region::new(1, 0, 0), Region::new(0, 1, 0), Region::new(0, 0, 1)] {
+    for region in [Region::new(1, 0, 0, 0), Region::new(0, 1, 0, 0), Region::new(0, 0, 1, 0), Region::new(0, 0, 0, 1)] {
         assert_eq!(desk.ask(ADD, 9, region), 3);
         assert_eq!(desk.ask(REMOVE_ZONE, 5, region), 3);
     }
@@ -151,7 +152,7 @@ fn numbers_that_make_no_request() {
 
 #[test]
 fn a_full_set() {
-    let pages: Vec<Region> = (1..=18).map(|n| Region::new(n * PAGE, n * PAGE, PAGE)).collect();
+    let pages: Vec<Region> = (1..=18).map(|n| Region::new(n * PAGE, n * PAGE, PAGE, 3)).collect();
     let mut desk = Desk::with(&pages, 17);
     for page in &pages[..16] {
         assert_eq!(desk.ask(CPU_INSERT, 5, *page), 0);
@@ -170,6 +171,33 @@ fn a_removal_asks_nothing_of_the_region() {
     let mut desk = Desk::new();
     assert_eq!(desk.ask(CPU_REMOVE, 5, Region::ZERO), 17);
     assert_eq!(desk.ask(IOMMU_REMOVE, 7, Region::ZERO), 6);
+}
+
+/// What the processor must not have, and what devices must not have.
+#[test]
+fn rights() {
+    let with = |region: Region, rights: u64| Region { rights: Rights(rights), ..region };
+    for (rights, cpu, iommu) in [(1, 0, 0), (2, 0, 0), (3, 0, 0), (4, 0, 19), (5, 0, 19), (6, 19, 19), (7, 19, 19)] {
+        let region = with(A, rights);
+        assert_eq!(Desk::with(&[region, G], 1).ask(CPU_INSERT, 5, region), cpu, "CPU, rights {rights}");
+        assert_eq!(Desk::with(&[region, G], 1).ask(IOMMU_INSERT, 5, region), iommu, "IOMMU, rights {rights}");
+    }
+    for rights in [0, 8, 11, 1 << 63 | 3] {
+        assert_eq!(Desk::new().ask(CPU_INSERT, 5, with(A, rights)), 9, "rights {rights}");
+    }
+}
+
+#[test]
+fn rights_in_the_order_of_the_numbers() {
+    let with = |region: Region, rights: u64| Region { rights: Rights(rights), ..region };
+    let gic = with(G, 7);
+    let mut desk = Desk::with(&[A, gic], 1);
+    assert_eq!(desk.ask(CPU_INSERT, 5, with(A, 7)), 11);
+    assert_eq!(desk.ask(CPU_INSERT, 5, gic), 19);
+    assert_eq!(desk.ask(IOMMU_INSERT, 5, gic), 19);
+    assert_eq!(desk.ask(CPU_INSERT, 5, A), 0);
+    assert_eq!(desk.ask(CPU_REMOVE, 5, with(A, 1)), 17);
+    assert_eq!(desk.ask(CPU_INSERT, 5, with(A, 1)), 11);
 }
 
 #[test]
@@ -197,6 +225,7 @@ fn sound_tables() {
     assert!(!sound(&[zone(5, &[G], &[])]));
     assert!(!sound(&[zone(5, &[A], &[]), zone(6, &[], &[A])]));
     assert!(!sound(&[zone(5, &[Region { size: 0x1000, ..A }], &[])]));
+    assert!(!sound(&[zone(5, &[Region { rights: Rights(1), ..A }], &[])]));
     assert!(!sound(&(0..=MAX_ZONES as u32).map(Zone::empty).collect::<Vec<_>>()));
 }
 
@@ -216,16 +245,25 @@ fn translation() {
     assert_eq!(ask(256, Side::Cpu, 0x4000_0000), Err(Refusal::ZoneId));
 }
 
-/// The whole plan as the document prints it, without its 24 zero bytes.
-const WHOLE_PLAN: &str = "02000000 00000000 00000000 01000000 0000000800000000 0000000800000000 0000010000000000 \
-                          00000000 01000000 01000000 05000000";
+/// The document's whole plan in the second format, without the 32 zero bytes of its request's region.
+const WHOLE_PLAN: &str = "03000000 00000000 00000000 02000000 01000000 0000000800000000 0000000800000000 0000010000000000 \
+                          0300000000000000 00000000 01000000 01000000 05000000";
+
+/// The same as it stood in the first format, without its 24 zero bytes.
+const FIRST_FORMAT: &str = "02000000 00000000 00000000 01000000 0000000800000000 0000000800000000 0000010000000000 \
+                            00000000 01000000 01000000 05000000";
+
+/// The bytes that the digits spell, and so many zeros.
+fn spelled(digits: &str, zeros: usize) -> Vec<u8> {
+    let digits: String = digits.split_whitespace().collect();
+    let pairs = digits.as_bytes().chunks_exact(2).map(|pair| std::str::from_utf8(pair).expect("hexadecimal digits"));
+    let mut bytes: Vec<u8> = pairs.map(|pair| u8::from_str_radix(pair, 16).expect("a byte")).collect();
+    bytes.resize(bytes.len() + zeros, 0);
+    bytes
+}
 
 fn whole_plan() -> Vec<u8> {
-    let digits: String = WHOLE_PLAN.split_whitespace().collect();
-    let pairs = digits.as_bytes().chunks_exact(2).map(|pair| std::str::from_utf8(pair).expect("hexadecimal digits"));
-    let mut plan: Vec<u8> = pairs.map(|pair| u8::from_str_radix(pair, 16).expect("a byte")).collect();
-    plan.resize(plan.len() + 24, 0);
-    plan
+    spelled(WHOLE_PLAN, 32)
 }
 
 fn first_state() -> State {
@@ -235,7 +273,7 @@ fn first_state() -> State {
 #[test]
 fn the_whole_plan_twice() {
     let plan = whole_plan();
-    assert_eq!(plan.len(), 80);
+    assert_eq!(plan.len(), 100);
     let mut state = first_state();
     assert_eq!(state.apply(&plan), Ok(1));
     assert_eq!((state.edition, &state.table.zones[..]), (1, &[Zone::empty(5)][..]));
@@ -252,7 +290,7 @@ fn the_encoder_writes_the_whole_plan() {
 fn a_plan_cut_anywhere_ends_at_the_field_that_is_cut() {
     let plan = whole_plan();
     for length in 0..plan.len() {
-        let field = [0, 4, 8, 12, 16, 40, 44, 48].into_iter().rev().find(|&start| start <= length);
+        let field = [0, 4, 8, 12, 16, 20, 52, 56, 60].into_iter().rev().find(|&start| start <= length);
         assert_eq!(Plan::read(&plan[..length]).err(), field.map(ReadFault::Cut), "{length} bytes");
     }
 }
@@ -260,7 +298,7 @@ fn a_plan_cut_anywhere_ends_at_the_field_that_is_cut() {
 #[test]
 fn counts_out_of_range() {
     let [regions, zones, requests] = [MAX_REGIONS, MAX_ZONES, MAX_REQUESTS].map(|most| most as u32 + 1);
-    for (offset, bad) in [(0, 1), (0, 3), (12, 0), (12, regions), (40, zones), (44, requests)] {
+    for (offset, bad) in [(0, 2), (0, 4), (16, 0), (16, regions), (52, zones), (56, requests)] {
         let mut plan = whole_plan();
         plan[offset..offset + 4].copy_from_slice(&u32::to_le_bytes(bad));
         assert_eq!(Plan::read(&plan).err(), Some(ReadFault::Count(offset)), "{bad} at {offset}");
@@ -268,21 +306,42 @@ fn counts_out_of_range() {
 }
 
 #[test]
+fn the_third_mark() {
+    for bad in [0, 1, 3, 0x102, u32::MAX] {
+        let mut plan = whole_plan();
+        plan[12..16].copy_from_slice(&u32::to_le_bytes(bad));
+        assert_eq!(Plan::read(&plan).err(), Some(ReadFault::Count(12)), "{bad}");
+        plan[16..20].fill(0);
+        assert_eq!(Plan::read(&plan).err(), Some(ReadFault::Count(12)), "{bad} before a count that is out of range");
+        assert_eq!(Plan::read(&plan[..16]).err(), Some(ReadFault::Count(12)), "{bad} and nothing behind it");
+    }
+}
+
+#[test]
+fn a_plan_of_the_first_format() {
+    let plan = spelled(FIRST_FORMAT, 24);
+    assert_eq!(plan.len(), 80);
+    let mut state = first_state();
+    assert_eq!(state.apply(&plan), Err(PlanRefusal::Read(ReadFault::Count(0))));
+    assert_eq!(state, first_state());
+}
+
+#[test]
 fn bytes_after_the_plan() {
     let mut plan = whole_plan();
     plan.push(0);
-    assert_eq!(Plan::read(&plan).err(), Some(ReadFault::Trailing(80)));
+    assert_eq!(Plan::read(&plan).err(), Some(ReadFault::Trailing(100)));
 }
 
 #[test]
 fn the_least_and_the_longest_plan() {
-    assert_eq!(encode(&first_state(), &[]).len(), 48);
+    assert_eq!(encode(&first_state(), &[]).len(), 60);
     let zone = Zone { id: 0, cpu: vec![A; MAX_IN_SET], iommu: vec![A; MAX_IN_SET] };
     let config = Config { regions: vec![A; MAX_REGIONS], gic: 0 };
     let full = State { config, table: Table { zones: vec![zone; MAX_ZONES] }, edition: 0 };
     let add = Record { kind: ADD, zone: 5, region: Region::ZERO };
     let longest = encode(&full, &[add; MAX_REQUESTS]);
-    assert_eq!(longest.len(), 63_896);
+    assert_eq!(longest.len(), 61_852);
     assert!(Plan::read(&longest).is_ok());
 }
 

@@ -10,10 +10,10 @@ const ZONE: u32 = 5;
 const PAGE: usize = 4096;
 const MEMORY_START: u64 = 0x8000_0000;
 
-const GIC: Region = Region::new(0x0800_0000, 0x0800_0000, 0x1_0000);
+const GIC: Region = Region::new(0x0800_0000, 0x0800_0000, 0x1_0000, 3);
 /// Their guest addresses adjoin. The second lies before the first, and the first ends where the memory does.
-const FIRST: Region = Region::new(0x4000_0000, MEMORY_START + PAGE as u64, 2 * PAGE as u64);
-const SECOND: Region = Region::new(0x4000_2000, MEMORY_START, PAGE as u64);
+const FIRST: Region = Region::new(0x4000_0000, MEMORY_START + PAGE as u64, 2 * PAGE as u64, 3);
+const SECOND: Region = Region::new(0x4000_2000, MEMORY_START, PAGE as u64, 3);
 
 /// Where the zone left ten bytes that lie in both.
 const MESSAGE: Guest = Guest(0x4000_1ffc);

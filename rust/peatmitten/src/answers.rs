@@ -85,7 +85,7 @@ impl fmt::Display for ConfigFault {
 
 impl Error for ConfigFault {}
 
-/// Why a request or a translation is refused: 1 to 18.
+/// Why a request or a translation is refused: 1 to 19.
 #[derive(Clone, Copy, Debug, PartialEq, Eq, PartialOrd, Ord, Hash)]
 #[repr(u32)]
 pub enum Refusal {
@@ -125,10 +125,12 @@ pub enum Refusal {
     NoRegion = 17,
     /// 18: no region covers the address.
     NotCovered = 18,
+    /// 19: a CPU region with write and execute, or an IOMMU region with execute.
+    TooManyRights = 19,
 }
 
 impl Refusal {
-    const ALL: [Refusal; 18] = [
+    const ALL: [Refusal; 19] = [
         Refusal::UnsoundConfig,
         Refusal::UnsoundTable,
         Refusal::NoRequest,
@@ -147,6 +149,7 @@ impl Refusal {
         Refusal::SetFull,
         Refusal::NoRegion,
         Refusal::NotCovered,
+        Refusal::TooManyRights,
     ];
 
     pub(crate) fn from_library(number: u32) -> Result<(), Refusal> {
@@ -186,6 +189,7 @@ impl fmt::Display for Refusal {
             Refusal::SetFull => "that set has as many regions as it can",
             Refusal::NoRegion => "the region is not in that set",
             Refusal::NotCovered => "no region covers the address",
+            Refusal::TooManyRights => "the region has more rights than that set may give",
         })
     }
 }
@@ -200,9 +204,9 @@ pub enum ReadFault {
         /// Where the field begins.
         offset: u64,
     },
-    /// 21: a count is out of range.
+    /// 21: a count is out of range, or the third mark is another format's.
     Count {
-        /// Where the count stands.
+        /// Where the count or the mark stands.
         offset: u64,
     },
     /// 22: there are bytes after the last section.
@@ -244,7 +248,7 @@ impl fmt::Display for ReadFault {
     fn fmt(&self, f: &mut fmt::Formatter) -> fmt::Result {
         match self {
             ReadFault::Cut { offset } => write!(f, "the field at offset {offset} is not wholly there"),
-            ReadFault::Count { offset } => write!(f, "the count at offset {offset} is out of range"),
+            ReadFault::Count { offset } => write!(f, "the count or mark at offset {offset} is out of range"),
             ReadFault::Trailing { offset } => write!(f, "the plan ends at offset {offset}, but there are bytes after it"),
         }
     }

@@ -18,8 +18,8 @@ pub const CONFIG_WORDS: usize = REGIONS + MOST_REGIONS * Region::WORDS;
 /// ```
 /// use peatmitten::{Config, ConfigFault, Region};
 ///
-/// let low = Region::new(0x1000, 0x1000, 0x2000);
-/// let high = Region::new(0x1000, 0x2000, 0x2000);
+/// let low = Region::new(0x1000, 0x1000, 0x2000, 3);
+/// let high = Region::new(0x1000, 0x2000, 0x2000, 3);
 /// let config = Config::new(&[low, high], 0).expect("few enough regions");
 /// assert_eq!(config.check(), Err(ConfigFault::Overlap { place: 1, earlier: 0 }));
 /// ```

@@ -6,21 +6,21 @@
 //! ```
 //! use peatmitten::{Config, PlanRefusal, Region, State};
 //!
-//! let gic = Region::new(0x0800_0000, 0x0800_0000, 0x1_0000);
+//! let gic = Region::new(0x0800_0000, 0x0800_0000, 0x1_0000, 3);
 //! let mut state = State::new(Config::new(&[gic], 0).expect("few enough regions"));
 //!
 //! // A plan for edition 0 of this terminal: add zone 5.
 //! let mut plan = Vec::new();
-//! for number in [2u32, 0, 0, 1] {
+//! for number in [3u32, 0, 0, 2, 1] {
 //!     plan.extend(number.to_le_bytes());
 //! }
-//! for number in [0x0800_0000u64, 0x0800_0000, 0x1_0000] {
+//! for number in [0x0800_0000u64, 0x0800_0000, 0x1_0000, 3] {
 //!     plan.extend(number.to_le_bytes());
 //! }
 //! for number in [0u32, 1, 1, 5] {
 //!     plan.extend(number.to_le_bytes());
 //! }
-//! plan.extend([0; 24]);
+//! plan.extend([0; 32]);
 //!
 //! assert_eq!(state.apply(&plan), Ok(1));
 //! assert_eq!(state.edition, 1);
@@ -52,7 +52,7 @@ pub use config::{Config, CONFIG_WORDS};
 pub use plan::{base_edition, read_plan, State};
 pub use reading::{Counted, Field, Reading};
 pub use receiver::Receiver;
-pub use region::{ByteCount, Guest, Physical, Region};
+pub use region::{ByteCount, Guest, Physical, Region, Rights};
 pub use request::{Request, Side};
 pub use store::STATE_BYTES;
 pub use table::{Table, Translated, Zone, TABLE_WORDS};

@@ -7,6 +7,6 @@ pub const MOST_ZONES: usize = 32;
 /// The most regions of one set of a zone.
 pub const MOST_IN_SET: usize = 16;
 /// The most requests of a plan.
-pub const MOST_REQUESTS: usize = 1024;
+pub const MOST_REQUESTS: usize = 512;
 /// How long a plan can be; a longer file is none.
-pub const LONGEST_PLAN: usize = 63896;
+pub const LONGEST_PLAN: usize = 61852;

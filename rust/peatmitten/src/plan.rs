@@ -28,9 +28,9 @@ impl State {
     /// ```
     /// use peatmitten::{Config, PlanRefusal, ReadFault, Region, State};
     ///
-    /// let gic = Region::new(0x0800_0000, 0x0800_0000, 0x1_0000);
+    /// let gic = Region::new(0x0800_0000, 0x0800_0000, 0x1_0000, 3);
     /// let mut state = State::new(Config::new(&[gic], 0).expect("few enough regions"));
-    /// let refusal = state.apply(&[2, 0, 0, 0, 0]).unwrap_err();
+    /// let refusal = state.apply(&[3, 0, 0, 0, 0]).unwrap_err();
     /// assert_eq!(refusal, PlanRefusal::Read(ReadFault::Cut { offset: 4 }));
     /// assert_eq!(refusal.number(), 20);
     /// assert_eq!(refusal.to_string(), "the field at offset 4 is not wholly there");
@@ -47,8 +47,8 @@ impl State {
 /// ```
 /// use peatmitten::{base_edition, ReadFault};
 ///
-/// assert_eq!(base_edition(&[2, 0, 0, 0, 0, 0, 0, 0, 7, 0, 0, 0]), Ok(7));
-/// assert_eq!(base_edition(&[2, 0, 0, 0, 0, 0, 0, 0, 7]), Err(ReadFault::Cut { offset: 8 }));
+/// assert_eq!(base_edition(&[3, 0, 0, 0, 0, 0, 0, 0, 7, 0, 0, 0, 2, 0, 0, 0]), Ok(7));
+/// assert_eq!(base_edition(&[3, 0, 0, 0, 0, 0, 0, 0, 7]), Err(ReadFault::Cut { offset: 8 }));
 /// ```
 pub fn base_edition(plan: &[u8]) -> Result<u32, ReadFault> {
     let (number, answer) = raw::edition(plan);
@@ -61,7 +61,7 @@ pub fn base_edition(plan: &[u8]) -> Result<u32, ReadFault> {
 /// ```
 /// use peatmitten::{read_plan, ReadFault};
 ///
-/// assert_eq!(read_plan(&[3, 0, 0, 0]), Err(ReadFault::Count { offset: 0 }));
+/// assert_eq!(read_plan(&[2, 0, 0, 0]), Err(ReadFault::Count { offset: 0 }));
 /// ```
 pub fn read_plan(plan: &[u8]) -> Result<u64, ReadFault> {
     let (number, place) = raw::read(plan);

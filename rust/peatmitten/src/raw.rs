@@ -11,11 +11,19 @@ mod library {
     use super::{Config, Table};
 
     extern "C" {
-        pub fn peatmitten_layout_256_32_16_1024_3(which: u32) -> u64;
+        pub fn peatmitten_layout_256_32_16_512_4(which: u32) -> u64;
         pub fn peatmitten_check_config(config: *const Config, places: *mut [u64; 2]) -> u32;
         pub fn peatmitten_check_table(config: *const Config, table: *const Table) -> u32;
-        pub fn peatmitten_request(config: *const Config, table: *mut Table, kind: u32, zone: u32, v: u64, p: u64, size: u64)
-            -> u32;
+        pub fn peatmitten_request(
+            config: *const Config,
+            table: *mut Table,
+            kind: u32,
+            zone: u32,
+            v: u64,
+            p: u64,
+            size: u64,
+            rights: u64,
+        ) -> u32;
         pub fn peatmitten_translate_words(
             config: *const Config,
             table: *const Table,
@@ -60,11 +68,11 @@ mod library {
 /// The limits and sizes that the library and this crate must share, in the order of the header; 0 past the last. They are in the name of
 /// the library's function, so that this crate does not link with another library.
 pub fn layout(which: u32) -> u64 {
-    unsafe { library::peatmitten_layout_256_32_16_1024_3(which) }
+    unsafe { library::peatmitten_layout_256_32_16_512_4(which) }
 }
 
 #[used]
-static LAYOUT_NEEDED: unsafe extern "C" fn(u32) -> u64 = library::peatmitten_layout_256_32_16_1024_3;
+static LAYOUT_NEEDED: unsafe extern "C" fn(u32) -> u64 = library::peatmitten_layout_256_32_16_512_4;
 
 /// What stands in an answer's place before the library writes it: no answer, so that one which it left out would show.
 const UNWRITTEN: u64 = u64::MAX;
@@ -81,9 +89,9 @@ pub fn check_table(config: &Config, table: &Table) -> u32 {
     unsafe { library::peatmitten_check_table(config, table) }
 }
 
-/// The number of a request's refusal, or 0. The region is v, p, size.
-pub fn request(config: &Config, table: &mut Table, kind: u32, zone: u32, [v, p, size]: [u64; Region::WORDS]) -> u32 {
-    unsafe { library::peatmitten_request(config, table, kind, zone, v, p, size) }
+/// The number of a request's refusal, or 0. The region is v, p, size, rights.
+pub fn request(config: &Config, table: &mut Table, kind: u32, zone: u32, [v, p, size, rights]: [u64; Region::WORDS]) -> u32 {
+    unsafe { library::peatmitten_request(config, table, kind, zone, v, p, size, rights) }
 }
 
 /// The number of a translation's refusal, or 0, and the physical address with how many bytes of the covering region there are from it

@@ -10,7 +10,7 @@ use crate::table::Table;
 /// What a count of a plan counts.
 #[derive(Clone, Copy, Debug, PartialEq, Eq, Hash)]
 pub enum Counted {
-    /// The marks, always two.
+    /// The marks, always three.
     Marks,
     /// The configured regions.
     Regions,
@@ -31,6 +31,8 @@ pub enum Field {
     Gic(u32),
     /// The second mark: the base edition.
     Edition(u32),
+    /// The third mark: the format.
+    Format(u32),
     /// A configured region.
     Region(Region),
     /// The id of a base zone.
@@ -46,8 +48,8 @@ pub enum Field {
 /// ```
 /// use peatmitten::{Counted, Field, ReadFault, Reading};
 ///
-/// let reading = Reading::of(&[2, 0, 0, 0, 7, 0, 0, 0, 9]);
-/// assert_eq!(reading.fields, [(0, Field::Count(Counted::Marks, 2)), (4, Field::Gic(7))]);
+/// let reading = Reading::of(&[3, 0, 0, 0, 7, 0, 0, 0, 9]);
+/// assert_eq!(reading.fields, [(0, Field::Count(Counted::Marks, 3)), (4, Field::Gic(7))]);
 /// assert_eq!(reading.end, Err(ReadFault::Cut { offset: 8 }));
 /// ```
 #[derive(Clone, Debug, PartialEq, Eq)]
@@ -146,6 +148,7 @@ impl Fields<'_> {
         self.count(Counted::Marks)?;
         self.short(Field::Gic)?;
         self.short(Field::Edition)?;
+        self.short(Field::Format)?;
         for _ in 0..self.count(Counted::Regions)? {
             self.region(Field::Region)?;
         }

@@ -8,12 +8,12 @@ use crate::raw;
 /// ```
 /// use peatmitten::{limits::LONGEST_PLAN, Config, PlanRefusal, ReadFault, Receiver, Region, State};
 ///
-/// let gic = Region::new(0x0800_0000, 0x0800_0000, 0x1_0000);
+/// let gic = Region::new(0x0800_0000, 0x0800_0000, 0x1_0000, 3);
 /// let mut state = State::new(Config::new(&[gic], 0).expect("few enough regions"));
 /// let mut receiver = Receiver::new();
 /// let mut buffer = vec![0; LONGEST_PLAN];
 ///
-/// for piece in [&[2, 0][..], &[], &[0, 0, 0]] {
+/// for piece in [&[3, 0][..], &[], &[0, 0, 0]] {
 ///     receiver.take(&mut buffer, piece).expect("a buffer that is long enough");
 /// }
 /// let refusal = state.end(&mut receiver, &buffer).unwrap_err();

@@ -16,6 +16,26 @@ pub struct Physical(pub u64);
 #[derive(Clone, Copy, Debug, PartialEq, Eq, PartialOrd, Ord, Hash)]
 pub struct ByteCount(pub u64);
 
+/// What may be done with a region: a sum of [`READ`](Rights::READ), [`WRITE`](Rights::WRITE) and [`EXECUTE`](Rights::EXECUTE). It is a type
+/// of its own, so that no size or address is taken for it:
+///
+/// ```compile_fail,E0308
+/// use peatmitten::{ByteCount, Rights};
+///
+/// let rights: Rights = ByteCount(3);
+/// ```
+#[derive(Clone, Copy, Debug, PartialEq, Eq, Hash)]
+pub struct Rights(pub u64);
+
+impl Rights {
+    /// The right to read.
+    pub const READ: u64 = 1;
+    /// The right to write.
+    pub const WRITE: u64 = 2;
+    /// The right to execute.
+    pub const EXECUTE: u64 = 4;
+}
+
 /// A stretch of guest addresses and the stretch of physical addresses behind it.
 #[derive(Clone, Copy, Debug, PartialEq, Eq, Hash)]
 pub struct Region {
@@ -25,26 +45,28 @@ pub struct Region {
     pub p: Physical,
     /// Its size in bytes.
     pub size: u64,
+    /// What may be done with it.
+    pub rights: Rights,
 }
 
 impl Region {
     /// How many words a region is.
-    pub const WORDS: usize = 3;
+    pub const WORDS: usize = 4;
 
-    /// A region from its guest start, its physical start and its size.
-    pub const fn new(v: u64, p: u64, size: u64) -> Region {
-        Region { v: Guest(v), p: Physical(p), size }
+    /// A region from its guest start, its physical start, its size and its rights.
+    pub const fn new(v: u64, p: u64, size: u64, rights: u64) -> Region {
+        Region { v: Guest(v), p: Physical(p), size, rights: Rights(rights) }
     }
 
     /// How many bytes a region is in a plan: each word is 8.
     pub(crate) const BYTES: u64 = Region::WORDS as u64 * 8;
 
-    pub(crate) const fn from_words([v, p, size]: [u64; Region::WORDS]) -> Region {
-        Region::new(v, p, size)
+    pub(crate) const fn from_words([v, p, size, rights]: [u64; Region::WORDS]) -> Region {
+        Region::new(v, p, size, rights)
     }
 
     pub(crate) fn words(&self) -> [u64; Region::WORDS] {
-        [self.v.0, self.p.0, self.size]
+        [self.v.0, self.p.0, self.size, self.rights.0]
     }
 
     /// The regions that stand in these words, one after the other.

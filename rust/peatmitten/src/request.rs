@@ -23,7 +23,7 @@ impl Side {
 /// ```
 /// use peatmitten::{Region, Request, Side};
 ///
-/// let region = Region::new(0x4000_0000, 0x8000_0000, 0x20_0000);
+/// let region = Region::new(0x4000_0000, 0x8000_0000, 0x20_0000, 3);
 /// assert_eq!(Request::insert(5, Side::Cpu, region), Request::from_numbers(3, 5, region));
 /// ```
 #[derive(Clone, Copy, Debug, PartialEq, Eq, Hash)]

@@ -34,7 +34,7 @@ impl State {
     /// ```
     /// use peatmitten::{Config, Region, State};
     ///
-    /// let state = State::new(Config::new(&[Region::new(0, 0, 0x1000)], 0).expect("few enough regions"));
+    /// let state = State::new(Config::new(&[Region::new(0, 0, 0x1000, 3)], 0).expect("few enough regions"));
     /// assert_eq!(State::from_bytes(&state.to_bytes()), Some(state));
     /// assert_eq!(State::from_bytes(b"short"), None);
     /// ```

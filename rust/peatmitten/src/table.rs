@@ -21,8 +21,8 @@ pub const TABLE_WORDS: usize = ZONES + MOST_ZONES * ZONE_WORDS;
 /// ```
 /// use peatmitten::{ByteCount, Config, Guest, Physical, Refusal, Region, Request, Side, Table};
 ///
-/// let memory = Region::new(0x4000_0000, 0x8000_0000, 0x20_0000);
-/// let gic = Region::new(0x0800_0000, 0x0800_0000, 0x1_0000);
+/// let memory = Region::new(0x4000_0000, 0x8000_0000, 0x20_0000, 3);
+/// let gic = Region::new(0x0800_0000, 0x0800_0000, 0x1_0000, 3);
 /// let config = Config::new(&[memory, gic], 1).expect("few enough regions");
 ///
 /// let mut table = Table::new();

@@ -8,7 +8,7 @@ use std::path::PathBuf;
 use peatmitten::limits::LONGEST_PLAN;
 use peatmitten::{Config, Counted, Field, PlanRefusal, ReadFault, Reading, Refusal, Region, Request, Side, State, STATE_BYTES};
 
-const GIC: Region = Region::new(0x0800_0000, 0x0800_0000, 0x1_0000);
+const GIC: Region = Region::new(0x0800_0000, 0x0800_0000, 0x1_0000, 3);
 
 const FIRST_PLAN: &[u8] = include_bytes!("../../../examples/first.plan");
 const REFUSED_PLAN: &[u8] = include_bytes!("../../../examples/refused.plan");
@@ -79,25 +79,26 @@ fn what_is_no_state_file_is_named() {
 #[test]
 fn what_a_plan_says() {
     let reading = Reading::of(FIRST_PLAN);
-    assert_eq!(reading.end, Ok(80));
+    assert_eq!(reading.end, Ok(100));
     assert_eq!(
         reading.fields,
         [
-            (0, Field::Count(Counted::Marks, 2)),
+            (0, Field::Count(Counted::Marks, 3)),
             (4, Field::Gic(0)),
             (8, Field::Edition(0)),
-            (12, Field::Count(Counted::Regions, 1)),
-            (16, Field::Region(GIC)),
-            (40, Field::Count(Counted::Zones, 0)),
-            (44, Field::Count(Counted::Requests, 1)),
-            (48, Field::Request(Request::add_zone(5))),
+            (12, Field::Format(2)),
+            (16, Field::Count(Counted::Regions, 1)),
+            (20, Field::Region(GIC)),
+            (52, Field::Count(Counted::Zones, 0)),
+            (56, Field::Count(Counted::Requests, 1)),
+            (60, Field::Request(Request::add_zone(5))),
         ]
     );
     let held: Vec<_> = Reading::of(REFUSED_PLAN).fields.into_iter().filter(|(_, field)| matches!(field, Field::Held(..))).collect();
-    let memory = Region::new(0x4000_0000, 0x8000_0000, 0x20_0000);
+    let memory = Region::new(0x4000_0000, 0x8000_0000, 0x20_0000, 3);
     assert_eq!(
         held,
-        [(124, Field::Held(Side::Cpu, memory)), (152, Field::Held(Side::Iommu, memory)), (176, Field::Held(Side::Iommu, GIC))]
+        [(160, Field::Held(Side::Cpu, memory)), (196, Field::Held(Side::Iommu, memory)), (228, Field::Held(Side::Iommu, GIC))]
     );
 }
 
@@ -125,7 +126,7 @@ fn the_base_of_a_plan() {
     let mut bad_gic = FIRST_PLAN.to_vec();
     bad_gic[4] = 1;
     assert_eq!(State::base_of(&bad_gic), Err(PlanRefusal::UnsoundConfig));
-    assert_eq!(State::base_of(&FIRST_PLAN[..79]), Err(PlanRefusal::Read(ReadFault::Cut { offset: 48 })));
+    assert_eq!(State::base_of(&FIRST_PLAN[..99]), Err(PlanRefusal::Read(ReadFault::Cut { offset: 60 })));
     let mut last = FIRST_PLAN.to_vec();
     last[8..12].fill(0xff);
     assert_eq!(State::base_of(&last).map(|state| state.edition), Ok(u32::MAX));

@@ -7,10 +7,10 @@ use peatmitten::{
     Request, Side, State, Table, Translated, CONFIG_WORDS, STATE_BYTES, TABLE_WORDS,
 };
 
-const A: Region = Region::new(0x4000_0000, 0x8000_0000, 0x20_0000);
-const B: Region = Region::new(0x4000_0000, 0x8020_0000, 0x20_0000);
-const C: Region = Region::new(0x4010_0000, 0x9000_0000, 0x20_0000);
-const G: Region = Region::new(0x0800_0000, 0x0800_0000, 0x1_0000);
+const A: Region = Region::new(0x4000_0000, 0x8000_0000, 0x20_0000, 3);
+const B: Region = Region::new(0x4000_0000, 0x8020_0000, 0x20_0000, 3);
+const C: Region = Region::new(0x4010_0000, 0x9000_0000, 0x20_0000, 3);
+const G: Region = Region::new(0x0800_0000, 0x0800_0000, 0x1_0000, 3);
 
 const FIRST_PLAN: &[u8] = include_bytes!("../../../examples/first.plan");
 const REFUSED_PLAN: &[u8] = include_bytes!("../../../examples/refused.plan");
@@ -106,7 +106,7 @@ fn more_regions_than_words() {
 #[test]
 fn plans() {
     let mut state = first_state();
-    assert_eq!(state.apply(CUT_PLAN), Err(PlanRefusal::Read(ReadFault::Cut { offset: 48 })));
+    assert_eq!(state.apply(CUT_PLAN), Err(PlanRefusal::Read(ReadFault::Cut { offset: 60 })));
     assert_eq!(state.apply(REFUSED_PLAN), Err(PlanRefusal::OtherConfig));
     assert_eq!(state, first_state());
     assert_eq!(state.apply(FIRST_PLAN), Ok(1));
@@ -137,20 +137,21 @@ fn base_editions() {
     assert_eq!(base_edition(FIRST_PLAN), Ok(0));
     assert_eq!(base_edition(REFUSED_PLAN), Ok(7));
     assert_eq!(base_edition(CUT_PLAN), Ok(0), "nothing behind the marks is looked at");
-    for (length, offset) in [(0, 0), (3, 0), (4, 4), (7, 4), (8, 8), (11, 8)] {
+    for (length, offset) in [(0, 0), (3, 0), (4, 4), (7, 4), (8, 8), (11, 8), (12, 12), (15, 12)] {
         assert_eq!(base_edition(&FIRST_PLAN[..length]), Err(ReadFault::Cut { offset }));
     }
-    assert_eq!(base_edition(&[3, 0, 0, 0]), Err(ReadFault::Count { offset: 0 }));
-    let last = [&FIRST_PLAN[..8], &[0xff; 4]].concat();
+    assert_eq!(base_edition(&[2, 0, 0, 0]), Err(ReadFault::Count { offset: 0 }));
+    assert_eq!(base_edition(&[&FIRST_PLAN[..12], &[3, 0, 0, 0]].concat()), Err(ReadFault::Count { offset: 12 }));
+    let last = [&FIRST_PLAN[..8], &[0xff; 4], &[2, 0, 0, 0]].concat();
     assert_eq!(base_edition(&last), Ok(u32::MAX));
 }
 
 #[test]
 fn reading() {
-    assert_eq!(read_plan(FIRST_PLAN), Ok(48));
-    assert_eq!(read_plan(CUT_PLAN), Err(ReadFault::Cut { offset: 48 }));
+    assert_eq!(read_plan(FIRST_PLAN), Ok(60));
+    assert_eq!(read_plan(CUT_PLAN), Err(ReadFault::Cut { offset: 60 }));
     let longer = [FIRST_PLAN, &[0]].concat();
-    assert_eq!(read_plan(&longer), Err(ReadFault::Trailing { offset: 80 }));
+    assert_eq!(read_plan(&longer), Err(ReadFault::Trailing { offset: 100 }));
 }
 
 #[test]

@@ -41,6 +41,7 @@ impl Lines {
                 format!("GIC position: {position}")
             }
             Field::Edition(edition) => format!("base edition: {edition}"),
+            Field::Format(format) => format!("format: {format}"),
             Field::Region(region) => {
                 let place = next(&mut self.regions);
                 let gic = if self.gic == Some(place) { ", the GIC" } else { "" };
@@ -79,14 +80,14 @@ fn side_name(side: Side) -> &'static str {
 }
 
 fn numbers(region: &Region) -> String {
-    format!("v {:#x}, p {:#x}, size {:#x}", region.v.0, region.p.0, region.size)
+    format!("v {:#x}, p {:#x}, size {:#x}, rights {}", region.v.0, region.p.0, region.size, region.rights.0)
 }
 
 /// A request by the name of its kind. Whether it may be made is not judged here, so a region that does not belong is told too.
 fn request(asked: &Request) -> String {
     let zone = asked.zone();
     let region = numbers(&asked.region());
-    let no_region = asked.region() == Region::new(0, 0, 0);
+    let no_region = asked.region() == Region::new(0, 0, 0, 0);
     match asked.kind() {
         1 if no_region => format!("add zone {zone}"),
         2 if no_region => format!("remove zone {zone}"),

@@ -1,4 +1,4 @@
--- Each return is one test of the conjunction: guest start, physical start, size.
+-- Each return is one test of the conjunction: guest start, physical start, size, rights.
 use Rattle.lists.specs.Tests.{eachTwo}
 use Rattle.lists.proofs.Tests.{conjunction}
 use Rattle.rules.specs.Fields.{numbersOf}
@@ -18,5 +18,9 @@ returns-3 : tie.Need-returns-3
 unfolding regionEq numbersOf eachTwo
 returns-3 c = search conjunction depth 12
 
+returns-4 : tie.Need-returns-4
+unfolding regionEq numbersOf eachTwo
+returns-4 c = search conjunction depth 12
+
 pub region-eq-spec : {M : Type 1} → statement M
-region-eq-spec = tie.close (tie.spec returns returns-2 returns-3)
+region-eq-spec = tie.close (tie.spec returns returns-2 returns-3 returns-4)

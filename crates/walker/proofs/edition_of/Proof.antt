@@ -1,5 +1,5 @@
--- `walker::edition_of` meets its contract: a walk of its MIR, by hand. `new` makes a walker, three calls of `next` move
--- it, each passed the walker that stands in the answer before, and `judge` is passed what the three found. Of the
+-- `walker::edition_of` meets its contract: a walk of its MIR, by hand. `new` makes a walker, four calls of `next` move
+-- it, each passed the walker that stands in the answer before, and `judge` is passed what the four found. Of the
 -- callees the walk knows their contracts alone. A further mark is one more block for its `next`, one more local for
 -- what it found, and every position moved by its three locals. In a local of a body MIR erases the lifetime of the
 -- struct's type, so a value is shown to have the type at `erased`: what the struct owns does not say the lifetime's
@@ -186,41 +186,45 @@ module _ {M : Type 1} (𝓤 : URA M) (H : Heap 𝓤) (A : Atoms 𝓤) (W : Given
   abbrev IsFound : Found → Type 0
   IsFound x = Is F.the-row x (vf x ∷ [])
 
-  module _ (x y z : Found) where
+  module _ (x y z w : Found) where
     abbrev to-judge : Judge 𝓤 H A mem run .Ghost
-    to-judge = ((tt, tt, tt, (x, (y, (z, tt))), (vf x ∷ [], (vf y ∷ [], (vf z ∷ [], tt)))), tt)
+    to-judge = ((tt, tt, tt, (x, (y, (z, (w, tt)))), (vf x ∷ [], (vf y ∷ [], (vf z ∷ [], (vf w ∷ [], tt))))), tt)
 
-    asked : ent 𝓤 (onEntry 𝓤 H A judge.signature tt tt (x, (y, (z, tt))) (vf x ∷ [], (vf y ∷ [], (vf z ∷ [], tt))))
+    asked : ent 𝓤 (onEntry 𝓤 H A judge.signature tt tt (x, (y, (z, (w, tt)))) (vf x ∷ [], (vf y ∷ [], (vf z ∷ [], (vf w ∷ [], tt)))))
         (Judge 𝓤 H A mem run .pre to-judge)
     asked =
-        qed W (‵ ftrue ∷ ‵ (owns (F.the-row ∷ F.the-row ∷ F.the-row ∷ []) (x, (y, (z, tt)))
-        (vf x ∷ [], (vf y ∷ [], (vf z ∷ [], tt)))) ∷ []) ∵
+        qed W (‵ ftrue ∷ ‵ (owns (F.the-row ∷ F.the-row ∷ F.the-row ∷ F.the-row ∷ []) (x, (y, (z, (w, tt))))
+        (vf x ∷ [], (vf y ∷ [], (vf z ∷ [], (vf w ∷ [], tt))))) ∷ []) ∵
         join ! $ frame ! $ done !
 
-    goes-judge : IsFound x → IsFound y → IsFound z
+    goes-judge : IsFound x → IsFound y → IsFound z → IsFound w
         → ent 𝓤 (sem 𝓤 H A Own) (sep 𝓤 (Judge 𝓤 H A mem run .pre to-judge) (sem 𝓤 H A Own))
-    goes-judge ix iy iz =
+    goes-judge ix iy iz iw =
         qed W (‵ Own ∷ []) ∵ nothing ! $
+        owned ! F.the-row (Is F.the-row) (EL.makes F.the-type F′.the-plain 𝓤 H A) w _ iw $ fjoin ! $
         owned ! F.the-row (Is F.the-row) (EL.makes F.the-type F′.the-plain 𝓤 H A) z _ iz $ fjoin ! $
         owned ! F.the-row (Is F.the-row) (EL.makes F.the-type F′.the-plain 𝓤 H A) y _ iy $ fjoin ! $
         owned ! F.the-row (Is F.the-row) (EL.makes F.the-type F′.the-plain 𝓤 H A) x _ ix $ fjoin ! $
         nothing ! $ use2 W (raw (Judge 𝓤 H A mem run .pre to-judge)) asked $ frame ! $ done !
 
     judge-said : (a : Edition)
-        → ent 𝓤 (ensured 𝓤 H A judge.ended (judge.clauses 𝓤 H A mem run) tt (x, (y, (z, tt))) tt a)
-        (fact 𝓤 (a ≡ judged x y z))
+        → ent 𝓤 (ensured 𝓤 H A judge.ended (judge.clauses 𝓤 H A mem run) tt (x, (y, (z, (w, tt)))) tt a)
+        (fact 𝓤 (a ≡ judged x y z w))
     judge-said a =
-        exE 𝓤 _ (λ ws. snd∗ 𝓤 (sem 𝓤 H A (lasts judge.ended tt (x, (y, (z, tt))) ws)) (fact 𝓤 (a ≡ judged x y z)))
+        exE 𝓤 _ (λ ws. snd∗ 𝓤 (sem 𝓤 H A (lasts judge.ended tt (x, (y, (z, (w, tt)))) ws)) (fact 𝓤 (a ≡ judged x y z w)))
 
-  -- three moves from the start, judged, are the edition
-  told : (r : Walker) (t t′ t″ : Answer) (a : Edition) → r ≡ startOf s → t ≡ nextOf r → t′ ≡ nextOf (t .walker)
-      → t″ ≡ nextOf (t′ .walker) → a ≡ judged (t .found) (t′ .found) (t″ .found) → a ≡ editionOf (now s)
-  told r t t′ t″ a e e′ e″ e‴ j =
+  -- four moves from the start, judged, are the edition
+  told : (r : Walker) (t t′ t″ t‴ : Answer) (a : Edition) → r ≡ startOf s → t ≡ nextOf r → t′ ≡ nextOf (t .walker)
+      → t″ ≡ nextOf (t′ .walker) → t‴ ≡ nextOf (t″ .walker)
+      → a ≡ judged (t .found) (t′ .found) (t″ .found) (t‴ .found) → a ≡ editionOf (now s)
+  told r t t′ t″ t‴ a e e′ e″ e‴ e⁗ j =
       let p : t ≡ nextOf (startOf s) = e′ ∙ ap (λ (w : Walker). nextOf w) e in
       let p′ : t′ ≡ nextOf (nextOf (startOf s) .walker) = e″ ∙ ap (λ (b : Answer). nextOf (b .walker)) p in
       let p″ : t″ ≡ nextOf (nextOf (nextOf (startOf s) .walker) .walker) =
       e‴ ∙ ap (λ (b : Answer). nextOf (b .walker)) p′ in
-      j ∙ (λ i. judged (p i .found) (p′ i .found) (p″ i .found)) ∙ walked-is (now s)
+      let p‴ : t‴ ≡ nextOf (nextOf (nextOf (nextOf (startOf s) .walker) .walker) .walker) =
+      e⁗ ∙ ap (λ (b : Answer). nextOf (b .walker)) p″ in
+      j ∙ (λ i. judged (p i .found) (p′ i .found) (p″ i .found) (p‴ i .found)) ∙ walked-is (now s)
 
   exits : (a : Edition) (u : Val) → Is E.the-row a (u ∷ []) → a ≡ editionOf (now s)
       → ent 𝓤 (⋆ 𝓤 H A ((‵ (flft κ q) ⊛ ‵ ftrue) ∷ ‵ Own ∷ [])) (Post u)
@@ -253,109 +257,134 @@ module _ {M : Type 1} (𝓤 : URA M) (H : Heap 𝓤) (A : Atoms 𝓤) (W : Given
         alloc1 ! (λ l₂.
         alloc1 ! (λ l₃.
         alloc1 ! (λ l₄.
-        alloc1 ! (λ l₅. alloc1 ! (λ l₆. alloc1 ! (λ l₇. alloc1 ! (λ l₈. alloc1 ! (λ l₉. alloc1 ! (λ l₁₀. alloc0 ! $
+        alloc1 ! (λ l₅. alloc1 ! (λ l₆. alloc1 ! (λ l₇. alloc1 ! (λ l₈. alloc1 ! (λ l₉. alloc1 ! (λ l₁₀.
+        alloc1 ! (λ l₁₁. alloc1 ! (λ l₁₂. alloc1 ! (λ l₁₃. alloc0 ! $
         params1 ! $
-        pass1 ! (init ! 18 refl (shr-slice-lawful 𝓤 H A W (named 0) κ u8 .typed s (v ∷ []) p .0)) $ pass0 ! $
-        move ! (22 ∷ []) $ use1 W (raw (New 𝓤 H A mem run .pre to-new) ⊛ ‵ Own) goes-new $ split ! $
+        pass1 ! (init ! 24 refl (shr-slice-lawful 𝓤 H A W (named 0) κ u8 .typed s (v ∷ []) p .0)) $ pass0 ! $
+        move ! (28 ∷ []) $ use1 W (raw (New 𝓤 H A mem run .pre to-new) ⊛ ‵ Own) goes-new $ split ! $
         calls-at ! fm (New 𝓤 H A mem run) known-new to-new
-        (and-then ! (load ! (from ! (stop !)) (look ! 20 refl)) (no-more !)) (λ u.
+        (and-then ! (load ! (from ! (stop !)) (look ! 26 refl)) (no-more !)) (λ u.
         use1 W (later (some (λ (r : Walker). ((‵ (flft κ q) ⊛ ‵ ftrue) ⊛ ‵ (B (κ, tt) .own r (u ∷ [])))
         ⊛ raw (ensured 𝓤 H A new.ended (new.clauses 𝓤 H A mem run) (κ, tt) (s, tt) tt r)))) (id⊢ 𝓤 _) $
         await ! tt $ pick ! (λ r.
         split ! $ move ! (1 ∷ []) $ use1 W (raw (fact 𝓤 (r ≡ startOf s))) (new-said r) $
         heard ! (r ≡ startOf s) (λ e. split ! $ move ! (1 ∷ []) $
-        -- [what the walker owns; the token; what s owns; room for _10; …; room for _2; …; _1; …; room for _0; …]
+        -- [what the walker owns; the token; what s owns; room for _13; …; room for _2; …; _1; …; room for _0; …]
         peeks ! (B (κ, tt)) (Is (B (κ, tt))) (shows 𝓤 H A (B (κ, tt))) r (u ∷ []) (λ is.
-        land ! (from ! (stop !)) (init ! 13 refl
+        land ! (from ! (stop !)) (init ! 17 refl
         (LL.lawful (T.the-type αᵉ) (T′.the-laws αᵉ) 𝓤 H A W .typed r _ is .0)) $
-        -- the first `next`, of _5 into _2; the walker in it goes into _6
+        -- the first `next`, of _6 into _2; the walker in it goes into _7
         use2 W (raw (Next 𝓤 H A mem run .pre (to-next r u))) (goes-next r u) $
         calls-at ! fm (Next 𝓤 H A mem run) known-next (to-next r u)
-        (and-then ! (load ! (from ! (stop !)) (look ! 12 refl)) (no-more !)) (λ u′. use1 W (Moved r u′) (id⊢ 𝓤 _) $
+        (and-then ! (load ! (from ! (stop !)) (look ! 16 refl)) (no-more !)) (λ u′. use1 W (Moved r u′) (id⊢ 𝓤 _) $
         await ! tt $ pick ! (λ t.
         split ! $ move ! (1 ∷ []) $ use1 W (raw (fact 𝓤 (t ≡ nextOf r))) (next-said r t) $
         heard ! (t ≡ nextOf r) (λ e′. split ! $ move ! (1 ∷ []) $
         peeks ! R (Is R) (shows 𝓤 H A R) t (u′ ∷ []) (λ is′.
-        land ! (from ! (stop !)) (init ! 19 refl
+        land ! (from ! (stop !)) (init ! 25 refl
         (LL.lawful (N.the-type αᵉ) (N′.the-laws αᵉ) 𝓤 H A W .typed t _ is′ .0)) $
-        rewrite ! 19 (λ (w : Val). ‵ (fat fullShare (N′.mir erased) l₂ 0 w))
+        rewrite ! 25 (λ (w : Val). ‵ (fat fullShare (N′.mir erased) l₂ 0 w))
         (ap only (LL.tells (N.the-type αᵉ) (N′.the-laws αᵉ) t (u′ ∷ []) is′)) refl $
-        assigns ! (of-opd ! (load ! (from ! (fld ! refl (stop !))) (look-in ! 19 (sub ! 1 refl (whole !)))))
-        (from ! (stop !)) (init ! 11 refl (LL.lawful (T.the-type αᵉ) (T′.the-laws αᵉ) 𝓤 H A W .typed (t .walker) _
+        assigns ! (of-opd ! (load ! (from ! (fld ! refl (stop !))) (look-in ! 25 (sub ! 1 refl (whole !)))))
+        (from ! (stop !)) (init ! 15 refl (LL.lawful (T.the-type αᵉ) (T′.the-laws αᵉ) 𝓤 H A W .typed (t .walker) _
         (is-walker t u′ is′) .0)) $
         use1 W (‵ (B (κ, tt) .own (t .walker) (T′.lowered (t .walker) ∷ []))) (handed t u′) $
-        -- the second, of _6 into _3; the walker in it goes into _7
+        -- the second, of _7 into _3; the walker in it goes into _8
         use2 W (raw (Next 𝓤 H A mem run .pre (to-next (t .walker) (T′.lowered (t .walker)))))
         (goes-next (t .walker) (T′.lowered (t .walker))) $
         calls-at ! fm (Next 𝓤 H A mem run) known-next (to-next (t .walker) (T′.lowered (t .walker)))
-        (and-then ! (load ! (from ! (stop !)) (look ! 10 refl)) (no-more !))
+        (and-then ! (load ! (from ! (stop !)) (look ! 14 refl)) (no-more !))
         (λ u″. use1 W (Moved (t .walker) u″) (id⊢ 𝓤 _) $
         await ! tt $ pick ! (λ t′.
         split ! $ move ! (1 ∷ []) $ use1 W (raw (fact 𝓤 (t′ ≡ nextOf (t .walker)))) (next-said (t .walker) t′) $
         heard ! (t′ ≡ nextOf (t .walker)) (λ e″. split ! $ move ! (1 ∷ []) $
         peeks ! R (Is R) (shows 𝓤 H A R) t′ (u″ ∷ []) (λ is″.
-        land ! (from ! (stop !)) (init ! 17 refl
+        land ! (from ! (stop !)) (init ! 23 refl
         (LL.lawful (N.the-type αᵉ) (N′.the-laws αᵉ) 𝓤 H A W .typed t′ _ is″ .0)) $
-        rewrite ! 17 (λ (w : Val). ‵ (fat fullShare (N′.mir erased) l₃ 0 w))
+        rewrite ! 23 (λ (w : Val). ‵ (fat fullShare (N′.mir erased) l₃ 0 w))
         (ap only (LL.tells (N.the-type αᵉ) (N′.the-laws αᵉ) t′ (u″ ∷ []) is″)) refl $
-        assigns ! (of-opd ! (load ! (from ! (fld ! refl (stop !))) (look-in ! 17 (sub ! 1 refl (whole !)))))
-        (from ! (stop !)) (init ! 9 refl (LL.lawful (T.the-type αᵉ) (T′.the-laws αᵉ) 𝓤 H A W .typed (t′ .walker) _
+        assigns ! (of-opd ! (load ! (from ! (fld ! refl (stop !))) (look-in ! 23 (sub ! 1 refl (whole !)))))
+        (from ! (stop !)) (init ! 13 refl (LL.lawful (T.the-type αᵉ) (T′.the-laws αᵉ) 𝓤 H A W .typed (t′ .walker) _
         (is-walker t′ u″ is″) .0)) $
         use1 W (‵ (B (κ, tt) .own (t′ .walker) (T′.lowered (t′ .walker) ∷ []))) (handed t′ u″) $
-        -- the third, of _7 into _4
+        -- the third, of _8 into _4; the walker in it goes into _9
         use2 W (raw (Next 𝓤 H A mem run .pre (to-next (t′ .walker) (T′.lowered (t′ .walker)))))
         (goes-next (t′ .walker) (T′.lowered (t′ .walker))) $
         calls-at ! fm (Next 𝓤 H A mem run) known-next (to-next (t′ .walker) (T′.lowered (t′ .walker)))
-        (and-then ! (load ! (from ! (stop !)) (look ! 8 refl)) (no-more !))
+        (and-then ! (load ! (from ! (stop !)) (look ! 12 refl)) (no-more !))
         (λ u‴. use1 W (Moved (t′ .walker) u‴) (id⊢ 𝓤 _) $
         await ! tt $ pick ! (λ t″.
         split ! $ move ! (1 ∷ []) $ use1 W (raw (fact 𝓤 (t″ ≡ nextOf (t′ .walker)))) (next-said (t′ .walker) t″) $
         heard ! (t″ ≡ nextOf (t′ .walker)) (λ e‴. split ! $ move ! (1 ∷ []) $
         peeks ! R (Is R) (shows 𝓤 H A R) t″ (u‴ ∷ []) (λ is‴.
-        land ! (from ! (stop !)) (init ! 15 refl
+        land ! (from ! (stop !)) (init ! 21 refl
         (LL.lawful (N.the-type αᵉ) (N′.the-laws αᵉ) 𝓤 H A W .typed t″ _ is‴ .0)) $
-        rewrite ! 15 (λ (w : Val). ‵ (fat fullShare (N′.mir erased) l₄ 0 w))
+        rewrite ! 21 (λ (w : Val). ‵ (fat fullShare (N′.mir erased) l₄ 0 w))
         (ap only (LL.tells (N.the-type αᵉ) (N′.the-laws αᵉ) t″ (u‴ ∷ []) is‴)) refl $
-        -- [the answer's; the token; what s owns; room for _10; …; room for _9; …; room for _8; …; _7; …; _2; …; _1; …;
-        -- room for _0; …]: what was found goes into _8, _9 and _10
-        assigns ! (of-opd ! (load ! (from ! (fld ! refl (stop !))) (look-in ! 19 (sub ! 0 refl (whole !)))))
-        (from ! (stop !)) (init ! 7 refl (EL.lawful F.the-type F′.the-laws 𝓤 H A W tt .typed (t .found) _
+        assigns ! (of-opd ! (load ! (from ! (fld ! refl (stop !))) (look-in ! 21 (sub ! 1 refl (whole !)))))
+        (from ! (stop !)) (init ! 11 refl (LL.lawful (T.the-type αᵉ) (T′.the-laws αᵉ) 𝓤 H A W .typed (t″ .walker) _
+        (is-walker t″ u‴ is‴) .0)) $
+        use1 W (‵ (B (κ, tt) .own (t″ .walker) (T′.lowered (t″ .walker) ∷ []))) (handed t″ u‴) $
+        -- the fourth, of _9 into _5
+        use2 W (raw (Next 𝓤 H A mem run .pre (to-next (t″ .walker) (T′.lowered (t″ .walker)))))
+        (goes-next (t″ .walker) (T′.lowered (t″ .walker))) $
+        calls-at ! fm (Next 𝓤 H A mem run) known-next (to-next (t″ .walker) (T′.lowered (t″ .walker)))
+        (and-then ! (load ! (from ! (stop !)) (look ! 10 refl)) (no-more !))
+        (λ u⁗. use1 W (Moved (t″ .walker) u⁗) (id⊢ 𝓤 _) $
+        await ! tt $ pick ! (λ t‴.
+        split ! $ move ! (1 ∷ []) $ use1 W (raw (fact 𝓤 (t‴ ≡ nextOf (t″ .walker)))) (next-said (t″ .walker) t‴) $
+        heard ! (t‴ ≡ nextOf (t″ .walker)) (λ e⁗. split ! $ move ! (1 ∷ []) $
+        peeks ! R (Is R) (shows 𝓤 H A R) t‴ (u⁗ ∷ []) (λ is⁗.
+        land ! (from ! (stop !)) (init ! 19 refl
+        (LL.lawful (N.the-type αᵉ) (N′.the-laws αᵉ) 𝓤 H A W .typed t‴ _ is⁗ .0)) $
+        rewrite ! 19 (λ (w : Val). ‵ (fat fullShare (N′.mir erased) l₅ 0 w))
+        (ap only (LL.tells (N.the-type αᵉ) (N′.the-laws αᵉ) t‴ (u⁗ ∷ []) is⁗)) refl $
+        -- [the answer's; the token; what s owns; room for _13; …; room for _10; …; _9; …; _2; …; _1; …; room for _0; …]:
+        -- what was found goes into _10 to _13
+        assigns ! (of-opd ! (load ! (from ! (fld ! refl (stop !))) (look-in ! 25 (sub ! 0 refl (whole !)))))
+        (from ! (stop !)) (init ! 9 refl (EL.lawful F.the-type F′.the-laws 𝓤 H A W tt .typed (t .found) _
         (is-found t u′ is′) .0)) $
-        assigns ! (of-opd ! (load ! (from ! (fld ! refl (stop !))) (look-in ! 17 (sub ! 0 refl (whole !)))))
-        (from ! (stop !)) (init ! 5 refl (EL.lawful F.the-type F′.the-laws 𝓤 H A W tt .typed (t′ .found) _
+        assigns ! (of-opd ! (load ! (from ! (fld ! refl (stop !))) (look-in ! 23 (sub ! 0 refl (whole !)))))
+        (from ! (stop !)) (init ! 7 refl (EL.lawful F.the-type F′.the-laws 𝓤 H A W tt .typed (t′ .found) _
         (is-found t′ u″ is″) .0)) $
-        assigns ! (of-opd ! (load ! (from ! (fld ! refl (stop !))) (look-in ! 15 (sub ! 0 refl (whole !)))))
-        (from ! (stop !)) (init ! 3 refl (EL.lawful F.the-type F′.the-laws 𝓤 H A W tt .typed (t″ .found) _
+        assigns ! (of-opd ! (load ! (from ! (fld ! refl (stop !))) (look-in ! 21 (sub ! 0 refl (whole !)))))
+        (from ! (stop !)) (init ! 5 refl (EL.lawful F.the-type F′.the-laws 𝓤 H A W tt .typed (t″ .found) _
         (is-found t″ u‴ is‴) .0)) $
+        assigns ! (of-opd ! (load ! (from ! (fld ! refl (stop !))) (look-in ! 19 (sub ! 0 refl (whole !)))))
+        (from ! (stop !)) (init ! 3 refl (EL.lawful F.the-type F′.the-laws 𝓤 H A W tt .typed (t‴ .found) _
+        (is-found t‴ u⁗ is⁗) .0)) $
         drop ! $ move ! (1 ∷ []) $
-        use1 W (raw (Judge 𝓤 H A mem run .pre (to-judge (t .found) (t′ .found) (t″ .found))) ⊛ ‵ Own)
-        (goes-judge (t .found) (t′ .found) (t″ .found) (is-found t u′ is′) (is-found t′ u″ is″) (is-found t″ u‴ is‴)) $
+        use1 W (raw (Judge 𝓤 H A mem run .pre (to-judge (t .found) (t′ .found) (t″ .found) (t‴ .found))) ⊛ ‵ Own)
+        (goes-judge (t .found) (t′ .found) (t″ .found) (t‴ .found) (is-found t u′ is′) (is-found t′ u″ is″)
+        (is-found t″ u‴ is‴) (is-found t‴ u⁗ is⁗)) $
         split ! $
-        -- [what `judge` asks; what s owns; the token; _10; …; _1; …; room for _0; …]
-        calls-at ! fm (Judge 𝓤 H A mem run) known-judge (to-judge (t .found) (t′ .found) (t″ .found))
+        -- [what `judge` asks; what s owns; the token; _13; …; _1; …; room for _0; …]
+        calls-at ! fm (Judge 𝓤 H A mem run) known-judge (to-judge (t .found) (t′ .found) (t″ .found) (t‴ .found))
+        (and-then ! (load ! (from ! (stop !)) (look ! 9 refl))
         (and-then ! (load ! (from ! (stop !)) (look ! 7 refl))
         (and-then ! (load ! (from ! (stop !)) (look ! 5 refl))
-        (and-then ! (load ! (from ! (stop !)) (look ! 3 refl)) (no-more !)))) (λ m.
+        (and-then ! (load ! (from ! (stop !)) (look ! 3 refl)) (no-more !))))) (λ m.
         use1 W (later (some (λ (a : Edition). (‵ ftrue ⊛ ‵ (E.the-row .own a (m ∷ [])))
         ⊛ raw (ensured 𝓤 H A judge.ended (judge.clauses 𝓤 H A mem run) tt
-        (t .found, (t′ .found, (t″ .found, tt))) tt a)))) (id⊢ 𝓤 _) $
+        (t .found, (t′ .found, (t″ .found, (t‴ .found, tt)))) tt a)))) (id⊢ 𝓤 _) $
         await ! tt $ pick ! (λ a.
         split ! $ move ! (1 ∷ []) $
-        use1 W (raw (fact 𝓤 (a ≡ judged (t .found) (t′ .found) (t″ .found))))
-        (judge-said (t .found) (t′ .found) (t″ .found) a) $
-        heard ! (a ≡ judged (t .found) (t′ .found) (t″ .found)) (λ j. split ! $ move ! (1 ∷ []) $
-        -- [the answer's; true; what s owns; the token; _10; …; _1; …; room for _0; …]
+        use1 W (raw (fact 𝓤 (a ≡ judged (t .found) (t′ .found) (t″ .found) (t‴ .found))))
+        (judge-said (t .found) (t′ .found) (t″ .found) (t‴ .found) a) $
+        heard ! (a ≡ judged (t .found) (t′ .found) (t″ .found) (t‴ .found)) (λ j. split ! $ move ! (1 ∷ []) $
+        -- [the answer's; true; what s owns; the token; _13; …; _1; …; room for _0; …]
         peeks ! E.the-row (Is E.the-row) (shows 𝓤 H A E.the-row) a (m ∷ []) (λ ia.
-        land ! (from ! (stop !)) (init ! 24 refl (EL.lawful E.the-type E′.the-laws 𝓤 H A W tt .typed a _ ia .0)) $
-        returns ! (look ! 24 refl) $ forget ! 4 refl $ forget ! 6 refl $ forget ! 8 refl $ forget ! 10 refl $
-        forget ! 12 refl $ forget ! 14 refl $ forget ! 16 refl $ forget ! 18 refl $ forget ! 20 refl $
-        forget ! 22 refl $
-        forget ! 24 refl $
-        move ! (24 ∷ 25 ∷ []) $ free1 ! $ move ! (22 ∷ 23 ∷ []) $ free1 ! $ move ! (20 ∷ 21 ∷ []) $ free1 ! $
-        move ! (18 ∷ 19 ∷ []) $ free1 ! $ move ! (16 ∷ 17 ∷ []) $ free1 ! $ move ! (14 ∷ 15 ∷ []) $ free1 ! $
-        move ! (12 ∷ 13 ∷ []) $ free1 ! $ move ! (10 ∷ 11 ∷ []) $ free1 ! $ move ! (8 ∷ 9 ∷ []) $ free1 ! $
-        move ! (6 ∷ 7 ∷ []) $ free1 ! $ move ! (4 ∷ 5 ∷ []) $ free1 ! $ free0 ! $
-        keep ! (3 ∷ 2 ∷ []) $ by ! (exits a m ia (told r t t′ t″ a e e′ e″ e‴ j)))))))))))))))))))))))))))))))))
+        land ! (from ! (stop !)) (init ! 30 refl (EL.lawful E.the-type E′.the-laws 𝓤 H A W tt .typed a _ ia .0)) $
+        returns ! (look ! 30 refl) $
+        forget ! 4 refl $ forget ! 6 refl $ forget ! 8 refl $ forget ! 10 refl $ forget ! 12 refl $ forget ! 14 refl
+        $ forget ! 16 refl $ forget ! 18 refl $ forget ! 20 refl $ forget ! 22 refl $ forget ! 24 refl $ forget ! 26
+        refl $ forget ! 28 refl $ forget ! 30 refl $
+        move ! (30 ∷ 31 ∷ []) $ free1 ! $ move ! (28 ∷ 29 ∷ []) $ free1 ! $ move ! (26 ∷ 27 ∷ []) $ free1 ! $ move !
+        (24 ∷ 25 ∷ []) $ free1 ! $ move ! (22 ∷ 23 ∷ []) $ free1 ! $ move ! (20 ∷ 21 ∷ []) $ free1 ! $ move ! (18 ∷
+        19 ∷ []) $ free1 ! $ move ! (16 ∷ 17 ∷ []) $ free1 ! $ move ! (14 ∷ 15 ∷ []) $ free1 ! $ move ! (12 ∷ 13 ∷
+        []) $ free1 ! $ move ! (10 ∷ 11 ∷ []) $ free1 ! $ move ! (8 ∷ 9 ∷ []) $ free1 ! $ move ! (6 ∷ 7 ∷ []) $
+        free1 ! $ move ! (4 ∷ 5 ∷ []) $ free1 ! $ free0 ! $
+        keep ! (3 ∷ 2 ∷ []) $ by ! (exits a m ia (told r t t′ t″ t‴ a e e′ e″ e‴ e⁗ j))))))))))))))))))))))))))))))))))))))))
 
 module _ {M : Type 1} (𝓤 : URA M) (H : Heap 𝓤) (A : Atoms 𝓤) (W : Given 𝓤 H A) (mem : Memory → SProp 𝓤)
     (run : Routine → Fun 𝓤) where

@@ -1,5 +1,6 @@
--- Each return is one case of `judged`: which of the three findings is missing, and whether the count is 2.
-use Rattle.walker.proofs.Editions.{count-cut, count-other, gic-cut, edition-cut, edition-named}
+-- Each return is one case of `judged`: which of the four findings is missing, whether the count is 3 and the mark 2.
+use Rattle.walker.proofs.Editions.{count-cut, count-other, gic-cut, edition-cut, format-cut, format-other}
+use Rattle.walker.proofs.Editions.{edition-named}
 use borrow.Author.Needs.{needs}
 use Rattle.walker.proofs.judge.Statement.{statement}
 use Rattle.walker.proofs.judge.Tie as tie
@@ -34,8 +35,20 @@ enum-told-4 c = search needs
 returns-4 : tie.Need-returns-4
 returns-4 c = search (edition-cut, needs)
 
+enum-known-format : tie.Need-enum-known-format
+enum-known-format c = search needs
+
+enum-told-5 : tie.Need-enum-told-5
+enum-told-5 c = search needs
+
 returns-5 : tie.Need-returns-5
-returns-5 c = search (edition-named, needs)
+returns-5 c = search (format-cut, needs)
+
+returns-6 : tie.Need-returns-6
+returns-6 c = search (format-other, needs)
+
+returns-7 : tie.Need-returns-7
+returns-7 c = search (edition-named, needs)
 
 pub judge-spec : {M : Type 1} → statement M
 judge-spec =
@@ -51,4 +64,8 @@ judge-spec =
     enum-known-edition
     enum-told-4
     returns-4
-    returns-5)
+    enum-known-format
+    enum-told-5
+    returns-5
+    returns-6
+    returns-7)

@@ -1,6 +1,6 @@
--- Each return is one case of the section: a count or a mark that is cut, a count that is not 2, or both marks.
-use Rattle.plan.proofs.Answers.{first-there, second-there, marks-none, marks-out, marks-no-gic, marks-no-edition}
-use Rattle.plan.proofs.Answers.{marks-are}
+-- Each return is one case of the section: a count or a mark that is cut, another count, another format's mark, or all.
+use Rattle.plan.proofs.Answers.{first-there, second-there, third-there, marks-none, marks-out, marks-no-gic}
+use Rattle.plan.proofs.Answers.{marks-no-edition, marks-no-format, marks-other, marks-are}
 use borrow.Author.Needs.{needs}
 use Rattle.plan.proofs.sections.read_marks.Statement.{statement}
 use Rattle.plan.proofs.sections.read_marks.Tie as tie
@@ -47,8 +47,26 @@ enum-told-3 c = search needs
 returns-4 : tie.Need-returns-4
 returns-4 c = search (marks-no-edition, needs)
 
+number-at-requires-4 : tie.Need-number-at-requires-4
+number-at-requires-4 c κs = search (third-there, needs)
+
+enum-known-format : tie.Need-enum-known-format
+enum-known-format c = search needs
+
+enum-told-4 : tie.Need-enum-told-4
+enum-told-4 c = search needs
+
 returns-5 : tie.Need-returns-5
-returns-5 c = search (marks-are, needs)
+returns-5 c = search (marks-no-format, needs)
+
+is-within-requires-2 : tie.Need-is-within-requires-2
+is-within-requires-2 c κs = search needs
+
+returns-6 : tie.Need-returns-6
+returns-6 c = search (marks-other, needs)
+
+returns-7 : tie.Need-returns-7
+returns-7 c = search (marks-are, needs)
 
 pub read-marks-spec : {M : Type 1} → statement M
 read-marks-spec =
@@ -68,4 +86,10 @@ read-marks-spec =
     enum-known-edition
     enum-told-3
     returns-4
-    returns-5)
+    number-at-requires-4
+    enum-known-format
+    enum-told-4
+    returns-5
+    is-within-requires-2
+    returns-6
+    returns-7)

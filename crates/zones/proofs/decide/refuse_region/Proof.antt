@@ -1,8 +1,9 @@
--- Each return is one rule: 9, 10, 11, 12.
+-- Each return is one rule, 9, 10 or 11; the last is what the others answer.
 use borrow.Author.Needs.{needs}
 use Rattle.lists.proofs.Rules.{rules}
 use Rattle.lists.proofs.Tests.{told, told-not}
 use Rattle.rules.specs.Requests.{regionRules}
+use Rattle.zones.specs.Decide.{useRules}
 use Rattle.zones.proofs.Checking.{formed-on}
 use Rattle.zones.proofs.decide.refuse_region.Statement.{statement}
 use Rattle.zones.proofs.decide.refuse_region.Tie as tie
@@ -28,16 +29,12 @@ returns-3 : tie.Need-returns-3
 unfolding regionRules
 returns-3 c = search (rules, told, told-not, formed-on) depth 20
 
-on-gic-requires : tie.Need-on-gic-requires
-on-gic-requires c κs = search needs
+refuse-use-requires : tie.Need-refuse-use-requires
+refuse-use-requires c κs = search needs
 
 returns-4 : tie.Need-returns-4
-unfolding regionRules
+unfolding regionRules useRules
 returns-4 c = search (rules, told, told-not, formed-on) depth 20
-
-returns-5 : tie.Need-returns-5
-unfolding regionRules
-returns-5 c = search (rules, told, told-not, formed-on) depth 20
 
 pub refuse-region-spec : {M : Type 1} → statement M
 refuse-region-spec =
@@ -49,6 +46,5 @@ refuse-region-spec =
     returns-2
     is-configured-requires
     returns-3
-    on-gic-requires
-    returns-4
-    returns-5)
+    refuse-use-requires
+    returns-4)

@@ -1,9 +1,9 @@
--- Each return is one test of the conjunction: the id, the two sets, off the GIC.
+-- Each return is one test of the conjunction: the id, the two sets, and how they are used.
 use borrow.Author.Needs.{needs}
 use Rattle.lists.proofs.Tests.{conjunction}
 use Rattle.rules.specs.Tables.{soundZone}
 use Rattle.zones.specs.View.{zoneIn}
-use Rattle.zones.proofs.Checking.{zone-within, side-within, id-high, id-low, formed-last}
+use Rattle.zones.proofs.Checking.{zone-within, side-within, id-high, id-low, used-last}
 use Rattle.zones.proofs.sound.zone_sound.Statement.{statement}
 use Rattle.zones.proofs.sound.zone_sound.Tie as tie
 
@@ -28,12 +28,12 @@ returns-3 : tie.Need-returns-3
 unfolding soundZone zoneIn
 returns-3 c = search (conjunction, id-high, id-low) depth 12
 
-off-gic-requires : tie.Need-off-gic-requires
-off-gic-requires c κs = search (zone-within, side-within, needs)
+used-well-requires : tie.Need-used-well-requires
+used-well-requires c κs = search (zone-within, side-within, needs)
 
 returns-4 : tie.Need-returns-4
 unfolding soundZone zoneIn
-returns-4 c = search (formed-last, conjunction, id-high, id-low) depth 12
+returns-4 c = search (used-last, conjunction, id-high, id-low) depth 12
 
 pub zone-sound-spec : {M : Type 1} → statement M
 zone-sound-spec =
@@ -45,5 +45,5 @@ zone-sound-spec =
     returns-2
     set-sound-requires-2
     returns-3
-    off-gic-requires
+    used-well-requires
     returns-4)

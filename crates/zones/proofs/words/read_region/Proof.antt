@@ -1,4 +1,4 @@
--- The three words lie within the slice.
+-- The four words lie within the slice.
 use borrow.Author.Needs.{needs}
 use Rattle.zones.proofs.Records.{read-record}
 use Rattle.zones.proofs.words.read_region.Statement.{statement}
@@ -28,6 +28,15 @@ mul-t13 c = search needs
 shared-slice-read-t15 : tie.Need-shared-slice-read-t15
 shared-slice-read-t15 c = search needs
 
+add-t16 : tie.Need-add-t16
+add-t16 c = search needs
+
+mul-t17 : tie.Need-mul-t17
+mul-t17 c = search needs
+
+shared-slice-read-t19 : tie.Need-shared-slice-read-t19
+shared-slice-read-t19 c = search needs
+
 returns : tie.Need-returns
 returns c = search (read-record, needs)
 
@@ -43,4 +52,7 @@ read-region-spec =
     add-t12
     mul-t13
     shared-slice-read-t15
+    add-t16
+    mul-t17
+    shared-slice-read-t19
     returns)

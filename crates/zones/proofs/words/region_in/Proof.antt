@@ -13,8 +13,11 @@ u64-at-requires-2 c κs = search needs
 u64-at-requires-3 : tie.Need-u64-at-requires-3
 u64-at-requires-3 c κs = search needs
 
+u64-at-requires-4 : tie.Need-u64-at-requires-4
+u64-at-requires-4 c κs = search needs
+
 returns : tie.Need-returns
 returns c = search (bytes-read, needs)
 
 pub region-in-spec : {M : Type 1} → statement M
-region-in-spec = tie.close (tie.spec u64-at-requires u64-at-requires-2 u64-at-requires-3 returns)
+region-in-spec = tie.close (tie.spec u64-at-requires u64-at-requires-2 u64-at-requires-3 u64-at-requires-4 returns)

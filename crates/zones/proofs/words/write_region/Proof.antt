@@ -1,4 +1,4 @@
--- Three stores one behind the other are the record's words at its place.
+-- Four stores one behind the other are the record's words at its place.
 use native.Mathlib.Omega.{arith}
 use borrow.Author.Needs.{needs}
 use lib.ListN.{length-set}
@@ -30,6 +30,15 @@ mul-s-3 c = search needs
 slice-write-s-3 : tie.Need-slice-write-s-3
 slice-write-s-3 c = simp length-set (omega arith)
 
+add-s-3 : tie.Need-add-s-3
+add-s-3 c = search needs
+
+mul-s-4 : tie.Need-mul-s-4
+mul-s-4 c = search needs
+
+slice-write-s-4 : tie.Need-slice-write-s-4
+slice-write-s-4 c = simp length-set (omega arith)
+
 same-length : tie.Need-same-length
 same-length c = search needs
 
@@ -48,5 +57,8 @@ write-region-spec =
     add-s-2
     mul-s-3
     slice-write-s-3
+    add-s-3
+    mul-s-4
+    slice-write-s-4
     same-length
     returns)

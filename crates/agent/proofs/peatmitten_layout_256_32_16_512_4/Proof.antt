@@ -1,8 +1,8 @@
 -- One number a test; past the last there is none.
 use borrow.Author.Needs.{needs}
 use Rattle.agent.proofs.Answers.{past-layout}
-use Rattle.agent.proofs.peatmitten_layout_256_32_16_1024_3.Statement.{statement}
-use Rattle.agent.proofs.peatmitten_layout_256_32_16_1024_3.Tie as tie
+use Rattle.agent.proofs.peatmitten_layout_256_32_16_512_4.Statement.{statement}
+use Rattle.agent.proofs.peatmitten_layout_256_32_16_512_4.Tie as tie
 
 returns : tie.Need-returns
 returns c = search needs
@@ -28,7 +28,7 @@ returns-6 c = search needs
 returns-7 : tie.Need-returns-7
 returns-7 c = search (past-layout, needs)
 
-pub peatmitten-layout-256-32-16-1024-3-spec : {M : Type 1} → statement M
-peatmitten-layout-256-32-16-1024-3-spec =
+pub peatmitten-layout-256-32-16-512-4-spec : {M : Type 1} → statement M
+peatmitten-layout-256-32-16-512-4-spec =
     tie.close
     (tie.spec returns returns-2 returns-3 cast-result returns-4 returns-5 returns-6 returns-7)

@@ -110,6 +110,20 @@ module _ (lim : Limits) where
       by true h (bad k t) g e = absurd (plan-refuses lim b k t g e)
       by false h o g e = absurd (eqb-false _ _ h e)
 
+  -- at a state that stands
+  pub accepted-stands : (s : Terminal) (b : List ℕ) → apply lim s b .outcome .number ≡ 0
+      → standing lim (s .config) (s .table) ≡ 0
+  unfolding apply
+  accepted-stands s b e = by (eqb (standing lim (s .config) (s .table)) 0) refl e
+    where
+      by : (c : Bool) → eqb (standing lim (s .config) (s .table)) 0 ≡ c
+          → cond c (applyRead lim s b (readPlan lim b))
+          (record { outcome = plain (standing lim (s .config) (s .table)) 0; state = s }) .outcome .number
+          ≡ 0
+          → standing lim (s .config) (s .table) ≡ 0
+      by true h e = eqb-true _ _ h
+      by false h e = e
+
   pub plan-is-accepted : PlanIsAccepted lim
   unfolding apply applyRead settled moved
   plan-is-accepted s b p st (g, f) last inner =

@@ -14,4 +14,5 @@ pub mod Editions
 pub mod Terminals
 pub mod Past
 pub mod Receiving
+pub mod Writing
 pub mod Families

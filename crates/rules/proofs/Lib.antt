@@ -15,11 +15,14 @@ pub mod Sizes
 pub mod Applying
 pub mod Receiving
 pub mod Planner
+pub mod Filling
+pub mod Writer
 pub mod Computing
 pub mod Desk
 pub mod Story
 pub mod RequestExamples
 pub mod CheckExamples
 pub mod PlanExamples
+pub mod WriterExamples
 pub mod Closure
 pub mod Inductive

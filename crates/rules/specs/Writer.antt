@@ -1,0 +1,42 @@
+-- The planner's writer: from a configuration, a table, an edition and a list of requests, the plan into a lent buffer.
+use Prim.Native.Nat.{ℕ, _+_, _*_, _/_}
+use mathlib.Core.Bool.{not}
+use mathlib.Core.List.{List, [], _∷_}
+use lib.Dec.{ltb, eqb}
+use lib.ListN.{length}
+use Rattle.lists.specs.Places.{tab}
+use Rattle.lists.specs.Rules.{Rule, _when_}
+use Rattle.rules.specs.Applying.{lastEdition, plain, Terminal}
+use Rattle.rules.specs.Fields.{shortSize}
+use Rattle.rules.specs.Filling.{ownRule, filling, Filled}
+use Rattle.rules.specs.Limits.{Limits}
+use Rattle.rules.specs.Plan.{Asked}
+use Rattle.rules.specs.Planner.{planBytes, ranAt}
+use Rattle.rules.specs.Run.{requestSize, numberAt, regionIn, ended}
+use Rattle.rules.specs.declared.Outcome.{Outcome}
+
+-- 1 or 2; no next edition; more requests than a plan may have; a request is refused, with its index and its number
+unfoldable pub writerRules : Limits → Terminal → List Asked → List (Rule Outcome)
+writerRules l s q =
+    ownRule l (s .config) (s .table)
+    ∷ plain 25 0 when eqb (s .edition) lastEdition
+    ∷ plain 29 0 when ltb (l .requests) (length q)
+    ∷ ended (ranAt l (s .config) (s .table) q) when not (eqb (ranAt l (s .config) (s .table) q .inner) 0)
+    ∷ []
+
+-- then 28, or the plan for the terminal's base: it carries the edition that was given
+unfoldable pub write : Limits → Terminal → List Asked → List ℕ → Filled
+write l s q w = filling (writerRules l s q) (planBytes l s q) w
+
+-- ---- a list of requests as it is lent: the bytes that a plan holds them as
+-- the numbers of the request at a place
+abbrev pub askedAt : List ℕ → ℕ → Asked
+askedAt b at = record {
+  kind = numberAt shortSize b at;
+  zone = numberAt shortSize b (at + 4);
+  region = regionIn b (at + 8);
+}
+
+-- all that are wholly there
+unfoldable pub askedOf : List ℕ → List Asked
+askedOf b = tab (length b / requestSize) (λ i. askedAt b (i * requestSize))

@@ -1,4 +1,3 @@
-use borrow.Author.Needs.{needs}
 -- Invariant: from place i on the two go alike as far as they do from their starts.
 use borrow.Author.Needs.{needs}
 use Prim.Native.Nat.{_+_, _-_, _≤_}

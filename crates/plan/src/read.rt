@@ -57,8 +57,11 @@ pub fn find_base(plan: &[u8]) -> &[u8]
 {
     let found = find_sections(plan);
     let Found::At {
-        zones, requests, ..
-    } = found else {
+        zones,
+        requests,
+        ..
+    } = found
+    else {
         return &plan[..0];
     };
     let end = requests - SHORT_BYTES;

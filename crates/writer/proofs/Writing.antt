@@ -16,7 +16,7 @@ use Rattle.rules.specs.Applying.{lastEdition, plain}
 use Rattle.rules.specs.Differing.{zonesBytes, writeZones}
 use Rattle.rules.specs.Filling.{fillAnswer, fillLeaves}
 use Rattle.rules.specs.Limits.{mostRequests, limits}
-use Rattle.rules.specs.Plan.{requestsFrom}
+use Rattle.rules.specs.Plan.{requestsFrom, zonesSection}
 use Rattle.rules.specs.Planner.{ranAt}
 use Rattle.rules.specs.Requests.{standing}
 use Rattle.rules.specs.Run.{requestSize, requestsIn, run, ended, Run}
@@ -26,9 +26,10 @@ use Rattle.rules.specs.declared.Outcome.{Outcome}
 use Rattle.rules.proofs.Filling.{leaves-all, leaves-filled}
 use Rattle.zones.specs.Kept.{Stands}
 use Rattle.zones.specs.Trial.{trialAnswer}
-use Rattle.zones.specs.View.{storedConfig, storedTable, configIn}
+use Rattle.zones.specs.View.{storedConfig, storedTable, configIn, zonesIn}
 use Rattle.writer.specs.Writer.{lentIn, planIn, noNext, FilledIn, WritesIn, WritesZonesIn}
 use Rattle.writer.proofs.Bytes.{asked-many, asked-requests}
+use Rattle.writer.proofs.Putting.{zones-whole}
 
 -- ---- 25
 module _ (c t : List ℕ) (n : ℕ) (e : n ≡ standing limits (storedConfig c) (storedTable t)) where
@@ -81,6 +82,20 @@ filled-leaves b w = by (ltb (length w) (length b))
     by false = sym (leaves-filled (plain 0 (length b)) b w refl)
 
 -- ---- the zones alone
+-- measured, and put: s and v are the bytes that they were measured in, and n is where they ended there
+module _ (c t : List ℕ) (ok : Stands c t) (s v : List ℕ) (n : ℕ) (p : Put s 0 (zonesSection limits .write (zonesIn t)) v n)
+    (w : List ℕ) where
+  pub zones-short : length w < n
+      → FilledIn (zonesBytes limits (storedTable t)) w (record { number = 28; place = 0; inner = 0 }) w
+  zones-short h = fill-short (zonesBytes limits (storedTable t)) w n (zones-whole c t ok s v 0 n p .end) h
+
+  pub zones-done : n ≤ length w → (x : List ℕ) (k : ℕ) → Put w 0 (zonesSection limits .write (zonesIn t)) x k
+      → FilledIn (zonesBytes limits (storedTable t)) w (record { number = 0; place = n; inner = 0 }) x
+  zones-done h x k q =
+      fill-done (zonesBytes limits (storedTable t)) w n (zones-whole c t ok s v 0 n p .end) h x k
+      (zones-whole c t ok w x 0 k q)
+
+-- 1 or 2 before that
 module _ (c t w : List ℕ) (n : ℕ) (e : n ≡ standing limits (storedConfig c) (storedTable t)) where
   abbrev own : ℕ
   own = standing limits (storedConfig c) (storedTable t)

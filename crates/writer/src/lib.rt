@@ -3,8 +3,8 @@
 mod base;
 mod sections;
 
-pub use base::write_zones;
 use crate::sections::put_plan;
+pub use base::write_zones;
 use rules::Outcome;
 use rules::numbers::BUFFER_SHORT;
 use rules::numbers::NO_NEXT_EDITION;

@@ -638,7 +638,8 @@ mod tests {
         let files = cases::plan_files().into_iter().map(|file| (file.name.clone(), file.case()));
         let mut asked = 0;
         let asked_by_a_job = |case: &cases::Case| {
-            let asked = [Question::Config, Question::Table, Question::Request, Question::Translate, Question::Read, Question::Apply];
+            let asked =
+                [Question::Config, Question::Table, Question::Request, Question::Translate, Question::Read, Question::Apply];
             asked.contains(&case.question)
         };
         for (name, case) in named.chain(files).filter(|(_, case)| asked_by_a_job(case)) {

@@ -4,7 +4,8 @@ use std::fmt;
 
 use ordinary::TableWords;
 use ordinary::{
-    base_edition, base_zones, lacking_part, BufferShort, Config, ConfigWords, Guest, Plan, PlanRefusal, Receiver, Record, Region, Side, State, Table,
+    base_edition, base_zones, lacking_part, BufferShort, Config, ConfigWords, Guest, Plan, PlanRefusal, Receiver, Record, Region,
+    Side, State, Table,
 };
 use ordinary::{CONFIG_WORDS, TABLE_WORDS};
 

@@ -6,7 +6,8 @@ use ordinary::layout::{
 };
 use ordinary::limits::{GUEST_REACH, MAX_IN_SET, MAX_REGIONS, MAX_REQUESTS, MAX_ZONES, PAGE, PHYS_REACH};
 use ordinary::{
-    encode, encode_zones, Config, ConfigWords, Record, Region, Rights, Side, State, Table, TableWords, Zone, CONFIG_WORDS, TABLE_WORDS,
+    encode, encode_zones, Config, ConfigWords, Record, Region, Rights, Side, State, Table, TableWords, Zone, CONFIG_WORDS,
+    TABLE_WORDS,
 };
 
 use crate::random::{EDGES, EDITIONS};

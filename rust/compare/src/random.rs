@@ -4,7 +4,9 @@ use cases::rng::Rng;
 use cases::Case;
 use ordinary::layout::{LONGEST_PLAN, REQUEST_BYTES};
 use ordinary::limits::{GUEST_REACH, MAX_IN_SET, MAX_REGIONS, MAX_REQUESTS, MAX_ZONES, PAGE, PHYS_REACH};
-use ordinary::{base_zones, encode, encode_zones, Config, ConfigWords, Plan, Record, Region, Rights, State, Table, TableWords, Zone};
+use ordinary::{
+    base_zones, encode, encode_zones, Config, ConfigWords, Plan, Record, Region, Rights, State, Table, TableWords, Zone,
+};
 
 use crate::damage::{damage_bytes, damage_words};
 

@@ -212,7 +212,6 @@ pub fn base_zones(plan: &[u8]) -> (u32, [u64; 2]) {
 /// ended.
 pub fn lacking(first: &[u8], second: &[u8]) -> (u64, [u64; 2]) {
     let mut bytes = [UNWRITTEN; 2];
-    let place =
-        unsafe { library::peatmitten_lacking(first.as_ptr(), first.len(), second.as_ptr(), second.len(), &mut bytes) };
+    let place = unsafe { library::peatmitten_lacking(first.as_ptr(), first.len(), second.as_ptr(), second.len(), &mut bytes) };
     (place, bytes)
 }

@@ -20,7 +20,9 @@ pub fn lines(state: &State, plan: &[u8], difference: &Difference) -> String {
     let (planned, field) = zones_of_plan(plan, difference.offset);
     let Difference { offset, place, planned: byte, held } = difference;
     let there = held.map_or("nothing".to_string(), |byte| format!("{byte:#04x}"));
-    let bytes = format!("in bytes: offset {offset} of the plan, byte {place} of its zones: the terminal has {there} there, the plan {byte:#04x}\n");
+    let bytes = format!(
+        "in bytes: offset {offset} of the plan, byte {place} of its zones: the terminal has {there} there, the plan {byte:#04x}\n"
+    );
     at_field(&terminal, &planned, &field) + &bytes
 }
 
@@ -65,7 +67,8 @@ fn first_zone(terminal: &[Zone], planned: &[Zone]) -> String {
 }
 
 fn id_line(terminal: &[Zone], planned: &[Zone], zone: usize) -> String {
-    let [held, wanted] = [terminal, planned].map(|zones| zones.get(zone).map_or("none".to_string(), |zone| format!("zone {}", zone.id)));
+    let [held, wanted] =
+        [terminal, planned].map(|zones| zones.get(zone).map_or("none".to_string(), |zone| format!("zone {}", zone.id)));
     format!("the {} zone differs: {}", ordinal(zone), both(&held, &wanted))
 }
 

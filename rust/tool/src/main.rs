@@ -18,7 +18,8 @@ use std::process::ExitCode;
 use peatmitten::limits::LONGEST_PLAN;
 use peatmitten::{base_edition, first_difference, PlanRefusal, Reading, State};
 
-const USAGE: &str = "usage: peatmitten run [--words] STATE PLAN... | base PLAN >STATE | show PLAN | write TEXT >PLAN | differ STATE PLAN";
+const USAGE: &str =
+    "usage: peatmitten run [--words] STATE PLAN... | base PLAN >STATE | show PLAN | write TEXT >PLAN | differ STATE PLAN";
 
 /// More bytes than the text of the longest plan has.
 const LONGEST_TEXT: u64 = 1 << 24;

@@ -345,6 +345,9 @@ module _ (b : List ℕ) (r : Found) (er : r ≡ foundIn (length b) (readPlan lim
     pub requests-fit : requests ≤ length b
     requests-fit = omega (arith, whole .requests-is)
 
+    pub base-within : requests - 4 ≤ length b
+    base-within = omega (arith, requests-fit)
+
     pub apply-found : (c w : List ℕ) (ed : ℕ) (v : Outcome) (u : List ℕ)
         → FoundIn c w ed gic edition (take (length b - 16) (drop 16 b)) (take (length b - zones) (drop zones b))
         (take (length b - requests) (drop requests b)) v u
@@ -425,9 +428,6 @@ module _ (b : List ℕ) (r : Found) (er : r ≡ foundIn (length b) (readPlan lim
 
       pub base-fits : zones ≤ requests - 4
       base-fits = omega (arith, base-end, whole .zones-is)
-
-      pub base-within : requests - 4 ≤ length b
-      base-within = omega (arith, requests-fit)
 
       pub base-found : take (requests - 4 - zones) (drop zones b) ≡ zonesOf limits b
       unfolding zonesOf zonesPart

@@ -124,10 +124,11 @@ fn differ(state_path: &OsStr, plan_path: &OsStr) -> Answer {
         (_, Ok(section)) => section,
         (_, Err(refusal)) => panic!("the library applies a plan to zones that it does not write: {refusal}"),
     };
+    // 23, 24 and 25 are judged before the zones, which are compared all the same.
     let mut text = match &answer {
-        // Both are judged before the zones, and the zones after them all the same.
-        Err(refusal @ (PlanRefusal::OtherConfig | PlanRefusal::OtherEdition | PlanRefusal::NoNextEdition)) => refused(refusal),
-        Err(refusal @ PlanRefusal::OtherZones) => refused(refusal),
+        Err(
+            refusal @ (PlanRefusal::OtherConfig | PlanRefusal::OtherEdition | PlanRefusal::NoNextEdition | PlanRefusal::OtherZones),
+        ) => refused(refusal),
         _ => String::new(),
     };
     if let Err(PlanRefusal::OtherEdition) = answer {

@@ -23,27 +23,29 @@ returns c = search (no-base, needs)
 
 sub-end : tie.Need-sub-end
 sub-end c =
-    let bytes : Bytes (c .before .before .before .before .before .args .plan .now) = λ i. omega (arith, c .before .before .before .before .shared-slice-known .given i) in
+    let st = c .before .before .before .before in
+    let bytes : Bytes (st .before .args .plan .now) = λ i. omega (arith, st .shared-slice-known .given i) in
     search (base-four, bytes, needs)
 
 sub-result : tie.Need-sub-result
 sub-result c =
-    let bytes : Bytes (c .before .before .before .before .before .args .plan .now) = λ i. omega (arith, c .before .before .before .before .shared-slice-known .given i) in
+    let st = c .before .before .before .before in
+    let bytes : Bytes (st .before .args .plan .now) = λ i. omega (arith, st .shared-slice-known .given i) in
     search (base-fits, bytes, needs)
 
 part-result-start : tie.Need-part-result-start
 part-result-start c =
-    let bytes : Bytes (c .before .before .before .before .before .args .plan .now) = λ i. omega (arith, c .before .before .before .before .shared-slice-known .given i) in
+    let st = c .before .before .before .before in
+    let bytes : Bytes (st .before .args .plan .now) = λ i. omega (arith, st .shared-slice-known .given i) in
     search (base-fits, bytes, needs)
 
 part-result-end : tie.Need-part-result-end
-part-result-end c =
-    let bytes : Bytes (c .before .before .before .before .before .args .plan .now) = λ i. omega (arith, c .before .before .before .before .shared-slice-known .given i) in
-    search (base-within, bytes, needs)
+part-result-end c = search (base-within, needs)
 
 returns-2 : tie.Need-returns-2
 returns-2 c =
-    let bytes : Bytes (c .before .before .before .before .before .before .args .plan .now) = λ i. omega (arith, c .before .before .before .before .before .shared-slice-known .given i) in
+    let st = c .before .before .before .before .before in
+    let bytes : Bytes (st .before .args .plan .now) = λ i. omega (arith, st .shared-slice-known .given i) in
     search (base-found, bytes, needs)
 
 pub find-base-spec : {M : Type 1} → statement M

@@ -17,8 +17,8 @@
  * written by another thread meanwhile: while a plan is applied, its table may hold what earlier requests of the plan made of it.
  *
  * Stack: PEATMITTEN_STACK bytes are enough. tests/stack.sh measures it: it calls every function on a stack filled with a pattern, over the
- * stored plans, looks how deep the pattern is gone, and prints it for each function. Measured were on x86-64 6,816 bytes for
- * peatmitten_end_words and on aarch64 6,736, for peatmitten_apply_words 4,672 and 4,592, and less for the others: no function has a table, a
+ * stored plans, looks how deep the pattern is gone, and prints it for each function. Measured were on x86-64 6,832 bytes for
+ * peatmitten_end_words and on aarch64 6,752, for peatmitten_apply_words 4,688 and 4,608, and less for the others: no function has a table, a
  * configuration or a plan on its stack, but a number for each configured region, two or three times at a time. Nothing is allocated.
  *
  * Imports: memset, and nothing else. The code is called as Linux does on its processor (System V on x86-64, AAPCS64 on aarch64, lowest byte
@@ -94,8 +94,9 @@ typedef struct peatmitten_state {
 
 /* What peatmitten_apply answers, and peatmitten_apply_words in three numbers. */
 typedef struct peatmitten_outcome {
-    uint32_t number; /* a peatmitten_answer: 0, 1, 2 or 20 to 27; of peatmitten_end also 28; of peatmitten_write 0, 1, 2, 25, 27 to 29 */
-    size_t place;    /* on 0 how many requests the plan had (of peatmitten_write how many bytes it has), on 20 to 22 an offset, on 27 the
+    uint32_t number; /* a peatmitten_answer: 0, 1, 2 or 20 to 27; of peatmitten_end also 28; of peatmitten_write 0, 1, 2, 25, 27 to 29; of
+                        peatmitten_zones 0, 1, 2, 28 */
+    size_t place;    /* on 0 how many requests the plan had (of peatmitten_write and peatmitten_zones how many bytes were written), on 20 to 22 an offset, on 27 the
                         index of the refused request, else 0 */
     uint32_t inner;  /* on 27 why that request is refused, else 0 */
 } peatmitten_outcome;
@@ -130,6 +131,18 @@ PEATMITTEN_ASSERT(offsetof(peatmitten_record, kind) == 0 && offsetof(peatmitten_
                   "a request is its kind, its zone and its region");
 PEATMITTEN_ASSERT(sizeof(peatmitten_record) == 8 + 8 * PEATMITTEN_REGION_WORDS, "a request has no padding");
 PEATMITTEN_ASSERT(sizeof(size_t) == 8, "the library is for a 64-bit machine");
+
+/* What peatmitten_differ answers: where a plan's zones section has a byte that the terminal's lacks. */
+typedef struct peatmitten_difference {
+    uint32_t number;  /* a peatmitten_answer: 0, or 20, 21 or 22 where the bytes are no plan */
+    size_t offset;    /* on 0 where in the plan that is, else the offset of the fault */
+    size_t place;     /* on 0 where in the plan's zones section it is: the length of that, where the two are equal; else 0 */
+    uint32_t planned; /* the plan's byte there, or PEATMITTEN_NO_BYTE: then nothing is lacking */
+    uint32_t held;    /* the other section's byte there, or PEATMITTEN_NO_BYTE: then it ends before */
+} peatmitten_difference;
+
+/* What is said of a place that has no byte. */
+enum { PEATMITTEN_NO_BYTE = 256 };
 
 /*
  * Header and library belong together. The name of this function has the most regions, zones, regions of a set and requests, and the words
@@ -371,6 +384,63 @@ static inline peatmitten_outcome peatmitten_write(peatmitten_state *state, const
     outcome.place = (size_t)places[0];
     outcome.inner = (uint32_t)places[1];
     return outcome;
+}
+
+/*
+ * Writes, into a buffer, the zones of a terminal's table as a plan holds its base: the section with its count. Answers 0, 1, 2 or 28
+ * (peatmitten_answer). place[0] is on 0 how many bytes the section has, else 0.
+ * On 0 so many bytes from the buffer's start are the section, and those behind them are what they were. Else no byte of it is changed. A buffer
+ * of PEATMITTEN_LONGEST_PLAN bytes is never too short.
+ * `buffer` is not null even where its length is 0.
+ */
+uint32_t peatmitten_zones_words(const uint64_t config[PEATMITTEN_CONFIG_WORDS], const uint64_t table[PEATMITTEN_TABLE_WORDS],
+                                uint8_t *buffer, size_t buffer_length, uint64_t place[1]);
+
+/* The same of a state in one piece. The inner number is 0. */
+static inline peatmitten_outcome peatmitten_zones(const peatmitten_state *state, uint8_t *buffer, size_t buffer_length)
+{
+    uint64_t place[1];
+    peatmitten_outcome outcome;
+
+    outcome.number = peatmitten_zones_words(state->config, state->table, buffer, buffer_length, place);
+    outcome.place = (size_t)place[0];
+    outcome.inner = 0;
+    return outcome;
+}
+
+/*
+ * Says where a plan's own zones section stands. Answers 0, 20, 21 or 22 (peatmitten_answer), as peatmitten_read does. On 0 stretch[0] is the
+ * offset of the section's count and stretch[1] how many bytes the section has, its count with it; else the offset of the fault, and 0.
+ * `plan` points to `length` bytes; it must not be null even where the length is 0.
+ */
+uint32_t peatmitten_base_zones(const uint8_t *plan, size_t length, uint64_t stretch[2]);
+
+/*
+ * Answers the first place where the second of two stretches of bytes lacks the first one's byte: there it has another, or has ended. Where it
+ * begins with all of the first, the answer is the first one's length. bytes[0] and bytes[1] are the bytes that the first and the second have
+ * at that place, PEATMITTEN_NO_BYTE where a stretch has ended.
+ * So the first stretch from that place on is the part of it that differs. Of two unequal sections that a plan may have, each has a byte there.
+ * `first` and `second` point to as many bytes as their lengths say; neither is null even where its length is 0. They may overlap.
+ */
+uint64_t peatmitten_lacking(const uint8_t *first, size_t first_length, const uint8_t *second, size_t second_length, uint64_t bytes[2]);
+
+/*
+ * Where a plan's base differs from a terminal's, after 26: its zones section beside that of the terminal, which peatmitten_zones wrote. Where the
+ * bytes are no plan, number and offset are those of peatmitten_base_zones.
+ */
+static inline peatmitten_difference peatmitten_differ(const uint8_t *plan, size_t length, const uint8_t *section, size_t section_length)
+{
+    uint64_t stretch[2], bytes[2] = {PEATMITTEN_NO_BYTE, PEATMITTEN_NO_BYTE}, place = 0;
+    peatmitten_difference difference;
+
+    difference.number = peatmitten_base_zones(plan, length, stretch);
+    if (difference.number == PEATMITTEN_ACCEPTED)
+        place = peatmitten_lacking(plan + stretch[0], (size_t)stretch[1], section, section_length, bytes);
+    difference.offset = (size_t)(stretch[0] + place);
+    difference.place = (size_t)place;
+    difference.planned = (uint32_t)bytes[0];
+    difference.held = (uint32_t)bytes[1];
+    return difference;
 }
 
 #ifdef __cplusplus

@@ -13,7 +13,7 @@ build() {
     local folder=$1 example
     shift
     mkdir "$folder"
-    for example in apply_plan copy_stretch receive_plan; do
+    for example in apply_plan copy_stretch receive_plan differ_plan; do
         "$CC" -std=c11 -Wall -Wextra -Wpedantic -Werror -O1 -g -I"$root/include" "$@" \
             "$root/examples/c/$example.c" "$ARCHIVE" -o "$folder/$example" || say_failed "$example does not build"
     done
@@ -71,6 +71,17 @@ run_cases() {
     expect 1 '0 pieces, 0 bytes: 20 0 0, edition 0' "$program" 7 </dev/null
     expect 1 '18 pieces, 70000 bytes: 22 100 0, edition 0' "$program" 4000 <"$work/long.plan"
     expect_error 'usage: receive_plan MOST' "$program" 0
+
+    # After first.plan the terminal has zone 5, which that plan does not expect.
+    program=$1/differ_plan
+    head -c "$(stat -c %s "$state")" /dev/zero >"$work/no_state"
+    expect 1 'offset 52, byte 0 of the zones: the terminal has 0x01, the plan 0x00' "$program" "$state" "$plans/first.plan"
+    expect 0 'the zones are the same' "$program" "$state" "$work/one_zone.plan"
+    expect 1 'offset 56, byte 4 of the zones: the terminal has 0x05, the plan 0x06' "$program" "$state" "$work/other_id.plan"
+    expect 1 'no plan: 20 at offset 60' "$program" "$state" "$plans/cut.plan"
+    expect 1 'the terminal has no zones to compare: 1' "$program" "$work/no_state" "$plans/first.plan"
+    expect_error "differ_plan: $plans/first.plan is no state file: a state has $(stat -c %s "$state") bytes" "$program" "$plans/first.plan" "$plans/first.plan"
+    expect_error 'usage: differ_plan STATE PLAN' "$program" "$state"
 }
 
 # The header's limits are the library's, and its layout function's name says them.
@@ -128,6 +139,10 @@ check_cpp() {
 # first.plan with another position of the GIC, and with so many bytes behind it that it is longer than the longest plan
 { head -c 4 "$root/examples/first.plan" && printf '\1' && tail -c +6 "$root/examples/first.plan"; } >"$work/other.plan"
 { cat "$root/examples/first.plan" && head -c 69900 /dev/zero; } >"$work/long.plan"
+# first.plan as if a zone without regions were there: zone 5, and zone 6. No request is asked.
+for zone in 'one_zone \5' 'other_id \6'; do
+    { head -c 52 "$root/examples/first.plan" && printf '\1\0\0\0'"${zone#* }"'\0\0\0\0\0\0\0\0\0\0\0\0\0\0\0'; } >"$work/${zone% *}.plan"
+done
 
 build "$work/plain"
 run_cases "$work/plain"

@@ -21,7 +21,7 @@
 #define PATTERN 0xa5
 #define PATTERN_WORD (UINT64_MAX / 0xff * PATTERN)
 
-enum { CHECK_CONFIG, CHECK_TABLE, REQUEST, TRANSLATE, EDITION, READ, APPLY, TAKE, END, WRITE, LAYOUT, FUNCTIONS };
+enum { CHECK_CONFIG, CHECK_TABLE, REQUEST, TRANSLATE, EDITION, READ, APPLY, TAKE, END, WRITE, ZONES, BASE, LACKING, LAYOUT, FUNCTIONS };
 
 #define NAME_OF(symbol) #symbol
 #define TEXT_OF(symbol) NAME_OF(symbol)
@@ -29,7 +29,8 @@ enum { CHECK_CONFIG, CHECK_TABLE, REQUEST, TRANSLATE, EDITION, READ, APPLY, TAKE
 static const char *const names[FUNCTIONS] = {
     "peatmitten_check_config", "peatmitten_check_table", "peatmitten_request",     "peatmitten_translate_words",
     "peatmitten_edition",      "peatmitten_read",        "peatmitten_apply_words", "peatmitten_take_piece",
-    "peatmitten_end_words",    "peatmitten_write_words", TEXT_OF(peatmitten_layout)};
+    "peatmitten_end_words",    "peatmitten_write_words", "peatmitten_zones_words", "peatmitten_base_zones",
+    "peatmitten_lacking",      TEXT_OF(peatmitten_layout)};
 
 static uint64_t stack[STACK_WORDS] __attribute__((aligned(64)));
 static ucontext_t here, there;
@@ -110,6 +111,22 @@ static void write_words(void)
                            answers);
 }
 
+static void zones_words(void)
+{
+    peatmitten_zones_words(state.config, state.table, buffer, sizeof buffer, answers);
+}
+
+static void base_zones(void)
+{
+    peatmitten_base_zones(plan, length, answers);
+}
+
+/* The plan beside what the writer or the zones left in the buffer. */
+static void lacking(void)
+{
+    peatmitten_lacking(plan, length, buffer, sizeof buffer, answers);
+}
+
 static void layout(void)
 {
     answers[0] = peatmitten_layout(kind);
@@ -175,6 +192,9 @@ static void measure(size_t most[FUNCTIONS], const char *state_path, const char *
     }
     state = before;
     keep_most(most, WRITE, write_words);
+    keep_most(most, LACKING, lacking);
+    keep_most(most, ZONES, zones_words);
+    keep_most(most, BASE, base_zones);
     keep_most(most, APPLY, apply);
     state = before;
     keep_most(most, TAKE, take_piece);

@@ -1,5 +1,5 @@
 #!/usr/bin/env bash
-# The tool for plans and state files, by ./peatmitten base, run, show and write: what it prints, says and keeps, and with which status. Each
+# The tool for plans and state files, by ./peatmitten base, run, show, write and differ: what it prints, says and keeps, and with which status. Each
 # stored plan is run at its own base, and shown, and must be answered as it is stored; one that is accepted is written back, byte for byte, from
 # what show prints. A state file is the same from C.
 set -euo pipefail
@@ -56,6 +56,81 @@ check_other_zones() {
     make_state "$plans/first.plan"
     expect 1 '26 0 0, edition 0: the plan is for other zones' '' run --words "$state" "$work/zones.plan"
     expect 0 '0 1 0, edition 1: accepted, 1 request' '' run --words "$state" - <"$plans/first.plan"
+}
+
+# differs STATUS OUTPUT SED: a plan whose text is moved.txt's without its requests, changed so, beside a terminal with that text's base. OUTPUT
+# is a pattern.
+differs() {
+    local status=$1 output=$2
+    shift 2
+    sed '/^request/d' "$plans/moved.txt" | sed "$@" | "$launcher" write - >"$work/differs.plan"
+    expect "$status" "$output" '' differ "$state" "$work/differs.plan"
+}
+
+check_differ() {
+    local a='v 0x40000000, p 0x80000000, size 0x200000, rights 3' b='v 0x40000000, p 0x80200000, size 0x200000, rights 3'
+    local gic='v 0x8000000, p 0x8000000, size 0x10000, rights 3' other='26 0 0: the plan is for other zones'
+    make_state "$plans/refused.plan"
+    cp "$state" "$work/before"
+    expect 0 'the zones are the same: 1 zone' '' differ "$state" "$plans/refused.plan"
+    differs 0 'the zones are the same: 1 zone' ''
+    # Another region, another right, another id.
+    expect 1 "$other
+zone 5, CPU side, the 1st region differs: the terminal has $a, and the plan expects $b
+in bytes: offset 170 of the plan, byte 22 of its zones: the terminal has 0x00 there, the plan 0x20" '' \
+        differ "$state" "$plans/other_zones.plan"
+    differs 1 "$other
+the 1st zone differs: the terminal has zone 5, and the plan expects zone 6
+in bytes: offset 152 of the plan, byte 4 of its zones: the terminal has 0x05 there, the plan 0x06" 's/^zone 5$/zone 6/'
+    # A zone too many in the plan, and none.
+    differs 1 "$other
+the terminal has 1 zone, and the plan expects 2 zones
+the 2nd zone differs: the terminal has none, and the plan expects zone 77
+in bytes: offset 148 of the plan, byte 0 of its zones: the terminal has 0x01 there, the plan 0x02" '$a zone 77'
+    differs 1 "$other
+the terminal has 1 zone, and the plan expects no zone
+the 1st zone differs: the terminal has zone 5, and the plan expects none
+*" '/^zone 5/,$d'
+    # A zone before the terminal's own: its place is told, not that it came later.
+    differs 1 "$other
+the terminal has 1 zone, and the plan expects 2 zones
+the 1st zone differs: the terminal has zone 5, and the plan expects zone 77
+*" 's/^zone 5$/zone 77\nzone 5/'
+    # A side with a region fewer, with one in another order, and a difference on the other side behind a count of zones.
+    differs 1 "$other
+zone 5, IOMMU side: the terminal has 2 regions, and the plan expects 1 region
+zone 5, IOMMU side, the 1st region differs: the terminal has $a, and the plan expects $gic
+in bytes: offset 192 of the plan, byte 44 of its zones: the terminal has 0x02 there, the plan 0x01" '/IOMMU/{n;d;}'
+    differs 1 "$other
+zone 5, CPU side: the terminal has 1 region, and the plan expects no region
+zone 5, CPU side, the 1st region differs: the terminal has $a, and the plan expects none
+*" '/CPU/{n;d;}'
+    differs 1 "$other
+zone 5, IOMMU side, the 1st region differs: the terminal has $a, and the plan expects $gic
+*" '/IOMMU/{n;h;d;};/v 0x8000000.*rights 3$/{G;}'
+    differs 1 "$other
+the terminal has 1 zone, and the plan expects 2 zones
+zone 5, IOMMU side, the 2nd region differs: the terminal has $gic, and the plan expects none
+*" '/v 0x8000000.*rights 3$/d;$a zone 77'
+    # What is judged before the zones is said first, and the zones all the same.
+    differs 1 '24 0 0: the plan is for another edition
+the terminal is at edition 7, and the plan is for edition 8
+the zones are the same: 1 zone' 's/edition: 7/edition: 8/'
+    differs 1 '24 0 0: the plan is for another edition
+the terminal is at edition 7, and the plan is for edition 6
+the 1st zone differs: the terminal has zone 5, and the plan expects zone 6
+*' 's/edition: 7/edition: 6/;s/^zone 5$/zone 6/'
+    expect 1 '23 0 0: the plan is for another configuration
+the terminal has 1 zone, and the plan expects no zone
+the 1st zone differs: *' '' differ "$state" "$plans/first.plan"
+    # What is no plan, and a terminal that is unsound.
+    expect 1 '20 60 0: the field at offset 60 is not wholly there' '' differ "$state" "$plans/cut.plan"
+    expect 1 '20 0 0: *' '' differ "$state" - </dev/null
+    head -c "$(stat -c %s "$state")" /dev/zero >"$work/zeros"
+    expect 1 '1 0 0: *' '' differ "$work/zeros" "$plans/first.plan"
+    expect 2 '' 'peatmitten: usage: *' differ "$state"
+    expect 2 '' "peatmitten: cannot open $work/none: No such file *" differ "$state" "$work/none"
+    cmp -s "$state" "$work/before" || say_failed "differ changed the state file"
 }
 
 check_faults() {
@@ -153,6 +228,7 @@ check_same_from_c() {
 need_tool
 check_run
 check_other_zones
+check_differ
 check_faults
 check_show
 check_write

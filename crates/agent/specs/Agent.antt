@@ -1,15 +1,17 @@
 -- What the library's functions answer, in numbers that C can hold.
-use Prim.Native.Nat.{ℕ}
+use Prim.Native.Nat.{ℕ, _-_}
 use mathlib.Core.Bool.{Bool, cond}
 use mathlib.Core.List.{List, [], _∷_}
 use mathlib.Core.Path.{_≡_}
 use lib.Dec.{eqb}
 use lib.ListN.{length, getD}
+use Rattle.formats.specs.Formats.{Out, got, bad}
 use Rattle.rules.specs.Configuration.{checkPlace, checkEarlier}
+use Rattle.rules.specs.Differing.{zonesOf}
 use Rattle.rules.specs.Limits.{mostRegions, mostZones, mostInSet, mostRequests, limits}
-use Rattle.rules.specs.Plan.{readPlan}
+use Rattle.rules.specs.Plan.{readPlan, Plan}
 use Rattle.rules.specs.Receiving.{takePiece}
-use Rattle.rules.specs.Sizes.{longestSize}
+use Rattle.rules.specs.Sizes.{longestSize, zonesAt}
 use Rattle.rules.specs.declared.Checked.{Checked}
 use Rattle.rules.specs.declared.Receiver.{Receiver}
 use Rattle.rules.specs.declared.Side.{Side}
@@ -25,7 +27,7 @@ use Rattle.receiver.specs.Words.{endedIn, TakesIn}
 use Rattle.terminal.specs.Terminal.{Applies}
 use Rattle.walker.specs.declared.Edition.{Edition}
 use Rattle.walker.specs.declared.Edition.the-variants.{Is, Bad as BadEdition}
-use Rattle.writer.specs.Writer.{writesIn, WritesIn}
+use Rattle.writer.specs.Writer.{writesIn, WritesIn, writesZonesIn, WritesZonesIn}
 
 -- what a header must have for the library: the most regions, zones, regions in a set and requests, the words of a
 -- region, the longest plan
@@ -137,3 +139,28 @@ abbrev pub WordsAreAWrite : Type 0
 WordsAreAWrite =
     (c t : List ℕ) (e : ℕ) (r w : List ℕ) (n : ℕ) (u v a : List ℕ) → WritesWords c t e r w n u v a
     → WritesIn c t e r w (record { number = n; place = getD a 0 0; inner = getD a 1 0 }) u v
+
+-- ---- where bases differ
+-- a terminal's zones: the number, what then lies in the buffer, and the place
+pub record WritesZonesWords (c t w : List ℕ) (n : ℕ) (v a : List ℕ) : Type 0 where
+  pub number : n ≡ writesZonesIn c t w .outcome .number
+  pub buffer : v ≡ writesZonesIn c t w .buffer
+  pub place : a ≡ writesZonesIn c t w .outcome .place ∷ []
+
+-- so what is proved of any code that meets `WritesZonesIn` is true of such calls
+abbrev pub WordsAreZones : Type 0
+WordsAreZones =
+    (c t w : List ℕ) (n : ℕ) (v a : List ℕ) → WritesZonesWords c t w n v a
+    → WritesZonesIn c t w (record { number = n; place = getD a 0 0; inner = 0 }) v
+
+-- where a plan's zones section begins, or the offset of its refusal; and how long the section is
+unfoldable pub baseAt : ℕ → Out Plan → ℕ
+baseAt n (got p left) = zonesAt limits p
+baseAt n (bad k left) = n - length left
+
+unfoldable pub baseStretch : List ℕ → List ℕ
+baseStretch b = baseAt (length b) (readPlan limits b) ∷ length (zonesOf limits b) ∷ []
+
+-- what is told of a place that has no byte
+abbrev pub noByte : ℕ
+noByte = 256

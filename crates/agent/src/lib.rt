@@ -1,8 +1,10 @@
 // The library for an update agent, for C and Rust to link: include/peatmitten.h has the same functions and layouts. Each function
 // answers on every argument; nothing is asked of the caller beyond pointers and lengths that are valid.
+use differing::lacking_part;
 use plan::Found;
 use plan::LONGEST_PLAN;
 use plan::apply_words;
+use plan::find_base;
 use plan::find_sections;
 use receiver::end_words;
 use receiver::take_piece;
@@ -19,6 +21,7 @@ use rules::limits::MOST_ZONES;
 use walker::Edition;
 use walker::edition_of;
 use writer::write_words;
+use writer::write_zones;
 use zones::CONFIG_WORDS;
 use zones::REGION_WORDS;
 use zones::TABLE_WORDS;
@@ -33,6 +36,7 @@ use zones::translate_in;
 ghost use mathlib.Core.List.{[], _∷_};
 ghost use mathlib.Core.Path.{_≡_};
 ghost use lib.ListN.{length, getD};
+ghost use Rattle.lists.specs.Alike.{alike};
 ghost use Rattle.rules.specs.Fields.{regionOf};
 ghost use Rattle.rules.specs.Limits.{limits};
 ghost use Rattle.rules.specs.Configuration.{check, checkNumber};
@@ -42,7 +46,11 @@ ghost use Rattle.rules.specs.Translation.{translated};
 ghost use Rattle.zones.specs.Step.{Stepped};
 ghost use Rattle.zones.specs.View.{storedConfig, storedTable};
 ghost use Rattle.walker.specs.Edition.{editionOf};
-ghost use Rattle.agent.specs.Agent.{layout, placesOf, yesOrNo, sideAsked, stretchOf, readingNumber, readingPlace, editionNumber, editionValue, receiverIn, AppliesWords, TakesWords, EndsWords, WritesWords};
+ghost use Rattle.agent.specs.Agent.{layout, placesOf, yesOrNo, sideAsked, stretchOf, readingNumber, readingPlace, editionNumber, editionValue, receiverIn, AppliesWords, TakesWords, EndsWords, WritesWords, WritesZonesWords};
+ghost use Rattle.agent.specs.Agent.{baseStretch, noByte};
+
+// What is said of a place that has no byte.
+const NO_BYTE: u64 = 256;
 
 // What a header must have for this library, one number at a time; 0 past the last. Its name says them too, so that a program with the
 // header of another library does not link.
@@ -239,6 +247,62 @@ pub extern "C" fn peatmitten_write_words(
     let outcome = write_words(config, table, edition, requests, buffer);
     put_two(places, outcome.place as u64, outcome.inner as u64);
     outcome.number
+}
+
+// Writes the zones of a terminal's table as a plan holds its base, their count with them: the number, and on 0 how many bytes that is. The
+// buffer is changed only where the number is 0.
+#[no_mangle]
+pub extern "C" fn peatmitten_zones_words(
+    config: &[u64; CONFIG_WORDS],
+    table: &[u64; TABLE_WORDS],
+    buffer: &mut [u8],
+    place: &mut [u64; 1],
+) -> u32
+    ensures { λ n. ⌜ WritesZonesWords (now (config .entry)) (now (table .entry)) (now (buffer .entry)) n (now (buffer .exit)) (now (place .exit)) ⌝ }
+{
+    let outcome = write_zones(config, table, buffer);
+    put_one(place, outcome.place as u64);
+    outcome.number
+}
+
+// Where a plan's own zones section begins, at its count, and how many bytes it has; or 20, 21 or 22 with its offset, and 0.
+#[no_mangle]
+pub extern "C" fn peatmitten_base_zones(plan: &[u8], stretch: &mut [u64; 2]) -> u32
+    ensures { λ n. ⌜ (n ≡ readingNumber (now (plan .entry))) × (now (stretch .exit) ≡ baseStretch (now (plan .entry))) ⌝ }
+{
+    let base = find_base(plan);
+    let found = find_sections(plan);
+    match found {
+        Found::Bad { number, at } => {
+            put_two(stretch, at as u64, base.len() as u64);
+            number
+        }
+        Found::At { zones, .. } => {
+            put_two(stretch, zones as u64, base.len() as u64);
+            0
+        }
+    }
+}
+
+// The first place where the second of two stretches lacks the same byte, or the first one's length, and the byte that each has there.
+#[no_mangle]
+pub extern "C" fn peatmitten_lacking(first: &[u8], second: &[u8], bytes: &mut [u64; 2]) -> u64
+    ensures { λ k. ⌜ (k ≡ alike (now (first .entry)) (now (second .entry))) × (now (bytes .exit) ≡ getD (now (first .entry)) k noByte ∷ getD (now (second .entry)) k noByte ∷ []) ⌝ }
+{
+    let part = lacking_part(first, second);
+    let at = first.len() - part.len();
+    put_two(bytes, byte_at(first, at), byte_at(second, at));
+    at as u64
+}
+
+// A byte, or what is none past the end.
+fn byte_at(s: &[u8], at: usize) -> u64
+    ensures { λ x. ⌜ x ≡ getD (now (s .entry)) at noByte ⌝ }
+{
+    if s.len() <= at {
+        return NO_BYTE;
+    }
+    s[at] as u64
 }
 
 fn receiver_in(words: &[u64; 2]) -> Receiver

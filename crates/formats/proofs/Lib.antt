@@ -5,3 +5,4 @@ pub mod Sizes
 pub mod Spelled
 pub mod Bounds
 pub mod Most
+pub mod Differing

@@ -11,3 +11,4 @@ pub mod Words
 pub mod Bytes
 pub mod Runs
 pub mod Orders
+pub mod Alike

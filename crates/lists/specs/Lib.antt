@@ -10,3 +10,4 @@ pub mod Words
 pub mod Bytes
 pub mod Runs
 pub mod Orders
+pub mod Alike

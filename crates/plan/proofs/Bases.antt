@@ -21,6 +21,7 @@ use Rattle.rules.specs.Plan.{regionFormat, regionsSection, zonesSection, reques
 use Rattle.rules.specs.Regions.{regionEq}
 use Rattle.rules.specs.Requests.{standing}
 use Rattle.rules.specs.Run.{makeRequest, requestSize, regionIn, requestFrom, requestsIn}
+use Rattle.rules.specs.Sizes.{zonesAt}
 use Rattle.rules.specs.Tables.{tableOf, Zone}
 use Rattle.rules.specs.declared.Region.{Region}
 use Rattle.rules.proofs.Plan.{lawful-marks, lawful-regions, lawful-zones}
@@ -30,7 +31,6 @@ use Rattle.zones.specs.Layout.{configCount, configRecords}
 use Rattle.zones.specs.Records.{recordsAt}
 use Rattle.zones.specs.View.{storedConfig, storedTable, configIn, zonesIn, ConfigPassed}
 use Rattle.zones.proofs.Stepping.{stands-same}
-use Rattle.plan.specs.Found.{marksBytes}
 use Rattle.plan.specs.Held.{heldAnswer, isHeld, holdsRegions, configHeld, tableHeld}
 use Rattle.plan.specs.declared.comparing.Held.the-variants.{Same, Other}
 use Rattle.plan.proofs.Fields.{askedIn, regionValue, wide-region, in-bytes}
@@ -108,9 +108,6 @@ module _ (b : List ℕ) (p : Plan) (t : List ℕ) (e : readPlan limits b ≡ got
 
 -- ---- where its sections begin
 module _ (b : List ℕ) (p : Plan) (t : List ℕ) (e : readPlan limits b ≡ got p t) where
-  abbrev pub zonesAt : ℕ
-  zonesAt = marksBytes + (4 + length (p .regions) * regionSize)
-
   after-marks : (16 ≤ length b) × (sections b p t e .afterMarks ≡ drop 16 b)
   after-marks = marks-got b (p .marks) (sections b p t e .afterMarks) (sections b p t e .marks)
 
@@ -123,15 +120,15 @@ module _ (b : List ℕ) (p : Plan) (t : List ℕ) (e : readPlan limits b ≡ got
   pub marks-within : 16 ≤ length b
   marks-within = after-marks .0
 
-  pub zones-there : zonesAt ≤ length b
+  pub zones-there : zonesAt limits p ≤ length b
   zones-there = omega (arith, after-marks .0, ap length (after-marks .1), length-drop 16 b, regions-read .there)
 
   pub regions-at : regionsSection limits .read (drop 16 b) ≡ got (p .regions) (sections b p t e .afterRegions)
   regions-at = ap (λ (l : List ℕ). regionsSection limits .read l) (sym (after-marks .1)) ∙ sections b p t e .regions
 
-  pub zones-at : zonesSection limits .read (drop zonesAt b) ≡ got (p .zones) (sections b p t e .afterZones)
+  pub zones-at : zonesSection limits .read (drop (zonesAt limits p) b) ≡ got (p .zones) (sections b p t e .afterZones)
   zones-at =
-      let q : sections b p t e .afterRegions ≡ drop zonesAt b =
+      let q : sections b p t e .afterRegions ≡ drop (zonesAt limits p) b =
       regions-read .rest
       ∙ ap (drop (4 + length (p .regions) * regionSize)) (after-marks .1)
       ∙ drop-drop (4 + length (p .regions) * regionSize) 16 b in
@@ -162,7 +159,7 @@ module _ (b : List ℕ) (p : Plan) (t : List ℕ) (e : readPlan limits b ≡ got
       ∙ ap (λ (l : List Region). sameList regionEq l (p .regions)) regions in
       ap₂ (λ (x : Bool) (g : ℕ). allOf (x ∷ eqb g (p .marks .gic) ∷ [])) first (gic-is c ok .0)
 
-  pub zones-same : tableHeld (drop (zonesAt b p t e) b) w ≡ sameList sameZone (tableOf (storedTable w)) (p .zones)
+  pub zones-same : tableHeld (drop (zonesAt limits p) b) w ≡ sameList sameZone (tableOf (storedTable w)) (p .zones)
   unfolding tableHeld
   zones-same =
       held-value _ (sameList sameZone (zonesIn w)) _ (p .zones) _ (zones-at b p t e)

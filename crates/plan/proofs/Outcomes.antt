@@ -9,20 +9,24 @@ use borrow.Author.Tests.{eqb-true, eqb-false, eq-eqb, ne-eqb}
 use lib.Dec.{eqb}
 use lib.ListN.{length, take, drop}
 use Rattle.lists.specs.Rules.{_when_, firstRule}
+use Rattle.lists.specs.Bytes.{Bytes}
 use Rattle.formats.specs.Formats.{Out, got, bad}
 use Rattle.rules.specs.Applying as rules
 use Rattle.rules.specs.Applying.{lastEdition, store, plain, judgedRules, judged, moved, apply, baseOf, answerRead}
 use Rattle.rules.specs.Applying.{answerAlone, Terminal}
 use Rattle.rules.specs.Configuration.{configOf}
+use Rattle.rules.specs.Differing.{zonesPart, zonesOf}
 use Rattle.rules.specs.Limits.{limits}
 use Rattle.rules.specs.Plan.{regionsSection, zonesSection, requestsOf, readPlan, Plan}
 use Rattle.rules.specs.Requests.{standing}
 use Rattle.rules.specs.Run.{requestSize, requestsIn, run, ended, runAnswer, Run}
+use Rattle.rules.specs.Sizes.{zonesSize, planSize, zonesAt, requestsAt}
 use Rattle.rules.specs.Tables.{tableOf, Zone}
 use Rattle.rules.specs.declared.Outcome.{Outcome}
 use Rattle.rules.specs.declared.Region.{Region}
 use Rattle.rules.proofs.Applying.{accepted-for-base}
-use Rattle.rules.proofs.Plan.{plan-refuses}
+use Rattle.rules.proofs.Plan.{plan-refuses, no-slack}
+use Rattle.rules.proofs.Sizes.{encoded-length}
 use Rattle.rules.proofs.Stored.{table-back, stands-well, run-from-keeps}
 use Rattle.zones.specs.Run.{runWords}
 use Rattle.zones.specs.View.{storedConfig, storedTable}
@@ -41,7 +45,7 @@ use Rattle.plan.specs.declared.sections.Regions.{Regions}
 use Rattle.plan.specs.declared.sections.Zones.{Zones}
 use Rattle.plan.specs.declared.words.Section.{Section}
 use Rattle.plan.specs.declared.words.Section.the-variants.{End, Bad}
-use Rattle.plan.proofs.Bases.{zonesAt, marks-within, zones-there, regions-at, zones-at, config-same, zones-same}
+use Rattle.plan.proofs.Bases.{marks-within, zones-there, regions-at, zones-at, config-same, zones-same}
 use Rattle.plan.proofs.Bases.{requests-same}
 use Rattle.plan.proofs.Offsets.{rest-of}
 use Rattle.zones.proofs.Spelling.{config-view, table-view}
@@ -155,7 +159,7 @@ module _ (c t : List ℕ) (ed : ℕ) (b : List ℕ) where
   -- a plan that reads whole
   module _ (p : Plan) (left : List ℕ) (e : readPlan limits b ≡ got p left) where
     abbrev number : ℕ
-    number = baseNumber c t ed (p .marks .gic) (p .marks .edition) (drop 16 b) (drop (zonesAt b p left e) b)
+    number = baseNumber c t ed (p .marks .gic) (p .marks .edition) (drop 16 b) (drop (zonesAt limits p) b)
 
     abbrev stretch : List ℕ
     stretch = drop (length b - length (p .asked) * requestSize) b
@@ -248,7 +252,7 @@ module _ (c t : List ℕ) (ed : ℕ) (b : List ℕ) where
         (stays v (unsound s b ne ∙ sym (ap (λ (o : Outcome). record { outcome = o; state = s }) answer)))
 
     found-is : (v : Outcome) (u : List ℕ)
-        → FoundIn c t ed (p .marks .gic) (p .marks .edition) (drop 16 b) (drop (zonesAt b p left e) b) stretch v u
+        → FoundIn c t ed (p .marks .gic) (p .marks .edition) (drop 16 b) (drop (zonesAt limits p) b) stretch v u
         → AppliedIn c t ed b v u
     found-is v u f = by (eqb number 0) refl (eqb (own s) 0) refl
       where
@@ -295,6 +299,10 @@ module _ (b : List ℕ) (r : Found) (er : r ≡ foundIn (length b) (readPlan lim
         let (t, e, n) = refusal in
         sym (ap (λ (o : Out Plan). stretchOf (readAnswer (length b) o .requests) b) e)
 
+    pub no-base : [] ≡ zonesOf limits b
+    unfolding zonesOf zonesPart
+    no-base = let (t, e, n) = refusal in sym (ap (zonesPart limits b) e)
+
   -- a plan that reads whole
   module _ (gic edition zones requests : ℕ) (f : r ≡ At gic edition zones requests) where
     pub record Whole : Type 0 where
@@ -303,7 +311,7 @@ module _ (b : List ℕ) (r : Found) (er : r ≡ foundIn (length b) (readPlan lim
       pub read : readPlan limits b ≡ got plan left
       pub gic-is : gic ≡ plan .marks .gic
       pub edition-is : edition ≡ plan .marks .edition
-      pub zones-is : zones ≡ zonesAt b plan left read
+      pub zones-is : zones ≡ zonesAt limits plan
       pub requests-is : requests ≡ length b - length (plan .asked) * requestSize
 
     whole : Whole
@@ -312,13 +320,13 @@ module _ (b : List ℕ) (r : Found) (er : r ≡ foundIn (length b) (readPlan lim
       where
         by : (o : Out Plan) → readPlan limits b ≡ o → Whole
         by (got p t) e =
-            let q : At (p .marks .gic) (p .marks .edition) (zonesAt b p t e)
+            let q : At (p .marks .gic) (p .marks .edition) (zonesAt limits p)
             (length b - length (p .asked) * requestSize)
             ≡ At gic edition zones requests =
             sym (er ∙ ap (foundIn (length b)) e) ∙ f in
             let g : gic ≡ p .marks .gic = cc in
             let d : edition ≡ p .marks .edition = cc in
-            let z : zones ≡ zonesAt b p t e = cc in
+            let z : zones ≡ zonesAt limits p = cc in
             let n : requests ≡ length b - length (p .asked) * requestSize = cc in
             record { plan = p; left = t; read = e; gic-is = g; edition-is = d; zones-is = z; requests-is = n }
         by (bad j t) e =
@@ -337,24 +345,27 @@ module _ (b : List ℕ) (r : Found) (er : r ≡ foundIn (length b) (readPlan lim
     pub requests-fit : requests ≤ length b
     requests-fit = omega (arith, whole .requests-is)
 
+    pub base-within : requests - 4 ≤ length b
+    base-within = omega (arith, requests-fit)
+
     pub apply-found : (c w : List ℕ) (ed : ℕ) (v : Outcome) (u : List ℕ)
         → FoundIn c w ed gic edition (take (length b - 16) (drop 16 b)) (take (length b - zones) (drop zones b))
         (take (length b - requests) (drop requests b)) v u
         → AppliedIn c w ed b v u
     apply-found c w ed v u h =
         let q = whole in
-        let z : take (length b - zones) (drop zones b) ≡ drop (zonesAt b (q .plan) (q .left) (q .read)) b =
+        let z : take (length b - zones) (drop zones b) ≡ drop (zonesAt limits (q .plan)) b =
         rest-of b zones ∙ ap (λ (i : ℕ). drop i b) (q .zones-is) in
         let n : take (length b - requests) (drop requests b)
         ≡ drop (length b - length (q .plan .asked) * requestSize) b =
         rest-of b requests ∙ ap (λ (i : ℕ). drop i b) (q .requests-is) in
         found-is c w ed b (q .plan) (q .left) (q .read) v u
         (subst (λ (x : ℕ). FoundIn c w ed x (q .plan .marks .edition) (drop 16 b)
-        (drop (zonesAt b (q .plan) (q .left) (q .read)) b)
+        (drop (zonesAt limits (q .plan)) b)
         (drop (length b - length (q .plan .asked) * requestSize) b) v u) (q .gic-is)
-        (subst (λ (x : ℕ). FoundIn c w ed gic x (drop 16 b) (drop (zonesAt b (q .plan) (q .left) (q .read)) b)
+        (subst (λ (x : ℕ). FoundIn c w ed gic x (drop 16 b) (drop (zonesAt limits (q .plan)) b)
         (drop (length b - length (q .plan .asked) * requestSize) b) v u) (q .edition-is)
-        (subst (λ (x : List ℕ). FoundIn c w ed gic edition x (drop (zonesAt b (q .plan) (q .left) (q .read)) b)
+        (subst (λ (x : List ℕ). FoundIn c w ed gic edition x (drop (zonesAt limits (q .plan)) b)
         (drop (length b - length (q .plan .asked) * requestSize) b) v u) (rest-of b 16)
         (subst (λ (x : List ℕ). FoundIn c w ed gic edition (take (length b - 16) (drop 16 b)) x
         (drop (length b - length (q .plan .asked) * requestSize) b) v u) z
@@ -398,6 +409,32 @@ module _ (b : List ℕ) (r : Found) (er : r ≡ foundIn (length b) (readPlan lim
         rest-of b requests
         ∙ ap (λ (i : ℕ). drop i b) (q .requests-is)
         ∙ sym (ap (λ (o : Out Plan). stretchOf (readAnswer (length b) o .requests) b) (q .read))
+
+    -- its zones go from their count as far as that of its requests
+    module _ (bytes : Bytes b) where
+      base-end : requests ≡ 4 + requestsAt limits (whole .plan)
+      unfolding planSize
+      base-end =
+          let q = whole in
+          omega (
+            arith,
+            q .requests-is,
+            ap length (no-slack limits b (q .plan) (q .left) bytes (q .read) .0),
+            encoded-length limits (q .plan),
+          )
+
+      pub base-four : 4 ≤ requests
+      base-four = omega (arith, base-end)
+
+      pub base-fits : zones ≤ requests - 4
+      base-fits = omega (arith, base-end, whole .zones-is)
+
+      pub base-found : take (requests - 4 - zones) (drop zones b) ≡ zonesOf limits b
+      unfolding zonesOf zonesPart
+      base-found =
+          let q = whole in
+          let n : requests - 4 - zones ≡ zonesSize (q .plan .zones) = omega (arith, base-end, whole .zones-is) in
+          ap₂ (λ (i j : ℕ). take i (drop j b)) n (q .zones-is) ∙ sym (ap (zonesPart limits b) (q .read))
 
 -- ---- by value: o was answered where the words lie, and u are the table's then
 module _ (t : Terminal) (b : List ℕ) where

@@ -7,7 +7,7 @@ use Rattle.rules.specs.Fields.{regionSize}
 use Rattle.rules.specs.Limits.{limits}
 use Rattle.rules.specs.Plan.{marksSection, regionsSection, zonesSection, requestsSection, Asked, Marks, Plan}
 use Rattle.rules.specs.Run.{requestSize}
-use Rattle.rules.specs.Sizes.{marksSize}
+use Rattle.rules.specs.Sizes.{marksSize, zonesAt}
 use Rattle.rules.specs.Tables.{Zone}
 use Rattle.rules.specs.declared.Region.{Region}
 use Rattle.plan.specs.declared.finding.Found.{Found}
@@ -20,8 +20,7 @@ marksBytes = marksSize limits
 -- a plan that reads whole: its regions follow the marks, and its requests are the last of its bytes
 unfoldable pub foundIn : ℕ → Out Plan → Found
 foundIn n (got p left) =
-    At (p .marks .gic) (p .marks .edition) (marksBytes + (4 + length (p .regions) * regionSize))
-    (n - length (p .asked) * requestSize)
+    At (p .marks .gic) (p .marks .edition) (zonesAt limits p) (n - length (p .asked) * requestSize)
 foundIn n (bad k left) = Bad k (n - length left)
 
 -- ---- the same, section by section

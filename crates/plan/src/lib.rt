@@ -17,6 +17,7 @@ pub use finding::Found;
 pub use finding::MARKS_BYTES;
 pub use finding::find_sections;
 pub use read::Read;
+pub use read::find_base;
 pub use read::find_requests;
 pub use read::read_plan;
 pub use sections::Marks;

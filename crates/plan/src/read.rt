@@ -1,16 +1,18 @@
-// A whole plan: what it says, and the stretch of its requests.
+// A whole plan: what it says, and the stretches of its base zones and of its requests.
 use crate::finding::Found;
 use crate::finding::MARKS_BYTES;
 use crate::finding::find_sections;
 use crate::sections::read_regions;
 use crate::sections::read_zones;
 use crate::words::Section;
+use rules::widths::SHORT_BYTES;
 use zones::CONFIG_WORDS;
 use zones::Config;
 use zones::TABLE_WORDS;
 use zones::Table;
 ghost use mathlib.Core.Path.{_≡_};
 ghost use lib.ListN.{length};
+ghost use Rattle.rules.specs.Differing.{zonesOf};
 ghost use Rattle.rules.specs.Limits.{limits};
 ghost use Rattle.rules.specs.Plan.{readPlan};
 ghost use Rattle.plan.specs.Read.{recordsIn, refusedRead, readAnswer};
@@ -47,6 +49,23 @@ pub fn read_plan(plan: &[u8]) -> Read
             }
         }
     }
+}
+
+// The base zones of a plan, their count with them: that stretch of the caller's own bytes; empty where the plan does not read whole.
+pub fn find_base(plan: &[u8]) -> &[u8]
+    ensures { λ r. ⌜ now r ≡ zonesOf limits (now (plan .entry)) ⌝ }
+{
+    let found = find_sections(plan);
+    let Found::At {
+        zones,
+        requests,
+        ..
+    } = found
+    else {
+        return &plan[..0];
+    };
+    let end = requests - SHORT_BYTES;
+    &plan[zones..end]
 }
 
 // The requests of a plan: that stretch of the caller's own bytes, their count left out; empty where the plan does not read whole.

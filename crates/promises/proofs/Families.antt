@@ -25,14 +25,14 @@ use Rattle.rules.specs.Plan.{short, regionField, askedField, marksTo, marksFrom
 use Rattle.rules.specs.Requests.{after, standing}
 use Rattle.rules.specs.Regions.{noRegion}
 use Rattle.rules.specs.Fields.{shortSize, regionSize}
-use Rattle.rules.specs.Sizes.{marksSize, regionsSize, zoneSize, planSize, zoneWith, planWith}
+use Rattle.rules.specs.Sizes.{marksSize, regionsSize, zoneSize, planSize, zonesAt, requestsAt, zoneWith, planWith}
 use Rattle.rules.specs.Tables.{Zone}
 use Rattle.rules.specs.declared.Region.{Region}
 use Rattle.rules.proofs.Computing.{listParts, checkParts, tableParts, requestParts, applyingParts}
 use Rattle.rules.proofs.Plan.{lawful-region-field, lawful-asked, lawful-marks, read-encoded, no-slack, encoded-bytes}
 use Rattle.rules.proofs.Planner.{limits-sayable}
 use Rattle.rules.proofs.Sizes.{sized-region, sized-list, sized-marks, sized-set, sized-zone, encoded-length, counts-fit}
-use Rattle.promises.specs.Families.{Refuses21, zonesAt, requestsAt, setsAbove, countsAbove, AboveIsRefused, WithinIsRead, gicOnly, MetWith, oneMore, AboveIsMet, WithinIsMet, oldLimits, ManyRegions, ManyZones, AsBefore, OldTerminalsRefuse, OldTerminalsMeet, OtherCountRefused, OtherFormatRefused, FormatsAreApart, FormatsShown, WidePagesShown, Meets}
+use Rattle.promises.specs.Families.{Refuses21, setsAbove, countsAbove, AboveIsRefused, WithinIsRead, gicOnly, MetWith, oneMore, AboveIsMet, WithinIsMet, oldLimits, ManyRegions, ManyZones, AsBefore, OldTerminalsRefuse, OldTerminalsMeet, OtherCountRefused, OtherFormatRefused, FormatsAreApart, FormatsShown, WidePagesShown, Meets}
 
 -- a terminal that stands well answers what its reader refuses, at its place
 refuses : (l : Limits) (s : Terminal) (b t : List ℕ) (place : ℕ) → standing l (s .config) (s .table) ≡ 0

@@ -29,12 +29,13 @@ use Rattle.rules.specs.declared.Outcome.{Outcome}
 use Rattle.rules.proofs.Filling.{leaves-all}
 use Rattle.rules.proofs.Plan.{no-slack}
 use Rattle.rules.proofs.Planner.{plan-reads, plan-for-base}
-use Rattle.rules.proofs.Writer.{Writable, zero-writable, writable-written}
+use Rattle.rules.proofs.Writer.{Writable, zero-writable, writable-written, writer-refuses}
 use Rattle.promises.specs.Answers.{allAccepted, twentySeven as refusedAt, Ends}
 use Rattle.promises.specs.Writing.{written, WrittenIsAccepted, AcceptedIsWritten, WritesWhenMayAsk, Lendable}
 use Rattle.promises.specs.Writing.{RefusalLeavesBuffer, SuccessFills, twentySeven, twentyEight}
 use Rattle.promises.specs.Writing.{fits, Writes, WriteIsExact}
 use Rattle.promises.proofs.Answers.{tells-lt, tells-eq, standing-exactly, ends-exactly}
+use Rattle.promises.proofs.Filling.{filled}
 use Rattle.promises.proofs.Plans.{accepted-is-plan, plan-is-accepted, accepted-stands}
 
 module _ (lim : Limits) where
@@ -44,20 +45,8 @@ module _ (lim : Limits) where
   refusal-leaves-buffer s q w ne = leaves-all _ (planBytes lim s q) w ne
 
   pub success-fills : SuccessFills lim
-  success-fills s q w e =
-      let b : List ℕ = planBytes lim s q in
-      let h : Writable lim s q (length w) = zero-writable lim s q w e in
-      let f : write lim s q w ≡ record { outcome = plain 0 (length b); buffer = b ++ drop (length b) w } =
-      writable-written lim s q w h in
-      let v : write lim s q w .buffer ≡ b ++ drop (length b) w = ap (λ (x : Filled). x .buffer) f in
-      let r : length b ≤ length w = h .fits in
-      record {
-        place = ap (λ (x : Filled). x .outcome) f;
-        room = r;
-        front = ap (take (length b)) v ∙ take-at b (drop (length b) w) (length b) refl;
-        behind = ap (drop (length b)) v ∙ drop-at b (drop (length b) w) (length b) refl;
-        long = ap length v ∙ omega (arith, length-append b (drop (length b) w), length-drop (length b) w);
-      }
+  unfolding write
+  success-fills s q w e = filled (writerRules lim s q) (planBytes lim s q) w (writer-refuses lim s q) e
 
   pub written-plan : (s : Terminal) (q : List Asked) (w : List ℕ) → write lim s q w .outcome .number ≡ 0
       → written lim s q w ≡ planBytes lim s q

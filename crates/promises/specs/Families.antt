@@ -19,7 +19,7 @@ use Rattle.rules.specs.Fields.{shortSize, regionSize}
 use Rattle.rules.specs.Plan.{readPlan, Plan}
 use Rattle.rules.specs.Regions.{noRegion}
 use Rattle.rules.specs.Requests.{answers, standing}
-use Rattle.rules.specs.Sizes.{marksSize, regionsSize, zoneSize}
+use Rattle.rules.specs.Sizes.{marksSize, regionsSize, zoneSize, zonesAt, requestsAt}
 use Rattle.rules.specs.Tables.{emptyZone, Zone}
 use Rattle.rules.specs.declared.Checked.the-variants.{Sound}
 use Rattle.rules.specs.declared.Region.{Region}
@@ -38,14 +38,8 @@ pub record Meets (own wide : Limits) (s : Terminal) (b : List ℕ) (p : Plan) : 
   pub reads : readPlan wide b ≡ got p []
   pub format : wide .lastMarks ≡ own .lastMarks
 
--- where the counts of a plan stand, and which of them are above a family's limits, in file order: the regions, the
--- zones, the two sets of each zone, the requests
-abbrev pub zonesAt : Limits → Plan → ℕ
-zonesAt l p = marksSize l + regionsSize (length (p .regions))
-
-abbrev pub requestsAt : Limits → Plan → ℕ
-requestsAt l p = zonesAt l p + (shortSize + total zoneSize (p .zones))
-
+-- the counts of a plan that are above a family's limits, each where it stands, in file order: the regions, the zones, the
+-- two sets of each zone, the requests
 abbrev pub setsAbove : Limits → ℕ → Zone → List (Rule ℕ)
 setsAbove l at z =
     (at + shortSize) when ltb (l .inSet) (length (z .cpu))

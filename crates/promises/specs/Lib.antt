@@ -14,5 +14,7 @@ pub mod Editions
 pub mod Terminals
 pub mod Past
 pub mod Receiving
+pub mod Filling
 pub mod Writing
+pub mod Differing
 pub mod Families

@@ -18,6 +18,7 @@ use Rattle.rules.specs.Tables.{tableOf}
 use Rattle.rules.specs.Writer.{write}
 use Rattle.rules.specs.declared.Outcome.{Outcome}
 use Rattle.promises.specs.Answers.{standingLines, numberAt}
+use Rattle.promises.specs.Filling.{Fills}
 
 -- what can be lent at all: an edition of 32 bits, requests whose numbers their fields can say, and a configuration with
 -- a record for each region that there is room for
@@ -65,15 +66,7 @@ RefusalLeavesBuffer l =
     (s : Terminal) (q : List Asked) (w : List ℕ) → (write l s q w .outcome .number ≡ 0 → ⊥)
     → write l s q w .buffer ≡ w
 
--- success: the place is the plan's length, which the buffer has; so many bytes from its start are the plan, and those
--- after them, as many as there were, are what they were
-pub record Fills (b w : List ℕ) (o : Outcome) (v : List ℕ) : Type 0 where
-  pub place : o ≡ plain 0 (length b)
-  pub room : length b ≤ length w
-  pub front : take (length b) v ≡ b
-  pub behind : drop (length b) v ≡ drop (length b) w
-  pub long : length v ≡ length w
-
+-- success fills it with the plan
 abbrev pub SuccessFills : Limits → Type 0
 SuccessFills l =
     (s : Terminal) (q : List Asked) (w : List ℕ) → write l s q w .outcome .number ≡ 0

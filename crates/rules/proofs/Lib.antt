@@ -17,6 +17,7 @@ pub mod Receiving
 pub mod Planner
 pub mod Filling
 pub mod Writer
+pub mod Differing
 pub mod Computing
 pub mod Desk
 pub mod Story

@@ -166,6 +166,9 @@ spelled-zone l z =
     spelled-both short (both (setFormat l) (setFormat l)) (spelled-number 4)
     (spelled-both (setFormat l) (setFormat l) set set) (zoneFrom z)
 
+pub spelled-zones : (l : Limits) → Spelled (zonesSection l)
+spelled-zones l = spelled-list 0 (l .zones) (zoneFormat l) (spelled-zone l)
+
 pub encoded-bytes : (l : Limits) (p : Plan) → Bytes (encode l p)
 unfolding encode
 encoded-bytes l p =
@@ -173,6 +176,6 @@ encoded-bytes l p =
     (spelled-marks l)
     (spelled-both (regionsSection l) (both (zonesSection l) (requestsSection l))
     (spelled-list 1 (l .regions) regionField spelled-region)
-    (spelled-both (zonesSection l) (requestsSection l) (spelled-list 0 (l .zones) (zoneFormat l) (spelled-zone l))
+    (spelled-both (zonesSection l) (requestsSection l) (spelled-zones l)
     (spelled-list 0 (l .requests) askedField spelled-asked)))
     (planFrom p)

@@ -91,7 +91,7 @@ module _ (lim : Limits) (say : Sayable lim) where
         let i : z .id ≤ highestId = leb-true _ _ (h .0) in
         (omega arith, (set-fits (z .cpu) (h .1 .0), set-fits (z .iommu) (h .1 .1 .0)))
 
-    zones-fit : (t : List Zone) → SoundTable lim c t → ListFits 4 0 (lim .zones) (ZoneFits lim) t
+    pub zones-fit : (t : List Zone) → SoundTable lim c t → ListFits 4 0 (lim .zones) (ZoneFits lim) t
     zones-fit t s =
         let m : length t ≤ lim .zones = s .few in
         let n : lim .zones < 256 ^ 4 = say .zones in record {

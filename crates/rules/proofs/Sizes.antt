@@ -22,7 +22,7 @@ use Rattle.rules.specs.Plan.{zoneFrom, zoneFormat, zonesSection, request
 use Rattle.rules.specs.Plan.{readPlan, encode, RegionFits, AskedFits, ZoneFits, PlanFits, Asked, Plan}
 use Rattle.rules.specs.Regions.{noRegion}
 use Rattle.rules.specs.Run.{requestSize}
-use Rattle.rules.specs.Sizes.{marksSize, regionsSize, requestsSize}
+use Rattle.rules.specs.Sizes.{marksSize, regionsSize, zonesSize, requestsSize}
 use Rattle.rules.specs.Sizes.{setsSize, zoneSize, planSize, longestSize, leastSize, SizesShown, zoneWith, noAsked}
 use Rattle.rules.specs.Sizes.{planWith}
 use Rattle.rules.specs.Tables.{Zone}
@@ -84,8 +84,11 @@ module _ (l : Limits) where
       (λ t. ofRegions (t .0) + ofRegions (t .1)) sized-short
       (sized-both (setFormat l) (setFormat l) ofRegions ofRegions sized-set sized-set) (z .id, (z .cpu, z .iommu))
 
-  abbrev ofZones : List Zone → ℕ
-  ofZones zs = shortSize + total zoneSize zs
+  pub sized-zones : Sized (zonesSection l) zonesSize
+  sized-zones = sized-listed (zoneFormat l) zoneSize sized-zone 4 0 (l .zones)
+
+  pub sized-regions : Sized (regionsSection l) ofRegions
+  sized-regions = sized-list 1 (l .regions) regionSize regionField sized-region
 
   abbrev ofAsked : List Asked → ℕ
   ofAsked q = requestsSize (length q)
@@ -95,11 +98,10 @@ module _ (l : Limits) where
   unfolding encode planSize
   encoded-length p =
       sized-both (marksSection l) (both (regionsSection l) (both (zonesSection l) (requestsSection l))) (λ m. marksSize l)
-      (λ t. ofRegions (t .0) + (ofZones (t .1 .0) + ofAsked (t .1 .1))) sized-marks
+      (λ t. ofRegions (t .0) + (zonesSize (t .1 .0) + ofAsked (t .1 .1))) sized-marks
       (sized-both (regionsSection l) (both (zonesSection l) (requestsSection l)) ofRegions
-      (λ t. ofZones (t .0) + ofAsked (t .1)) (sized-list 1 (l .regions) regionSize regionField sized-region)
-      (sized-both (zonesSection l) (requestsSection l) ofZones ofAsked
-      (sized-listed (zoneFormat l) zoneSize sized-zone 4 0 (l .zones))
+      (λ t. zonesSize (t .0) + ofAsked (t .1)) sized-regions
+      (sized-both (zonesSection l) (requestsSection l) zonesSize ofAsked sized-zones
       (sized-list 0 (l .requests) requestSize askedField sized-asked)))
       (p .marks, (p .regions, (p .zones, p .asked)))
 

@@ -16,6 +16,7 @@ pub mod Receiving
 pub mod Planner
 pub mod Filling
 pub mod Writer
+pub mod Differing
 pub mod Desk
 pub mod Story
 pub mod RequestExamples

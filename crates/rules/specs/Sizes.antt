@@ -1,5 +1,6 @@
 -- How many bytes a plan takes, from its contents; and the least and the longest plan, from the limits.
 use Prim.Native.Nat.{ℕ, _+_, _*_}
+use mathlib.Core.List.{List}
 use mathlib.Core.Path.{_≡_}
 use lib.ListN.{length, replicate}
 use Rattle.formats.specs.Sizes.{total}
@@ -28,11 +29,22 @@ setsSize m n = shortSize + (regionsSize m + regionsSize n)
 abbrev pub zoneSize : Zone → ℕ
 zoneSize z = setsSize (length (z .cpu)) (length (z .iommu))
 
+-- zones after their count
+abbrev pub zonesSize : List Zone → ℕ
+zonesSize zs = shortSize + total zoneSize zs
+
 -- a plan: its four sections
 unfoldable pub planSize : Limits → Plan → ℕ
 planSize l p =
     marksSize l
-    + (regionsSize (length (p .regions)) + ((shortSize + total zoneSize (p .zones)) + requestsSize (length (p .asked))))
+    + (regionsSize (length (p .regions)) + (zonesSize (p .zones) + requestsSize (length (p .asked))))
+
+-- where its zones and its requests begin, each at its count
+abbrev pub zonesAt : Limits → Plan → ℕ
+zonesAt l p = marksSize l + regionsSize (length (p .regions))
+
+abbrev pub requestsAt : Limits → Plan → ℕ
+requestsAt l p = zonesAt l p + zonesSize (p .zones)
 
 -- ---- the longest and the least
 -- with all that the limits let a plan have

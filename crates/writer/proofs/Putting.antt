@@ -17,11 +17,12 @@ use Rattle.lists.proofs.Tests.{parts}
 use Rattle.formats.specs.Formats.{writeMany, writeBoth, writeHeaded}
 use Rattle.puts.specs.Puts.{putAt, Put}
 use Rattle.puts.proofs.Puts.{puts-both, puts-none}
+use Rattle.rules.specs.Differing.{zonesBytes}
 use Rattle.rules.specs.Limits.{mostRegions, mostZones, mostInSet, highestId, limits}
 use Rattle.rules.specs.Plan.{long, regionField, askedField, marksSection, regionsSection, setFormat, zoneFormat}
 use Rattle.rules.specs.Plan.{zonesSection, requestsSection, encode}
 use Rattle.rules.specs.Run.{requestSize}
-use Rattle.rules.specs.Tables.{noZone, soundZone, tableOf}
+use Rattle.rules.specs.Tables.{noZone, soundZone, tableOf, Zone}
 use Rattle.rules.specs.Writer.{askedOf}
 use Rattle.rules.specs.declared.Region.{Region}
 use Rattle.rules.specs.declared.Side.the-variants.{Cpu, Iommu}
@@ -239,6 +240,12 @@ module _ (c t : List ℕ) (ok : Stands c t) where
         few = omega (arith, count-word t);
         zones = λ z h. zone-fits long z (omega (arith, count-word t));
       }
+
+  -- ---- the zones alone
+  pub zones-whole : (s v : List ℕ) (at f : ℕ) → Put s at (zonesSection limits .write (zonesIn t)) v f
+      → Put s at (zonesBytes limits (storedTable t)) v f
+  zones-whole s v at f p =
+      subst (λ (l : List Zone). Put s at (zonesSection limits .write l) v f) (stands-same c t _ refl ok) p
 
   -- ---- the whole plan
   pub plan-put : (e : ℕ) (r s u v x y : List ℕ) (a b d f : ℕ)

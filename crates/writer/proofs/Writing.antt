@@ -13,9 +13,10 @@ use Rattle.lists.proofs.Tests.{not-holds}
 use Rattle.puts.specs.Puts.{Put}
 use Rattle.puts.proofs.Puts.{put-fits}
 use Rattle.rules.specs.Applying.{lastEdition, plain}
+use Rattle.rules.specs.Differing.{zonesBytes, writeZones}
 use Rattle.rules.specs.Filling.{fillAnswer, fillLeaves}
 use Rattle.rules.specs.Limits.{mostRequests, limits}
-use Rattle.rules.specs.Plan.{requestsFrom}
+use Rattle.rules.specs.Plan.{requestsFrom, zonesSection}
 use Rattle.rules.specs.Planner.{ranAt}
 use Rattle.rules.specs.Requests.{standing}
 use Rattle.rules.specs.Run.{requestSize, requestsIn, run, ended, Run}
@@ -25,9 +26,10 @@ use Rattle.rules.specs.declared.Outcome.{Outcome}
 use Rattle.rules.proofs.Filling.{leaves-all, leaves-filled}
 use Rattle.zones.specs.Kept.{Stands}
 use Rattle.zones.specs.Trial.{trialAnswer}
-use Rattle.zones.specs.View.{storedConfig, storedTable, configIn}
-use Rattle.writer.specs.Writer.{lentIn, planIn, noNext, FilledIn, WritesIn}
+use Rattle.zones.specs.View.{storedConfig, storedTable, configIn, zonesIn}
+use Rattle.writer.specs.Writer.{lentIn, planIn, noNext, FilledIn, WritesIn, WritesZonesIn}
 use Rattle.writer.proofs.Bytes.{asked-many, asked-requests}
+use Rattle.writer.proofs.Putting.{zones-whole}
 
 -- ---- 25
 module _ (c t : List ℕ) (n : ℕ) (e : n ≡ standing limits (storedConfig c) (storedTable t)) where
@@ -67,6 +69,59 @@ module _ (b w : List ℕ) (n : ℕ) (e : n ≡ 0 + length b) where
         buffer =
             p .bytes ∙ put-fits 0 b w (omega arith) ∙ ap (λ (j : ℕ). b ++ drop j w) z
             ∙ sym (ap (λ (x : Bool). cond x w (b ++ drop (length b) w)) s);
+      }
+
+-- what a filler leaves that nothing but 28 refuses
+filled-leaves : (b w : List ℕ)
+    → cond (ltb (length w) (length b)) w (b ++ drop (length b) w)
+    ≡ fillLeaves (cond (ltb (length w) (length b)) (plain 28 0) (plain 0 (length b))) b w
+filled-leaves b w = by (ltb (length w) (length b))
+  where
+    by : (x : Bool) → cond x w (b ++ drop (length b) w) ≡ fillLeaves (cond x (plain 28 0) (plain 0 (length b))) b w
+    by true = sym (leaves-all (plain 28 0) b w (λ y. omega arith))
+    by false = sym (leaves-filled (plain 0 (length b)) b w refl)
+
+-- ---- the zones alone
+-- measured, and put: s and v are the bytes that they were measured in, and n is where they ended there
+module _ (c t : List ℕ) (ok : Stands c t) (s v : List ℕ) (n : ℕ) (p : Put s 0 (zonesSection limits .write (zonesIn t)) v n)
+    (w : List ℕ) where
+  pub zones-short : length w < n
+      → FilledIn (zonesBytes limits (storedTable t)) w (record { number = 28; place = 0; inner = 0 }) w
+  zones-short h = fill-short (zonesBytes limits (storedTable t)) w n (zones-whole c t ok s v 0 n p .end) h
+
+  pub zones-done : n ≤ length w → (x : List ℕ) (k : ℕ) → Put w 0 (zonesSection limits .write (zonesIn t)) x k
+      → FilledIn (zonesBytes limits (storedTable t)) w (record { number = 0; place = n; inner = 0 }) x
+  zones-done h x k q =
+      fill-done (zonesBytes limits (storedTable t)) w n (zones-whole c t ok s v 0 n p .end) h x k
+      (zones-whole c t ok w x 0 k q)
+
+-- 1 or 2 before that
+module _ (c t w : List ℕ) (n : ℕ) (e : n ≡ standing limits (storedConfig c) (storedTable t)) where
+  abbrev own : ℕ
+  own = standing limits (storedConfig c) (storedTable t)
+
+  abbrev zones : List ℕ
+  zones = zonesBytes limits (storedTable t)
+
+  -- 1 or 2, or what is answered behind them
+  abbrev either : Bool → Outcome
+  either x =
+      cond (not x) (plain own 0) (cond (ltb (length w) (length zones)) (plain 28 0) (plain 0 (length zones)))
+
+  pub zones-refused : (n ≡ 0 → ⊥) → WritesZonesIn c t w (record { number = n; place = 0; inner = 0 }) w
+  unfolding writeZones fillAnswer firstRule
+  zones-refused ne =
+      let q : eqb own 0 ≡ false = ne-eqb own 0 (λ z. ne (e ∙ z)) in record {
+        answer = (λ i. plain (e i) 0) ∙ sym (ap either q);
+        buffer = sym (leaves-all _ zones w (λ z. ne (e ∙ sym (ap (λ (x : Bool). either x .number) q) ∙ z)));
+      }
+
+  pub zones-filled : n ≡ 0 → (o : Outcome) (v : List ℕ) → FilledIn zones w o v → WritesZonesIn c t w o v
+  unfolding writeZones fillAnswer firstRule
+  zones-filled z o v f =
+      let q : eqb own 0 ≡ true = eq-eqb own 0 (sym e ∙ z) in record {
+        answer = f .answer ∙ sym (ap either q);
+        buffer = f .buffer ∙ filled-leaves zones w ∙ sym (ap (λ (x : Bool). fillLeaves (either x) zones w) q);
       }
 
 -- ---- the whole
@@ -203,11 +258,6 @@ module _ (c t : List ℕ) (e : ℕ) (r w : List ℕ) where
       writes-filled p v g =
           let h : FilledIn (planIn c t e r) w p v = subst (λ (x : List ℕ). FilledIn (planIn c x e r) w p v) eu g in record {
             answer = h .answer ∙ sym answer-behind;
-            buffer = h .buffer ∙ by (ltb (length w) (length b)) refl ∙ ap (λ (x : Outcome). fillLeaves x b w) (sym answer-behind);
+            buffer = h .buffer ∙ filled-leaves b w ∙ ap (λ (x : Outcome). fillLeaves x b w) (sym answer-behind);
             table = eu;
           }
-        where
-          by : (x : Bool) → ltb (length w) (length b) ≡ x
-              → cond x w (b ++ drop (length b) w) ≡ fillLeaves (cond x (plain 28 0) (plain 0 (length b))) b w
-          by true k = sym (leaves-all (plain 28 0) b w (λ y. omega arith))
-          by false k = sym (leaves-filled (plain 0 (length b)) b w refl)

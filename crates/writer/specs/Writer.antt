@@ -8,6 +8,7 @@ use lib.ListN.{length, getD, drop}
 use Rattle.lists.specs.Bytes.{bytesOf}
 use Rattle.formats.specs.Formats.{writeMany}
 use Rattle.rules.specs.Applying.{plain, Terminal}
+use Rattle.rules.specs.Differing.{writeZones}
 use Rattle.rules.specs.Filling.{Filled}
 use Rattle.rules.specs.Limits.{mostRegions, mostZones, mostInSet, limits}
 use Rattle.rules.specs.Plan.{regionField}
@@ -33,6 +34,15 @@ pub record WritesIn (c t : List ℕ) (e : ℕ) (r w : List ℕ) (o : Outcome) (u
   pub answer : o ≡ writesIn c t e r w .outcome
   pub buffer : v ≡ writesIn c t e r w .buffer
   pub table : u ≡ t
+
+-- what becomes of a terminal's zones
+abbrev pub writesZonesIn : List ℕ → List ℕ → List ℕ → Filled
+writesZonesIn c t w = writeZones limits (storedConfig c) (storedTable t) w
+
+-- o is answered, and v is what the buffer then is
+pub record WritesZonesIn (c t w : List ℕ) (o : Outcome) (v : List ℕ) : Type 0 where
+  pub answer : o ≡ writesZonesIn c t w .outcome
+  pub buffer : v ≡ writesZonesIn c t w .buffer
 
 -- ---- how the code goes about it
 -- the plan's bytes

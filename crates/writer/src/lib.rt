@@ -1,7 +1,10 @@
-// The planner's writer: from a configuration, a table, an edition and a list of requests, the plan into a lent buffer.
+// The planner's writer: from a configuration, a table, an edition and a list of requests, the plan into a lent buffer. And a terminal's
+// zones alone, as a plan would hold them.
+mod base;
 mod sections;
 
 use crate::sections::put_plan;
+pub use base::write_zones;
 use rules::Outcome;
 use rules::numbers::BUFFER_SHORT;
 use rules::numbers::NO_NEXT_EDITION;

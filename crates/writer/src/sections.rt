@@ -107,7 +107,7 @@ fn put_zone_at(b: &mut [u8], at: usize, w: &[u64], k: usize) -> usize
 }
 
 // The zones' section: their count, and each.
-fn put_zones(b: &mut [u8], start: usize, w: &[u64]) -> usize
+pub fn put_zones(b: &mut [u8], start: usize, w: &[u64]) -> usize
     requires { ⌜ (start < 2 ^ 20) × TableFits (now w) ⌝ }
     ensures { λ e. ⌜ Put (now (b .entry)) start (zonesSection limits .write (zonesIn (now (w .entry)))) (now (b .exit)) e × (e < 2 ^ 24) ⌝ }
 {

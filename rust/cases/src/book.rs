@@ -32,12 +32,14 @@ impl Named {
         let Answer { number, places: [place, other], table, edition, .. } = after;
         let left = format!("{} {}", table[TABLE_COUNT], fingerprint(&table));
         let answer = match self.case.question {
-            Question::Config | Question::Translate => format!("{number} {place} {other}"),
+            Question::Config | Question::Translate | Question::Base => format!("{number} {place} {other}"),
             Question::Table => (if number == 1 { "yes" } else { "no" }).into(),
             Question::Request => format!("{number} {left}"),
             Question::Edition | Question::Read => format!("{number} {place}"),
             Question::Apply | Question::Pieces => format!("{number} {place} {other} {edition} {left}"),
             Question::Write => format!("{number} {place} {other} {}", mixed(&after.left[0].buffer)),
+            Question::Zones => format!("{number} {place} {}", mixed(&after.left[0].buffer)),
+            Question::Lacking => format!("{place} {:?}", after.left[0].words),
         };
         format!("{}: {answer}", self.name)
     }
@@ -123,6 +125,22 @@ impl Book {
     /// The writer with these requests' records, into a buffer of so many bytes.
     pub fn ask_writer(&mut self, name: impl Into<String>, requests: Vec<u8>, room: usize) -> &mut Named {
         self.ask(name.into(), Case::write(self.config, self.table, self.edition, requests, vec![0xa5; room]))
+    }
+
+    /// The state's zones, into a buffer of so many bytes.
+    pub fn ask_zones(&mut self, name: impl Into<String>, room: usize) -> &mut Named {
+        self.ask(name.into(), Case::zones(self.config, self.table, vec![0xa5; room]))
+    }
+
+    /// Where the plan's own zones section stands.
+    pub fn ask_base(&mut self, name: impl Into<String>, plan: Vec<u8>) -> &mut Named {
+        self.ask(name.into(), Case::base(plan))
+    }
+
+    /// The first place where the second stretch lacks the same byte. The number by hand is 0 where the first ends there, 1 where both have a
+    /// byte, 2 where only the second has ended.
+    pub fn ask_lacking(&mut self, name: impl Into<String>, first: &[u8], second: &[u8]) -> &mut Named {
+        self.ask(name.into(), Case::lacking(first.to_vec(), second.to_vec()))
     }
 
     fn deliver(&mut self, name: String, case: Case) -> &mut Named {

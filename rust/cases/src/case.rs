@@ -4,7 +4,8 @@ use std::fmt;
 
 use ordinary::TableWords;
 use ordinary::{
-    base_edition, BufferShort, Config, ConfigWords, Guest, Plan, PlanRefusal, Receiver, Record, Region, Side, State, Table,
+    base_edition, base_zones, lacking_part, BufferShort, Config, ConfigWords, Guest, Plan, PlanRefusal, Receiver, Record, Region,
+    Side, State, Table,
 };
 use ordinary::{CONFIG_WORDS, TABLE_WORDS};
 
@@ -20,6 +21,9 @@ pub enum Question {
     Apply,
     Pieces,
     Write,
+    Zones,
+    Base,
+    Lacking,
 }
 
 /// How many numbers a question can take: a request has its kind, its zone and those of its region.
@@ -34,19 +38,24 @@ pub struct Case {
     /// Of a request its kind, its zone and its region's numbers; of a translation its zone, side and address; of a plan the terminal's edition,
     /// and where it comes in pieces also the two words of the receiver.
     pub numbers: [u64; NUMBERS],
+    /// Of two stretches of bytes the first.
     pub plan: Vec<u8>,
-    /// Where the plan comes in pieces: how long they are, one after another, the rest of the plan being the last one; and the buffer.
+    /// Where the plan comes in pieces: how long they are, one after another, the rest of the plan being the last one.
     pub lengths: Vec<usize>,
+    /// The buffer that is lent; of two stretches of bytes the second.
     pub buffer: Vec<u8>,
 }
 
-/// What a call of a receiver leaves: its number, the receiver's words and the buffer.
+/// What a call leaves: its number, two words (the receiver's, or of two stretches the byte that each has at the place), and the buffer.
 #[derive(Clone, Debug, PartialEq, Eq)]
 pub struct Left {
     pub number: u32,
-    pub receiver: [u64; 2],
+    pub words: [u64; 2],
     pub buffer: Vec<u8>,
 }
+
+/// What is said of a place that has no byte.
+const NO_BYTE: u64 = 256;
 
 /// What is answered, and what the configuration, the table and the edition then are.
 #[derive(Clone, Debug, PartialEq, Eq)]
@@ -56,7 +65,7 @@ pub struct Answer {
     pub config: ConfigWords,
     pub table: TableWords,
     pub edition: u32,
-    /// Of a plan in pieces what each call leaves, the end call last.
+    /// Of a plan in pieces what each call leaves, the end call last; of what is written or compared what the one call leaves.
     pub left: Vec<Left>,
 }
 
@@ -131,6 +140,33 @@ impl Case {
         Case { buffer, ..case }
     }
 
+    /// The zones of a state into a buffer.
+    pub fn zones(config: ConfigWords, table: TableWords, buffer: Vec<u8>) -> Case {
+        let case = Case::new(Question::Zones, config, table, &[], Vec::new());
+        Case { buffer, ..case }
+    }
+
+    /// Where a plan's own zones section stands.
+    pub fn base(plan: Vec<u8>) -> Case {
+        Case::new(Question::Base, [0; CONFIG_WORDS], [0; TABLE_WORDS], &[], plan)
+    }
+
+    /// Two stretches of bytes.
+    pub fn lacking(first: Vec<u8>, second: Vec<u8>) -> Case {
+        let case = Case::new(Question::Lacking, [0; CONFIG_WORDS], [0; TABLE_WORDS], &[], first);
+        Case { buffer: second, ..case }
+    }
+
+    /// Which of three ways two stretches go, by the byte that each has at the place: 0 where the first ends there, 1 where both have one, 2
+    /// where only the second has ended.
+    pub fn way(bytes: [u64; 2]) -> u32 {
+        match bytes {
+            [NO_BYTE, _] => 0,
+            [_, NO_BYTE] => 2,
+            _ => 1,
+        }
+    }
+
     /// The pieces, which together are the plan.
     pub fn cut(&self) -> Vec<&[u8]> {
         let mut rest = &self.plan[..];
@@ -176,7 +212,7 @@ impl Case {
                 Err(fault) => self.unchanged(fault.number(), fault.places().map(|place| place as u64)),
             },
             Question::Table => {
-                let is_sound = self.base().is_ok_and(|state| state.table.is_sound(&state.config));
+                let is_sound = self.base_state().is_ok_and(|state| state.table.is_sound(&state.config));
                 self.unchanged(is_sound.into(), [0, 0])
             }
             Question::Edition => match base_edition(&self.plan) {
@@ -187,12 +223,18 @@ impl Case {
                 Ok(plan) => self.unchanged(0, [plan.requests_at as u64, 0]),
                 Err(fault) => self.unchanged(fault.number(), [fault.offset() as u64, 0]),
             },
-            Question::Request | Question::Translate | Question::Apply => match self.base() {
+            Question::Request | Question::Translate | Question::Apply => match self.base_state() {
                 Ok(state) => self.ask_ordinary(state),
                 Err(number) => self.unchanged(number, [0, 0]),
             },
             Question::Pieces => self.pieces_ordinary(),
             Question::Write => self.write_ordinary(),
+            Question::Zones => self.zones_ordinary(),
+            Question::Base => match Plan::read(&self.plan) {
+                Ok(plan) => self.unchanged(0, [plan.zones.start as u64, base_zones(&self.plan).len() as u64]),
+                Err(fault) => self.unchanged(fault.number(), [fault.offset() as u64, base_zones(&self.plan).len() as u64]),
+            },
+            Question::Lacking => self.lacking_ordinary(),
         }
     }
 
@@ -204,20 +246,20 @@ impl Case {
         let mut left = Vec::new();
         for piece in self.cut() {
             let number = receiver.take(&mut buffer, piece).map_or_else(|short| short.number(), |()| 0);
-            left.push(Left { number, receiver: [receiver.stored, receiver.more], buffer: buffer.clone() });
+            left.push(Left { number, words: [receiver.stored, receiver.more], buffer: buffer.clone() });
         }
         let answer = match receiver.end(&buffer) {
             Err(short @ BufferShort) => self.unchanged(short.number(), [0, 0]),
             Ok(plan) => Case { question: Question::Apply, plan, ..self.clone() }.ordinary(),
         };
-        left.push(Left { number: answer.number, receiver: [receiver.stored, receiver.more], buffer });
+        left.push(Left { number: answer.number, words: [receiver.stored, receiver.more], buffer });
         Answer { left, ..answer }
     }
 
     /// The plan written into the buffer.
     fn write_ordinary(&self) -> Answer {
         let mut buffer = self.buffer.clone();
-        let answer = match self.base() {
+        let answer = match self.base_state() {
             Err(number) => self.unchanged(number, [0, 0]),
             Ok(state) => match state.write(&self.plan, &mut buffer) {
                 Ok(length) => self.unchanged(0, [length as u64, 0]),
@@ -227,13 +269,36 @@ impl Case {
                 }
             },
         };
-        let left = vec![Left { number: answer.number, receiver: [0, 0], buffer }];
+        let left = vec![Left { number: answer.number, words: [0, 0], buffer }];
         Answer { left, ..answer }
+    }
+
+    /// The zones written into the buffer.
+    fn zones_ordinary(&self) -> Answer {
+        let mut buffer = self.buffer.clone();
+        let answer = match self.base_state() {
+            Err(number) => self.unchanged(number, [0, 0]),
+            Ok(state) => match state.write_zones(&mut buffer) {
+                Ok(length) => self.unchanged(0, [length as u64, 0]),
+                Err(refusal) => self.unchanged(refusal.number(), [0, 0]),
+            },
+        };
+        let left = vec![Left { number: answer.number, words: [0, 0], buffer }];
+        Answer { left, ..answer }
+    }
+
+    /// The place where two stretches differ, and their bytes there.
+    fn lacking_ordinary(&self) -> Answer {
+        let place = self.plan.len() - lacking_part(&self.plan, &self.buffer).len();
+        let words = [&self.plan, &self.buffer].map(|bytes| bytes.get(place).map_or(NO_BYTE, |&byte| byte.into()));
+        let number = Case::way(words);
+        let left = vec![Left { number, words, buffer: self.buffer.clone() }];
+        Answer { left, ..self.unchanged(number, [place as u64, 0]) }
     }
 
     /// The state that the words are, or the first of 1 and 2 where they are none. Whether a state is sound, whatever is asked next says
     /// itself.
-    fn base(&self) -> Result<State, u32> {
+    fn base_state(&self) -> Result<State, u32> {
         let config = Config::from_words(&self.config).map_err(|_| 1u32)?;
         match Table::from_words(&self.table) {
             Some(table) => Ok(State { config, table, edition: self.edition() }),
@@ -276,7 +341,7 @@ impl fmt::Display for Answer {
         write_words(f, "  table", &self.table)?;
         writeln!(f, "  edition {}", self.edition)?;
         for (at, left) in self.left.iter().enumerate() {
-            writeln!(f, "  call {at}: number {}, receiver {:?}, buffer {}", left.number, left.receiver, hex(&left.buffer))?;
+            writeln!(f, "  call {at}: number {}, words {:?}, buffer {}", left.number, left.words, hex(&left.buffer))?;
         }
         Ok(())
     }
@@ -291,6 +356,11 @@ impl fmt::Display for Case {
         writeln!(f, "  plan of {} bytes: {}", self.plan.len(), hex(&self.plan))?;
         if self.question == Question::Write {
             writeln!(f, "  as requests, into a buffer of {}: {}", self.buffer.len(), hex(&self.buffer))?;
+        }
+        match self.question {
+            Question::Zones => writeln!(f, "  into a buffer of {}: {}", self.buffer.len(), hex(&self.buffer))?,
+            Question::Lacking => writeln!(f, "  beside a stretch of {}: {}", self.buffer.len(), hex(&self.buffer))?,
+            _ => {}
         }
         if self.question == Question::Pieces {
             writeln!(

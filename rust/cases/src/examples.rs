@@ -15,6 +15,7 @@ pub fn add(files: &mut PlanFiles) {
     files.add("refused", desk().with_requests(&to_another_zone).bytes()).refused(2, 14);
     files.add("cut", first().bytes()[..80].to_vec()).is(20, 60);
     let two_hold_a = [zone(5, &[A], &[A, G]), zone(6, &[A], &[])];
+    files.add("other_zones", desk().with_zones(&[zone(5, &[B], &[A, G])]).bytes()).is(0, 0);
     files.add("unsound", desk().with_zones(&two_hold_a).bytes()).is(2, 0);
 }
 

@@ -32,6 +32,7 @@ pub fn add(book: &mut Book, rng: &mut Rng) {
     long_plans(book);
     in_pieces(book);
     written(book);
+    bases(book);
     runs(book, rng);
 }
 
@@ -378,6 +379,55 @@ fn written(book: &mut Book) {
     ask("one more comes before a refused one", 0, many(MAX_REQUESTS + 1), 0, 29, [0, 0]);
     ask("the last edition comes before both", u32::MAX, many(MAX_REQUESTS + 1), 0, 25, [0, 0]);
     ask("the edition before the last", u32::MAX - 1, one, length, 0, [length, 0]);
+}
+
+// ---- where bases differ
+
+/// Marks and one region stand before the zones of the least plan: 16 and 36 bytes. An empty zone has 12 bytes.
+fn bases(book: &mut Book) {
+    let section = |plan: &Plan| {
+        let bytes = plan.bytes();
+        bytes[plan.field("zones-count").start..plan.field("requests-count").start].to_vec()
+    };
+    stand_at(book, &least());
+    book.ask_zones("zones: none", 4).known_with(0, [4, 0]);
+    book.ask_zones("zones: none, into a longer buffer", 13).known_with(0, [4, 0]);
+    book.ask_zones("zones: none, into one a byte too short", 3).known_with(28, [0, 0]);
+    book.ask_zones("zones: none, into one of no bytes", 0).known_with(28, [0, 0]);
+    let (config, table) = (book.config, book.table);
+    book.change_to(config, with_word(table, TABLE_COUNT, 1));
+    book.ask_zones("zones: an empty one", 16).known_with(0, [16, 0]);
+    book.change_to(config, with_word(table, TABLE_COUNT, MAX_ZONES as u64 + 1));
+    book.ask_zones("zones: an unsound table comes before the room", 0).known_with(2, [0, 0]);
+    book.change_to(with_word(config, CONFIG_COUNT, 0), book.table);
+    book.ask_zones("zones: an unsound configuration comes first", 0).known_with(1, [0, 0]);
+    stand_at(book, &rich());
+    let rich_section = section(&rich());
+    book.ask_zones("zones: a rich table", rich_section.len()).known_with(0, [rich_section.len() as u64, 0]);
+
+    let first_plan = first().bytes();
+    book.ask_base("base: no zones", first_plan.clone()).known_with(0, [52, 4]);
+    let rich_at = rich().field("zones-count").start;
+    book.ask_base("base: a rich plan", rich().bytes()).known_with(0, [rich_at as u64, rich_section.len() as u64]);
+    book.ask_base("base: no bytes", Vec::new()).known_with(20, [0, 0]);
+    book.ask_base("base: cut behind the zones", first_plan[..56].to_vec()).known_with(20, [56, 0]);
+    book.ask_base("base: a bad count", [&first_plan[..52], &[0xff; 8]].concat()).known_with(21, [52, 0]);
+    book.ask_base("base: a byte after the end", [&first_plan[..], &[0]].concat()).known_with(22, [100, 0]);
+
+    let other = [&rich_section[..4], &[0xff], &rich_section[5..]].concat();
+    let length = rich_section.len();
+    let mut ask = |name: &str, first: &[u8], second: &[u8], way: u32, place: usize| {
+        book.ask_lacking(format!("lacking: {name}"), first, second).known_with(way, [place as u64, 0]);
+    };
+    ask("equal sections", &rich_section, &rich_section, 0, length);
+    ask("another id", &rich_section, &other, 1, 4);
+    ask("the last byte", &rich_section, &[&rich_section[..length - 1], &[0xee]].concat(), 1, length - 1);
+    ask("the second begins the first", &rich_section, &rich_section[..7], 2, 7);
+    ask("the first begins the second", &rich_section[..7], &rich_section, 0, 7);
+    ask("nothing beside something", &[], &rich_section, 0, 0);
+    ask("something beside nothing", &rich_section, &[], 2, 0);
+    ask("nothing beside nothing", &[], &[], 0, 0);
+    ask("the first byte", &[1, 2, 3], &[9, 2, 3], 1, 0);
 }
 
 // ---- random runs of plans

@@ -94,18 +94,31 @@ fn ask_library(case: &Case, state: &mut Lent, left: &mut Vec<Left>) -> (u32, [u6
             let mut receiver = [stored, more];
             for piece in case.cut() {
                 let number = raw::take_piece(&mut receiver, &mut buffer, piece);
-                left.push(Left { number, receiver, buffer: buffer.clone() });
+                left.push(Left { number, words: receiver, buffer: buffer.clone() });
             }
             let (number, places) = raw::end_words(&state.config, &mut state.table, &mut state.edition, &mut receiver, &buffer);
-            left.push(Left { number, receiver, buffer });
+            left.push(Left { number, words: receiver, buffer });
             (number, places)
         }
         Question::Write => {
             let mut buffer = case.buffer.clone();
             let (number, places) =
                 raw::write_words(&state.config, &mut state.table, case.edition(), &case.plan, black_box(&mut buffer));
-            left.push(Left { number, receiver: [0, 0], buffer });
+            left.push(Left { number, words: [0, 0], buffer });
             (number, places)
+        }
+        Question::Zones => {
+            let mut buffer = case.buffer.clone();
+            let (number, place) = raw::zones_words(&state.config, &state.table, black_box(&mut buffer));
+            left.push(Left { number, words: [0, 0], buffer });
+            (number, [place, 0])
+        }
+        Question::Base => raw::base_zones(&case.plan),
+        Question::Lacking => {
+            let (place, bytes) = raw::lacking(&case.plan, &case.buffer);
+            let number = Case::way(bytes);
+            left.push(Left { number, words: bytes, buffer: case.buffer.clone() });
+            (number, [place, 0])
         }
     }
 }

@@ -6,7 +6,8 @@ use ordinary::layout::{
 };
 use ordinary::limits::{GUEST_REACH, MAX_IN_SET, MAX_REGIONS, MAX_REQUESTS, MAX_ZONES, PAGE, PHYS_REACH};
 use ordinary::{
-    encode, Config, ConfigWords, Record, Region, Rights, Side, State, Table, TableWords, Zone, CONFIG_WORDS, TABLE_WORDS,
+    encode, encode_zones, Config, ConfigWords, Record, Region, Rights, Side, State, Table, TableWords, Zone, CONFIG_WORDS,
+    TABLE_WORDS,
 };
 
 use crate::random::{EDGES, EDITIONS};
@@ -17,7 +18,7 @@ const C: Region = Region::new(0x4010_0000, 0x9000_0000, 0x20_0000, 3);
 const G: Region = Region::new(0x0800_0000, 0x0800_0000, 0x1_0000, 3);
 
 /// All cases, in parts: of all at once the words would take a gigabyte.
-pub const PARTS: [fn() -> Vec<Case>; 13] = [
+pub const PARTS: [fn() -> Vec<Case>; 16] = [
     config_cases,
     table_cases,
     request_cases,
@@ -31,6 +32,9 @@ pub const PARTS: [fn() -> Vec<Case>; 13] = [
     unsound_terminals,
     plans_in_pieces,
     plans_written,
+    zones_written,
+    bases_found,
+    stretches,
 ];
 
 fn zone(id: u32, cpu: &[Region], iommu: &[Region]) -> Zone {
@@ -528,6 +532,57 @@ fn plans_written() -> Vec<Case> {
     cases.extend((0..length + 3).map(|room| Case::write(config, table, 7, asked.clone(), vec![0x5a; room])));
     cases.extend(broken_tables().into_iter().map(|table| Case::write(config, table, u32::MAX, asked.clone(), vec![9; 100])));
     cases.push(Case::write([0; CONFIG_WORDS], [u64::MAX; TABLE_WORDS], 0, asked, vec![9; 100]));
+    cases
+}
+
+/// The zones of every state, into buffers of every length about their section's; and of states that are unsound.
+fn zones_written() -> Vec<Case> {
+    let mut cases = Vec::new();
+    for state in states() {
+        let (config, table) = (state.config.to_words(), state.table.to_words());
+        let length = encode_zones(&state.table).len();
+        let mut rooms = vec![0, 1, 3, 4, 5, length + 40, LONGEST_PLAN];
+        rooms.extend(length.saturating_sub(9)..length + 9);
+        cases.extend(rooms.into_iter().map(|room| Case::zones(config, table, vec![0xa5; room])));
+    }
+    let state = desk(&[zone(5, &[A], &[A, G])]);
+    let (config, table) = (state.config.to_words(), state.table.to_words());
+    cases.extend((0..encode_zones(&state.table).len() + 3).map(|room| Case::zones(config, table, vec![0x5a; room])));
+    for room in [0, 500] {
+        cases.extend(broken_tables().into_iter().map(|table| Case::zones(config, table, vec![9; room])));
+        cases.push(Case::zones([0; CONFIG_WORDS], [u64::MAX; TABLE_WORDS], vec![9; room]));
+        cases.push(Case::zones([0; CONFIG_WORDS], table, vec![9; room]));
+    }
+    cases
+}
+
+/// Where the zones section of a plan stands: of all that is read elsewhere too.
+fn bases_found() -> Vec<Case> {
+    let plans = [whole_plans(), cut_plans(), plans_with_edges(), plans_for_others()].concat();
+    plans.into_iter().map(|case| Case::base(case.plan)).collect()
+}
+
+/// Stretches that are equal, that differ at each single byte, of which one begins the other, and that are empty.
+fn stretches() -> Vec<Case> {
+    let section = encode_zones(&desk(&[zone(5, &[A], &[A, G]), zone(6, &[], &[B])]).table);
+    let mut cases = vec![Case::lacking(section.clone(), section.clone()), Case::lacking(Vec::new(), Vec::new())];
+    for at in 0..section.len() {
+        for change in [1, 0x80, 0xff] {
+            let mut other = section.clone();
+            other[at] ^= change;
+            cases.push(Case::lacking(section.clone(), other));
+        }
+        cases.push(Case::lacking(section.clone(), section[..at].to_vec()));
+        cases.push(Case::lacking(section[..at].to_vec(), section.clone()));
+    }
+    let others: Vec<Vec<u8>> = states().iter().map(|state| encode_zones(&state.table)).collect();
+    for first in &others {
+        cases.extend(others.iter().map(|second| Case::lacking(first.clone(), second.clone())));
+    }
+    let few: Vec<Vec<u8>> = (0..40u8).map(|bits| (0..bits % 5).map(|at| bits >> at & 1).collect()).collect();
+    for first in &few {
+        cases.extend(few.iter().map(|second| Case::lacking(first.clone(), second.clone())));
+    }
     cases
 }
 

@@ -4,7 +4,9 @@ use cases::rng::Rng;
 use cases::Case;
 use ordinary::layout::{LONGEST_PLAN, REQUEST_BYTES};
 use ordinary::limits::{GUEST_REACH, MAX_IN_SET, MAX_REGIONS, MAX_REQUESTS, MAX_ZONES, PAGE, PHYS_REACH};
-use ordinary::{encode, Config, ConfigWords, Plan, Record, Region, Rights, State, Table, TableWords, Zone};
+use ordinary::{
+    base_zones, encode, encode_zones, Config, ConfigWords, Plan, Record, Region, Rights, State, Table, TableWords, Zone,
+};
 
 use crate::damage::{damage_bytes, damage_words};
 
@@ -283,6 +285,19 @@ fn cutting(rng: &mut Rng, bytes: usize) -> Vec<usize> {
     (0..rng.below(7)).map(|_| piece(rng)).collect()
 }
 
+/// A buffer of about so many bytes.
+fn buffer_about(rng: &mut Rng, length: usize) -> Vec<u8> {
+    let room = match rng.below(8) {
+        0 => length.saturating_sub(1),
+        1 => length + 1,
+        2 => 0,
+        3 => rng.below(1 + length),
+        4 => length + rng.below(5000),
+        _ => length,
+    };
+    (0..room).map(|_| rng.word() as u8).collect()
+}
+
 /// No zone; or, so that a table fills up, empty ones, nearly as many as there can be.
 fn first_table(rng: &mut Rng) -> Table {
     let count = if rng.one_in(3) { MAX_ZONES - rng.below(4) } else { 0 };
@@ -313,7 +328,7 @@ impl World {
     pub fn case(&mut self, rng: &mut Rng) -> Case {
         self.change(rng, 3);
         self.state.edition = edition(rng);
-        match rng.below(22) {
+        match rng.below(25) {
             0..=2 => self.config_case(rng),
             3..=5 => self.table_case(rng),
             6..=10 => self.request_case(rng),
@@ -322,6 +337,9 @@ impl World {
             14 => Case::read(self.plan(rng)),
             15 => self.pieces_case(rng),
             16 => self.write_case(rng),
+            17 => self.zones_case(rng),
+            18 => Case::base(self.plan(rng)),
+            19 => self.lacking_case(rng),
             _ => self.apply_case(rng),
         }
     }
@@ -463,15 +481,42 @@ impl World {
         }
         let case = Case::write(config, table, self.state.edition, requests, vec![0; LONGEST_PLAN]);
         let length = case.ordinary().places[0] as usize;
-        let room = match rng.below(8) {
-            0 => length.saturating_sub(1),
-            1 => length + 1,
-            2 => 0,
-            3 => rng.below(1 + length),
-            4 => length + rng.below(5000),
-            _ => length,
+        Case { buffer: buffer_about(rng, length), ..case }
+    }
+
+    /// The zones, and a buffer on either side of their section's length.
+    fn zones_case(&self, rng: &mut Rng) -> Case {
+        let (config, table) = self.base(rng);
+        let length = encode_zones(&self.state.table).len();
+        Case::zones(config, table, buffer_about(rng, length))
+    }
+
+    /// Two stretches: sections of a plan and of the state, one and the same, one that is changed, cut or made longer, or any bytes.
+    fn lacking_case(&self, rng: &mut Rng) -> Case {
+        let plan = self.plan(rng);
+        let any = |rng: &mut Rng| -> Vec<u8> { (0..rng.below(12)).map(|_| rng.below(2) as u8).collect() };
+        let first = match rng.below(6) {
+            0 => any(rng),
+            1 => plan,
+            2 => encode_zones(&self.state.table),
+            _ => base_zones(&plan).to_vec(),
         };
-        Case { buffer: (0..room).map(|_| rng.word() as u8).collect(), ..case }
+        let mut second = match rng.below(5) {
+            0 => encode_zones(&self.state.table),
+            1 => any(rng),
+            _ => first.clone(),
+        };
+        match rng.below(5) {
+            0 => damage_bytes(rng, &mut second),
+            1 => second.truncate(rng.below(1 + second.len())),
+            2 => second.resize(second.len() + rng.below(9), rng.word() as u8),
+            _ => {}
+        }
+        if rng.one_in(2) {
+            Case::lacking(first, second)
+        } else {
+            Case::lacking(second, first)
+        }
     }
 }
 

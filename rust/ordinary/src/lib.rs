@@ -9,6 +9,7 @@
 #![deny(missing_docs)]
 
 mod config;
+mod differing;
 pub mod layout;
 mod plan;
 mod receiver;
@@ -20,7 +21,8 @@ mod words;
 mod writer;
 
 pub use config::{Config, ConfigFault};
-pub use plan::{base_edition, encode, Plan, ReadFault, Requests};
+pub use differing::{base_zones, lacking_part};
+pub use plan::{base_edition, encode, encode_zones, Plan, ReadFault, Requests};
 pub use receiver::{BufferShort, Receiver};
 pub use region::{Guest, Phys, Region, Rights};
 pub use request::{Action, Record, Refusal};

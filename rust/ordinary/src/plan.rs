@@ -1,4 +1,4 @@
-use std::ops::RangeInclusive;
+use std::ops::{Range, RangeInclusive};
 
 use crate::config::Config;
 use crate::layout::{NUMBER_BYTES, REGION_BYTES, REQUEST_BYTES};
@@ -21,6 +21,8 @@ pub struct Plan<'a> {
     pub edition: u32,
     /// The zones that it is for.
     pub table: Table,
+    /// Where the section of these zones stands, from its count on.
+    pub zones: Range<usize>,
     /// What it asks.
     pub requests: Requests<'a>,
     /// Where the first request record stands, or would stand.
@@ -66,11 +68,13 @@ impl<'a> Plan<'a> {
         let mut reader = Reader { bytes, at: 0 };
         let (gic, edition) = reader.marks()?;
         let regions = reader.regions(1..=MAX_REGIONS as u32)?;
+        let zones_at = reader.at;
         let table = reader.table()?;
+        let zones = zones_at..reader.at;
         let (requests_at, requests) = reader.requests()?;
         reader.end()?;
         let config = Config { regions, gic: gic as usize };
-        Ok(Plan { config, edition, table, requests, requests_at })
+        Ok(Plan { config, edition, table, zones, requests, requests_at })
     }
 }
 
@@ -205,12 +209,7 @@ pub fn encode(base: &State, requests: &[Record]) -> Vec<u8> {
     put_u32(&mut plan, base.edition);
     put_u32(&mut plan, FORMAT);
     put_regions(&mut plan, &base.config.regions);
-    put_u32(&mut plan, base.table.zones.len() as u32);
-    for zone in &base.table.zones {
-        put_u32(&mut plan, zone.id);
-        put_regions(&mut plan, &zone.cpu);
-        put_regions(&mut plan, &zone.iommu);
-    }
+    plan.extend(encode_zones(&base.table));
     put_u32(&mut plan, requests.len() as u32);
     for request in requests {
         put_u32(&mut plan, request.kind);
@@ -218,6 +217,18 @@ pub fn encode(base: &State, requests: &[Record]) -> Vec<u8> {
         put_region(&mut plan, &request.region);
     }
     plan
+}
+
+/// The section of these zones, from its count on.
+pub fn encode_zones(table: &Table) -> Vec<u8> {
+    let mut section = Vec::new();
+    put_u32(&mut section, table.zones.len() as u32);
+    for zone in &table.zones {
+        put_u32(&mut section, zone.id);
+        put_regions(&mut section, &zone.cpu);
+        put_regions(&mut section, &zone.iommu);
+    }
+    section
 }
 
 fn put_u32(plan: &mut Vec<u8>, number: u32) {

@@ -37,6 +37,7 @@
 
 mod answers;
 mod config;
+mod differing;
 pub mod limits;
 mod plan;
 pub mod raw;
@@ -50,6 +51,7 @@ mod writer;
 
 pub use answers::{BufferShort, ConfigFault, PlanRefusal, ReadFault, Refusal, WriteRefusal};
 pub use config::{Config, CONFIG_WORDS};
+pub use differing::{base_zones, first_difference, lacking_part, Difference};
 pub use plan::{base_edition, read_plan, State};
 pub use reading::{Counted, Field, Reading};
 pub use receiver::Receiver;

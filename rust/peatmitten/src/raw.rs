@@ -68,6 +68,21 @@ mod library {
             buffer_length: usize,
             places: *mut [u64; 2],
         ) -> u32;
+        pub fn peatmitten_zones_words(
+            config: *const Config,
+            table: *const Table,
+            buffer: *mut u8,
+            buffer_length: usize,
+            place: *mut [u64; 1],
+        ) -> u32;
+        pub fn peatmitten_base_zones(plan: *const u8, length: usize, stretch: *mut [u64; 2]) -> u32;
+        pub fn peatmitten_lacking(
+            first: *const u8,
+            first_length: usize,
+            second: *const u8,
+            second_length: usize,
+            bytes: *mut [u64; 2],
+        ) -> u64;
     }
 }
 
@@ -175,4 +190,28 @@ pub fn write_words(config: &Config, table: &mut Table, edition: u32, requests: &
         )
     };
     (number, places)
+}
+
+/// The number for which a terminal's zones are not written, or 0, and how many bytes their section has, else 0. The buffer changes only where
+/// the number is 0.
+pub fn zones_words(config: &Config, table: &Table, buffer: &mut [u8]) -> (u32, u64) {
+    let mut place = [UNWRITTEN];
+    let number = unsafe { library::peatmitten_zones_words(config, table, buffer.as_mut_ptr(), buffer.len(), &mut place) };
+    (number, place[0])
+}
+
+/// The number of a plan's first fault, or 0; where its own zones section begins, at its count, or the offset of the fault; and how many bytes
+/// the section has, 0 where there is a fault.
+pub fn base_zones(plan: &[u8]) -> (u32, [u64; 2]) {
+    let mut stretch = [UNWRITTEN; 2];
+    let number = unsafe { library::peatmitten_base_zones(plan.as_ptr(), plan.len(), &mut stretch) };
+    (number, stretch)
+}
+
+/// The first place where the second stretch lacks the same byte, or the first one's length, and the byte that each has there: 256 where it has
+/// ended.
+pub fn lacking(first: &[u8], second: &[u8]) -> (u64, [u64; 2]) {
+    let mut bytes = [UNWRITTEN; 2];
+    let place = unsafe { library::peatmitten_lacking(first.as_ptr(), first.len(), second.as_ptr(), second.len(), &mut bytes) };
+    (place, bytes)
 }

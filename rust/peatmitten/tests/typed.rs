@@ -3,8 +3,9 @@
 use std::mem::{offset_of, size_of};
 
 use peatmitten::{
-    base_edition, limits, raw, read_plan, ByteCount, Config, ConfigFault, Guest, Physical, PlanRefusal, ReadFault, Refusal, Region,
-    Request, Side, State, Table, Translated, CONFIG_WORDS, STATE_BYTES, TABLE_WORDS,
+    base_edition, base_zones, first_difference, lacking_part, limits, raw, read_plan, ByteCount, Config, ConfigFault, Difference,
+    Guest, Physical, PlanRefusal, ReadFault, Refusal, Region, Request, Side, State, Table, Translated, WriteRefusal, CONFIG_WORDS,
+    STATE_BYTES, TABLE_WORDS,
 };
 
 const A: Region = Region::new(0x4000_0000, 0x8000_0000, 0x20_0000, 3);
@@ -15,6 +16,7 @@ const G: Region = Region::new(0x0800_0000, 0x0800_0000, 0x1_0000, 3);
 const FIRST_PLAN: &[u8] = include_bytes!("../../../examples/first.plan");
 const REFUSED_PLAN: &[u8] = include_bytes!("../../../examples/refused.plan");
 const CUT_PLAN: &[u8] = include_bytes!("../../../examples/cut.plan");
+const OTHER_ZONES_PLAN: &[u8] = include_bytes!("../../../examples/other_zones.plan");
 
 fn desk() -> (Config, Table) {
     let config = Config::new(&[A, B, C, G], 3).expect("four regions");
@@ -152,6 +154,27 @@ fn reading() {
     assert_eq!(read_plan(CUT_PLAN), Err(ReadFault::Cut { offset: 60 }));
     let longer = [FIRST_PLAN, &[0]].concat();
     assert_eq!(read_plan(&longer), Err(ReadFault::Trailing { offset: 100 }));
+}
+
+#[test]
+fn where_bases_differ() {
+    let state = State::base_of(REFUSED_PLAN).expect("it reads whole, and its base is sound");
+    let section = state.zones_section().expect("a sound state");
+    assert_eq!(base_zones(REFUSED_PLAN), Ok(148..260));
+    assert_eq!(section, REFUSED_PLAN[148..260]);
+    assert_eq!(first_difference(REFUSED_PLAN, &section), Ok(None));
+    assert_eq!(state.clone().apply(OTHER_ZONES_PLAN), Err(PlanRefusal::OtherZones));
+    let difference = Difference { offset: 170, place: 22, planned: 0x20, held: Some(0) };
+    assert_eq!(first_difference(OTHER_ZONES_PLAN, &section), Ok(Some(difference)));
+    assert_eq!(lacking_part(&OTHER_ZONES_PLAN[148..260], &section), &OTHER_ZONES_PLAN[170..260]);
+    let cut = Difference { held: None, ..difference };
+    assert_eq!(first_difference(OTHER_ZONES_PLAN, &section[..22]), Ok(Some(cut)));
+    assert_eq!(first_difference(CUT_PLAN, &section), Err(ReadFault::Cut { offset: 60 }));
+    assert_eq!(raw::base_zones(CUT_PLAN), (20, [60, 0]));
+    assert_eq!(raw::lacking(&section, &section), (112, [256, 256]));
+    let mut short = vec![7; section.len() - 1];
+    assert_eq!(state.write_zones(&mut short), Err(WriteRefusal::BufferShort));
+    assert!(short.iter().all(|&byte| byte == 7));
 }
 
 #[test]

@@ -1,10 +1,10 @@
-//! Plans and state files at a shell, for people who test an agent or make plans: `./peatmitten run`, `base`, `show` and `write`. Every number,
-//! place and byte
-//! is the library's; this program reads arguments and files, and prints.
+//! Plans and state files at a shell, for people who test an agent, make plans or stand at a service desk: `./peatmitten run`, `base`, `show`,
+//! `write` and `differ`. Every number, place and byte is the library's; this program reads arguments and files, and prints.
 //!
-//! The exit status is 0 for a plan that is accepted (`show`: that reads whole), 1 for one that is refused, and 2 where an argument
-//! or a file is not as it should be, or what is printed cannot be written.
+//! The exit status is 0 for a plan that is accepted (`show`: that reads whole; `differ`: that is for the terminal's base), 1 for one that is
+//! refused, and 2 where an argument or a file is not as it should be, or what is printed cannot be written.
 
+mod differ;
 mod show;
 mod text;
 
@@ -16,9 +16,10 @@ use std::path::Path;
 use std::process::ExitCode;
 
 use peatmitten::limits::LONGEST_PLAN;
-use peatmitten::{PlanRefusal, Reading, State};
+use peatmitten::{base_edition, first_difference, PlanRefusal, Reading, State};
 
-const USAGE: &str = "usage: peatmitten run [--words] STATE PLAN... | base PLAN >STATE | show PLAN | write TEXT >PLAN";
+const USAGE: &str =
+    "usage: peatmitten run [--words] STATE PLAN... | base PLAN >STATE | show PLAN | write TEXT >PLAN | differ STATE PLAN";
 
 /// More bytes than the text of the longest plan has.
 const LONGEST_TEXT: u64 = 1 << 24;
@@ -46,6 +47,7 @@ fn answer(arguments: &[OsString]) -> Answer {
         (Some("base"), [plan]) => base(plan),
         (Some("show"), [plan]) => show(plan),
         (Some("write"), [text]) => write(text),
+        (Some("differ"), [state, plan]) => differ(state, plan),
         _ => Err(USAGE.to_string()),
     }
 }
@@ -105,6 +107,42 @@ fn write(path: &OsStr) -> Answer {
             Ok(false)
         }
     }
+}
+
+/// Says where a plan's base differs from the terminal in a state file: first the number that comes before any zones are looked at, if one does,
+/// and then the first zone, side and region. The plan is not applied.
+fn differ(state_path: &OsStr, plan_path: &OsStr) -> Answer {
+    let state = State::load(Path::new(state_path)).map_err(|fault| fault.to_string())?;
+    let plan = bytes_of(plan_path)?;
+    let answer = state.clone().apply(&plan);
+    let refused = |refusal: &PlanRefusal| format!("{}: {refusal}\n", numbers(&Err(*refusal)));
+    let section = match (&answer, state.zones_section()) {
+        // Bytes that are no plan have no zones to compare, and neither has a terminal that is unsound.
+        (Err(refusal @ (PlanRefusal::Read(_) | PlanRefusal::UnsoundConfig | PlanRefusal::UnsoundTable)), _) => {
+            return print(refused(refusal).as_bytes()).map(|()| false);
+        }
+        (_, Ok(section)) => section,
+        (_, Err(refusal)) => panic!("the library applies a plan to zones that it does not write: {refusal}"),
+    };
+    // 23, 24 and 25 are judged before the zones, which are compared all the same.
+    let mut text = match &answer {
+        Err(
+            refusal @ (PlanRefusal::OtherConfig | PlanRefusal::OtherEdition | PlanRefusal::NoNextEdition | PlanRefusal::OtherZones),
+        ) => refused(refusal),
+        _ => String::new(),
+    };
+    if let Err(PlanRefusal::OtherEdition) = answer {
+        let named = base_edition(&plan).expect("the library has read the plan");
+        text += &format!("the terminal is at edition {}, and the plan is for edition {named}\n", state.edition);
+    }
+    let difference = first_difference(&plan, &section).expect("the library has read the plan");
+    text += &match &difference {
+        Some(difference) => differ::lines(&state, &plan, difference),
+        None => format!("the zones are the same: {}\n", differ::count_of(&state)),
+    };
+    print(text.as_bytes())?;
+    let other_base = matches!(answer, Err(PlanRefusal::OtherConfig | PlanRefusal::OtherEdition));
+    Ok(difference.is_none() && !other_base)
 }
 
 /// Number, place and inner number, as `./peatmitten apply` prints them.

@@ -72,14 +72,14 @@ fn count(counted: Counted, number: u32) -> String {
     }
 }
 
-fn side_name(side: Side) -> &'static str {
+pub fn side_name(side: Side) -> &'static str {
     match side {
         Side::Cpu => "CPU",
         Side::Iommu => "IOMMU",
     }
 }
 
-fn numbers(region: &Region) -> String {
+pub fn numbers(region: &Region) -> String {
     format!("v {:#x}, p {:#x}, size {:#x}, rights {}", region.v.0, region.p.0, region.size, region.rights.0)
 }
 

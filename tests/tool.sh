@@ -124,10 +124,10 @@ the 1st zone differs: the terminal has zone 5, and the plan expects zone 6
 the terminal has 1 zone, and the plan expects no zone
 the 1st zone differs: *' '' differ "$state" "$plans/first.plan"
     # What is no plan, and a terminal that is unsound.
-    expect 1 '20 60 0: the field at offset 60 is not wholly there' '' differ "$state" "$plans/cut.plan"
+    expect 1 $'20 60 0: the field at offset 60 is not wholly there\nso there are no zones to compare' '' differ "$state" "$plans/cut.plan"
     expect 1 '20 0 0: *' '' differ "$state" - </dev/null
     head -c "$(stat -c %s "$state")" /dev/zero >"$work/zeros"
-    expect 1 '1 0 0: *' '' differ "$work/zeros" "$plans/first.plan"
+    expect 1 $'1 0 0: *\nso there are no zones to compare' '' differ "$work/zeros" "$plans/first.plan"
     expect 2 '' 'peatmitten: usage: *' differ "$state"
     expect 2 '' "peatmitten: cannot open $work/none: No such file *" differ "$state" "$work/none"
     cmp -s "$state" "$work/before" || say_failed "differ changed the state file"

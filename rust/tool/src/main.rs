@@ -119,7 +119,8 @@ fn differ(state_path: &OsStr, plan_path: &OsStr) -> Answer {
     let section = match (&answer, state.zones_section()) {
         // Bytes that are no plan have no zones to compare, and neither has a terminal that is unsound.
         (Err(refusal @ (PlanRefusal::Read(_) | PlanRefusal::UnsoundConfig | PlanRefusal::UnsoundTable)), _) => {
-            return print(refused(refusal).as_bytes()).map(|()| false);
+            let text = refused(refusal) + "so there are no zones to compare\n";
+            return print(text.as_bytes()).map(|()| false);
         }
         (_, Ok(section)) => section,
         (_, Err(refusal)) => panic!("the library applies a plan to zones that it does not write: {refusal}"),

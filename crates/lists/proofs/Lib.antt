@@ -11,3 +11,5 @@ pub mod Words
 pub mod Bytes
 pub mod Runs
 pub mod Orders
+pub mod Kept
+pub mod Distinct

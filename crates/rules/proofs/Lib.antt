@@ -17,6 +17,10 @@ pub mod Receiving
 pub mod Planner
 pub mod Filling
 pub mod Writer
+pub mod Wanted
+pub mod WantedOrder
+pub mod Records
+pub mod WantedBytes
 pub mod Computing
 pub mod Desk
 pub mod Story
@@ -24,5 +28,7 @@ pub mod RequestExamples
 pub mod CheckExamples
 pub mod PlanExamples
 pub mod WriterExamples
+pub mod WantedExamples
 pub mod Closure
 pub mod Inductive
+pub mod Stretches

@@ -16,10 +16,12 @@ pub mod Receiving
 pub mod Planner
 pub mod Filling
 pub mod Writer
+pub mod Wanted
 pub mod Desk
 pub mod Story
 pub mod RequestExamples
 pub mod CheckExamples
 pub mod PlanExamples
 pub mod WriterExamples
+pub mod WantedExamples
 pub mod Closure

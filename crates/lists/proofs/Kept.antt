@@ -1,7 +1,7 @@
 -- The elements that pass a test, of a list in two parts, twice over, and where all of them pass; and an image.
 use mathlib.Core.Bool.{Bool, true, false, cond, _&&_, _||_}
-use mathlib.Core.List.{List, [], _∷_, _++_, map}
-use mathlib.Core.Path.{_≡_, refl, ap, _∙_}
+use mathlib.Core.List.{List, [], _∷_, _++_, map, flatMap}
+use mathlib.Core.Path.{_≡_, refl, sym, ap, _∙_}
 use Rattle.lists.specs.First.{any}
 use Rattle.lists.specs.Orders.{keep}
 use Rattle.lists.proofs.Orders.{keep-hit}
@@ -40,3 +40,16 @@ module _ {A : Type 0} where
   unfolding keep
   keep-whole p [] f = refl
   keep-whole p (x ∷ xs) f = keep-hit p x xs (f x) ∙ ap (λ (l : List A). x ∷ l) (keep-whole p xs f)
+
+-- the images of those that pass, where each element gives one or none
+pub keep-flat : {A B C : Type 0} (g : A → B) (p : B → Bool) (f : B → C) (h : A → List C)
+    → ((x : A) → h x ≡ cond (p (g x)) (f (g x) ∷ []) []) → (xs : List A) → map f (keep p (map g xs)) ≡ flatMap h xs
+unfolding keep flatMap
+keep-flat g p f h e [] = refl
+keep-flat {A} {B} {C} g p f h e (x ∷ xs) =
+    by (keep-flat g p f h e xs) (p (g x)) ∙ ap (λ (l : List C). l ++ flatMap h xs) (sym (e x))
+  where
+    by : map f (keep p (map g xs)) ≡ flatMap h xs → (b : Bool)
+        → map f (cond b (g x ∷ keep p (map g xs)) (keep p (map g xs))) ≡ cond b (f (g x) ∷ []) [] ++ flatMap h xs
+    by q true = ap (λ (l : List C). f (g x) ∷ l) q
+    by q false = q

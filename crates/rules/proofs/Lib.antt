@@ -31,4 +31,3 @@ pub mod WriterExamples
 pub mod WantedExamples
 pub mod Closure
 pub mod Inductive
-pub mod Stretches

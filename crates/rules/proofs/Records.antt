@@ -4,13 +4,13 @@ use Prim.Native.Nat.{ℕ, zero, suc, _+_, _*_, _/_, _^_, _<_}
 use native.Mathlib.Omega.{arith}
 use mathlib.Core.List.{List, [], _∷_, _++_, append-assoc, map-map}
 use mathlib.Core.Path.{_≡_, refl, sym, ap, ap₂, _∙_}
-use lib.ListN.{length, getD, take, drop, length-append}
-use lib.Seq.{drop-at, take-at, drop-drop}
+use lib.ListN.{length, getD, length-append}
 use Rattle.lists.specs.Bytes.{little, bytesOf}
 use Rattle.lists.specs.Places.{places, tab}
 use Rattle.lists.specs.Words.{part}
 use Rattle.lists.proofs.Bytes.{length-bytes, little-bytes}
 use Rattle.lists.proofs.Places.{tab-cons, tab-same}
+use Rattle.lists.proofs.Words.{part-mid, part-behind}
 use Rattle.formats.specs.Formats.{writeBoth, writeMany, All}
 use Rattle.formats.proofs.Bounds.{all-one}
 use Rattle.formats.proofs.Sizes.{sized-many, total-same}
@@ -21,16 +21,6 @@ use Rattle.rules.specs.Writer.{askedAt, askedOf}
 use Rattle.rules.specs.declared.Region.{Region}
 use Rattle.rules.proofs.Fields.{numbers-many, by-numbers, by-same}
 use Rattle.rules.proofs.Sizes.{sized-asked}
-
--- ---- a part of joined lists
-part-mid : (u v w : List ℕ) (k n : ℕ) → length u ≡ k → length v ≡ n → part k n (u ++ (v ++ w)) ≡ v
-unfolding part
-part-mid u v w k n p q = ap (take n) (drop-at u (v ++ w) k p) ∙ take-at v w n q
-
-part-behind : (u v : List ℕ) (m k n : ℕ) → length u ≡ m → part (m + k) n (u ++ v) ≡ part k n v
-unfolding part
-part-behind u v m k n p =
-    ap (take n) (sym (drop-drop k m (u ++ v)) ∙ ap (drop k) (drop-at u v m p))
 
 -- ---- a number that was written is read
 number-mid : (width x k : ℕ) (u w : List ℕ) → length u ≡ k → x < 256 ^ width

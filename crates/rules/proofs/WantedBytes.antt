@@ -2,7 +2,7 @@
 -- ids are those of zones and the regions are configured.
 use Prim.Native.Nat.{ℕ, _*_, _≤_}
 use native.Mathlib.Omega.{arith}
-use mathlib.Core.Bool.{Bool, true, false, cond}
+use mathlib.Core.Bool.{Bool, true}
 use mathlib.Core.List.{List, [], _∷_, _++_, map, flatMap}
 use mathlib.Core.Path.{_≡_, refl, ap, ap₂, _∙_}
 use borrow.Author.Tests.{leb-true}
@@ -13,7 +13,7 @@ use Rattle.lists.specs.Rules.{firstRule}
 use Rattle.lists.specs.Tests.{allOf, eachTwo}
 use Rattle.lists.proofs.Tests.{both-true, parts}
 use Rattle.formats.specs.Formats.{All}
-use Rattle.formats.proofs.Bounds.{all-joined}
+use Rattle.formats.proofs.Bounds.{all-image, all-kept, all-joined}
 use Rattle.formats.proofs.Sizes.{sized-many, total-same}
 use Rattle.rules.specs.Configuration.{Configuration}
 use Rattle.rules.specs.Fields.{numbersOf}
@@ -61,21 +61,6 @@ unfolding recordsOf
 records-length qs =
     sized-many askedField (λ a. requestSize) sized-asked (map askedAs qs) ∙ total-same requestSize (map askedAs qs)
     ∙ ap (λ (n : ℕ). n * requestSize) (length-map qs askedAs)
-
--- ---- lists of which every element is such a one
-all-image : {A B : Type 0} (P : A → Type 0) (Q : B → Type 0) (f : A → B) → ((x : A) → P x → Q (f x)) → (xs : List A)
-    → All P xs → All Q (map f xs)
-all-image P Q f g [] h = tt
-all-image P Q f g (x ∷ xs) h = (g x (h .0), all-image P Q f g xs (h .1))
-
-all-kept : {A : Type 0} (P : A → Type 0) (p : A → Bool) (xs : List A) → All P xs → All P (keep p xs)
-unfolding keep
-all-kept P p [] h = tt
-all-kept {A} P p (x ∷ xs) h = by (p x) (all-kept P p xs (h .1))
-  where
-    by : (b : Bool) → All P (keep p xs) → All P (cond b (x ∷ keep p xs) (keep p xs))
-    by true f = (h .0, f)
-    by false f = f
 
 -- ---- what the list names: ids that a zone may have, and configured regions
 abbrev Low : ℕ → Type 0

@@ -2,3 +2,4 @@
 pub mod Answers
 pub mod Pieces
 pub mod Writing
+pub mod Listing

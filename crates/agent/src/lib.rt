@@ -18,6 +18,7 @@ use rules::limits::MOST_REQUESTS;
 use rules::limits::MOST_ZONES;
 use walker::Edition;
 use walker::edition_of;
+use wanted::list_words;
 use writer::write_words;
 use zones::CONFIG_WORDS;
 use zones::REGION_WORDS;
@@ -42,7 +43,7 @@ ghost use Rattle.rules.specs.Translation.{translated};
 ghost use Rattle.zones.specs.Step.{Stepped};
 ghost use Rattle.zones.specs.View.{storedConfig, storedTable};
 ghost use Rattle.walker.specs.Edition.{editionOf};
-ghost use Rattle.agent.specs.Agent.{layout, placesOf, yesOrNo, sideAsked, stretchOf, readingNumber, readingPlace, editionNumber, editionValue, receiverIn, AppliesWords, TakesWords, EndsWords, WritesWords};
+ghost use Rattle.agent.specs.Agent.{layout, placesOf, yesOrNo, sideAsked, stretchOf, readingNumber, readingPlace, editionNumber, editionValue, receiverIn, AppliesWords, TakesWords, EndsWords, WritesWords, ListsWords};
 
 // What a header must have for this library, one number at a time; 0 past the last. Its name says them too, so that a program with the
 // header of another library does not link.
@@ -239,6 +240,23 @@ pub extern "C" fn peatmitten_write_words(
     let outcome = write_words(config, table, edition, requests, buffer);
     put_two(places, outcome.place as u64, outcome.inner as u64);
     outcome.number
+}
+
+// Works out the requests that lead from one table to another, into the buffer, as a plan holds them: the number, and how many there are. Only
+// the buffer and the count are changed, the buffer only where the number is 0.
+#[no_mangle]
+pub extern "C" fn peatmitten_list_words(
+    config: &[u64; CONFIG_WORDS],
+    from: &[u64; TABLE_WORDS],
+    to: &[u64; TABLE_WORDS],
+    buffer: &mut [u8],
+    count: &mut [u64; 1],
+) -> u32
+    ensures { λ n. ⌜ ListsWords (now (config .entry)) (now (from .entry)) (now (to .entry)) (now (buffer .entry)) n (now (buffer .exit)) (now (count .exit)) ⌝ }
+{
+    let listing = list_words(config, from, to, buffer);
+    put_one(count, listing.count as u64);
+    listing.number
 }
 
 fn receiver_in(words: &[u64; 2]) -> Receiver

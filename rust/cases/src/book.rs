@@ -38,6 +38,7 @@ impl Named {
             Question::Edition | Question::Read => format!("{number} {place}"),
             Question::Apply | Question::Pieces => format!("{number} {place} {other} {edition} {left}"),
             Question::Write => format!("{number} {place} {other} {}", mixed(&after.left[0].buffer)),
+            Question::List => format!("{number} {place} {}", mixed(&after.left[0].buffer)),
         };
         format!("{}: {answer}", self.name)
     }
@@ -123,6 +124,11 @@ impl Book {
     /// The writer with these requests' records, into a buffer of so many bytes.
     pub fn ask_writer(&mut self, name: impl Into<String>, requests: Vec<u8>, room: usize) -> &mut Named {
         self.ask(name.into(), Case::write(self.config, self.table, self.edition, requests, vec![0xa5; room]))
+    }
+
+    /// The list to this table, into a buffer of so many bytes.
+    pub fn ask_list(&mut self, name: impl Into<String>, wanted: TableWords, room: usize) -> &mut Named {
+        self.ask(name.into(), Case::list(self.config, self.table, &wanted, vec![0xa5; room]))
     }
 
     fn deliver(&mut self, name: String, case: Case) -> &mut Named {

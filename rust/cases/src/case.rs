@@ -20,6 +20,7 @@ pub enum Question {
     Apply,
     Pieces,
     Write,
+    List,
 }
 
 /// How many numbers a question can take: a request has its kind, its zone and those of its region.
@@ -35,6 +36,8 @@ pub struct Case {
     /// and where it comes in pieces also the two words of the receiver.
     pub numbers: [u64; NUMBERS],
     pub plan: Vec<u8>,
+    /// Where requests are listed: the words of the wanted table.
+    pub wanted: Vec<u64>,
     /// Where the plan comes in pieces: how long they are, one after another, the rest of the plan being the last one; and the buffer.
     pub lengths: Vec<usize>,
     pub buffer: Vec<u8>,
@@ -85,7 +88,7 @@ impl Case {
     fn new(question: Question, config: ConfigWords, table: TableWords, given: &[u64], plan: Vec<u8>) -> Case {
         let mut numbers = [0; NUMBERS];
         numbers[..given.len()].copy_from_slice(given);
-        Case { question, config, table, numbers, plan, lengths: Vec::new(), buffer: Vec::new() }
+        Case { question, config, table, numbers, plan, wanted: Vec::new(), lengths: Vec::new(), buffer: Vec::new() }
     }
 
     pub fn config(config: ConfigWords) -> Case {
@@ -129,6 +132,17 @@ impl Case {
     pub fn write(config: ConfigWords, table: TableWords, edition: u32, requests: Vec<u8>, buffer: Vec<u8>) -> Case {
         let case = Case::new(Question::Write, config, table, &[edition.into()], requests);
         Case { buffer, ..case }
+    }
+
+    /// The list from one table to another, into a buffer.
+    pub fn list(config: ConfigWords, table: TableWords, wanted: &TableWords, buffer: Vec<u8>) -> Case {
+        let case = Case::new(Question::List, config, table, &[], Vec::new());
+        Case { wanted: wanted.to_vec(), buffer, ..case }
+    }
+
+    /// The words of the wanted table.
+    pub fn wanted(&self) -> TableWords {
+        self.wanted[..].try_into().expect("a table's words")
     }
 
     /// The pieces, which together are the plan.
@@ -193,6 +207,7 @@ impl Case {
             },
             Question::Pieces => self.pieces_ordinary(),
             Question::Write => self.write_ordinary(),
+            Question::List => self.list_ordinary(),
         }
     }
 
@@ -225,6 +240,21 @@ impl Case {
                     let (place, inner) = refusal.found();
                     self.unchanged(refusal.number(), [place as u64, inner.into()])
                 }
+            },
+        };
+        let left = vec![Left { number: answer.number, receiver: [0, 0], buffer }];
+        Answer { left, ..answer }
+    }
+
+    /// The list put into the buffer. A table whose words are none is unsound, and so counts for 2.
+    fn list_ordinary(&self) -> Answer {
+        let mut buffer = self.buffer.clone();
+        let answer = match (self.base(), Table::from_words(&self.wanted())) {
+            (Err(number), _) => self.unchanged(number, [0, 0]),
+            (Ok(State { config, .. }), None) => self.unchanged(config.check().map_or(1, |()| 2), [0, 0]),
+            (Ok(State { config, table, .. }), Some(wanted)) => match table.write_requests_to(&config, &wanted, &mut buffer) {
+                Ok(count) => self.unchanged(0, [count as u64, 0]),
+                Err(refusal) => self.unchanged(refusal.number(), [0, 0]),
             },
         };
         let left = vec![Left { number: answer.number, receiver: [0, 0], buffer }];
@@ -291,6 +321,10 @@ impl fmt::Display for Case {
         writeln!(f, "  plan of {} bytes: {}", self.plan.len(), hex(&self.plan))?;
         if self.question == Question::Write {
             writeln!(f, "  as requests, into a buffer of {}: {}", self.buffer.len(), hex(&self.buffer))?;
+        }
+        if self.question == Question::List {
+            write_words(f, "  wanted", &self.wanted)?;
+            writeln!(f, "  into a buffer of {}: {}", self.buffer.len(), hex(&self.buffer))?;
         }
         if self.question == Question::Pieces {
             writeln!(

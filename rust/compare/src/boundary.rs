@@ -17,7 +17,7 @@ const C: Region = Region::new(0x4010_0000, 0x9000_0000, 0x20_0000, 3);
 const G: Region = Region::new(0x0800_0000, 0x0800_0000, 0x1_0000, 3);
 
 /// All cases, in parts: of all at once the words would take a gigabyte.
-pub const PARTS: [fn() -> Vec<Case>; 13] = [
+pub const PARTS: [fn() -> Vec<Case>; 14] = [
     config_cases,
     table_cases,
     request_cases,
@@ -31,6 +31,7 @@ pub const PARTS: [fn() -> Vec<Case>; 13] = [
     unsound_terminals,
     plans_in_pieces,
     plans_written,
+    lists_between_tables,
 ];
 
 fn zone(id: u32, cpu: &[Region], iommu: &[Region]) -> Zone {
@@ -529,6 +530,101 @@ fn plans_written() -> Vec<Case> {
     cases.extend(broken_tables().into_iter().map(|table| Case::write(config, table, u32::MAX, asked.clone(), vec![9; 100])));
     cases.push(Case::write([0; CONFIG_WORDS], [u64::MAX; TABLE_WORDS], 0, asked, vec![9; 100]));
     cases
+}
+
+/// From every state to every other table under its configuration and to others that are made of it, there and back, with buffers around the
+/// list's length; and lists as long as a plan may have, one request more, and as long as there can be.
+fn lists_between_tables() -> Vec<Case> {
+    let mut cases = Vec::new();
+    let mut add = |config: &Config, from: &Table, to: &Table| {
+        let most = Case::list(config.to_words(), from.to_words(), &to.to_words(), vec![0xa5; MAX_REQUESTS * REQUEST_BYTES + 9]);
+        let length = most.ordinary().places[0] as usize * REQUEST_BYTES;
+        for room in [0, 1, length.saturating_sub(1), length, length + 1, length + 40] {
+            cases.push(Case { buffer: vec![0xa5; room], ..most.clone() });
+        }
+        cases.push(most);
+    };
+    let states = states();
+    for state in &states {
+        let of_its_own = states.iter().filter(|other| other.config == state.config).map(|other| other.table.clone());
+        for other in of_its_own.chain(neighbours(&state.table)) {
+            add(&state.config, &state.table, &other);
+            add(&state.config, &other, &state.table);
+        }
+    }
+    for long in [MAX_REQUESTS - 1, MAX_REQUESTS, MAX_REQUESTS + 1] {
+        let (config, from, to) = so_far_apart(long);
+        add(&config, &from, &to);
+        add(&config, &to, &from);
+    }
+    let full = all_held(MAX_REGIONS);
+    let mut turned = full.table.clone();
+    turned.zones.iter_mut().for_each(|zone| zone.id += MAX_ZONES as u32);
+    add(&full.config, &full.table, &turned);
+    let state = desk(&[zone(5, &[A], &[A, G]), zone(6, &[B], &[])]);
+    let (config, table) = (state.config.to_words(), state.table.to_words());
+    let wanted = desk(&[zone(6, &[C], &[G])]).table.to_words();
+    cases.extend((0..=6 * REQUEST_BYTES + 3).map(|room| Case::list(config, table, &wanted, vec![0x5a; room])));
+    for broken in broken_tables() {
+        cases.push(Case::list(config, broken, &wanted, vec![9; 300]));
+        cases.push(Case::list(config, table, &broken, vec![9; 300]));
+        cases.push(Case::list([0; CONFIG_WORDS], table, &broken, vec![9; 300]));
+    }
+    cases
+}
+
+/// Tables like this one: without zones, with its zones turned round, with their sets turned round, without its last zone, with one region less
+/// in one set, with two zones that exchange what they hold, and with one region moved to the zone before.
+fn neighbours(table: &Table) -> Vec<Table> {
+    let mut tables = vec![Table { zones: Vec::new() }, table.clone()];
+    let mut change = |of: &dyn Fn(&mut Vec<Zone>)| {
+        let mut zones = table.zones.clone();
+        of(&mut zones);
+        tables.push(Table { zones });
+    };
+    change(&|zones| zones.reverse());
+    change(&|zones| zones.iter_mut().for_each(|zone| (zone.cpu.reverse(), zone.iommu.reverse()).0));
+    change(&|zones| drop(zones.pop()));
+    if let [first, .., last] = table.zones.len().checked_sub(1).map_or([0, 0], |last| [0, last]) {
+        if first < last {
+            change(&|zones| {
+                let (front, back) = zones.split_at_mut(last);
+                std::mem::swap(&mut front[first].cpu, &mut back[0].cpu);
+                std::mem::swap(&mut front[first].iommu, &mut back[0].iommu);
+            });
+            change(&|zones| {
+                let moved = zones[last].cpu.pop();
+                zones[last].iommu.retain(|region| Some(*region) != moved);
+                zones[last - 1].iommu.extend(moved);
+            });
+        }
+    }
+    for at in 0..table.zones.len() {
+        change(&|zones| drop(zones[at].cpu.pop()));
+        change(&|zones| drop(zones[at].iommu.pop()));
+    }
+    tables
+}
+
+/// Two tables so many requests apart: all regions in the zones of one, and the same in zones with other ids, some of them the same.
+fn so_far_apart(requests: usize) -> (Config, Table, Table) {
+    let full = all_held(MAX_REGIONS);
+    let mut to = full.table.clone();
+    let mut left = requests;
+    for zone in &mut to.zones {
+        // A zone under another id goes and comes with all that it holds; else regions go from its set.
+        let under_another_id = 2 * (zone.cpu.len() + zone.iommu.len() + 1);
+        if left >= under_another_id {
+            zone.id += MAX_ZONES as u32;
+            left -= under_another_id;
+        } else {
+            let gone = left.min(zone.cpu.len());
+            zone.cpu.truncate(zone.cpu.len() - gone);
+            left -= gone;
+        }
+    }
+    assert_eq!(left, 0, "there are zones enough");
+    (full.config, full.table, to)
 }
 
 /// A plan with as many of everything as there can be.

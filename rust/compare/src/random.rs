@@ -313,7 +313,7 @@ impl World {
     pub fn case(&mut self, rng: &mut Rng) -> Case {
         self.change(rng, 3);
         self.state.edition = edition(rng);
-        match rng.below(22) {
+        match rng.below(23) {
             0..=2 => self.config_case(rng),
             3..=5 => self.table_case(rng),
             6..=10 => self.request_case(rng),
@@ -322,6 +322,7 @@ impl World {
             14 => Case::read(self.plan(rng)),
             15 => self.pieces_case(rng),
             16 => self.write_case(rng),
+            17 => self.list_case(rng),
             _ => self.apply_case(rng),
         }
     }
@@ -472,6 +473,87 @@ impl World {
             _ => length,
         };
         Case { buffer: (0..room).map(|_| rng.word() as u8).collect(), ..case }
+    }
+
+    /// This table and another, most often a sound one: the same in any order, one that requests lead to, one that has little in common with it,
+    /// one with a region moved, or with two zones exchanged. The list goes either way, and the buffer is on either side of its length.
+    fn list_case(&self, rng: &mut Rng) -> Case {
+        let (config, table) = self.base(rng);
+        let wanted = match rng.below(12) {
+            0 => self.damaged_base(rng).1,
+            1 => bent_table(rng, &self.state).to_words(),
+            _ => self.wanted(rng).to_words(),
+        };
+        let (from, to) = if rng.one_in(2) { (table, wanted) } else { (wanted, table) };
+        let case = Case::list(config, from, &to, vec![0; MAX_REQUESTS * REQUEST_BYTES]);
+        let length = case.ordinary().places[0] as usize * REQUEST_BYTES;
+        let room = match rng.below(8) {
+            0 => length.saturating_sub(1),
+            1 => length + 1,
+            2 => 0,
+            3 => rng.below(1 + length),
+            4 => length + rng.below(5000),
+            _ => length,
+        };
+        Case { buffer: (0..room).map(|_| rng.word() as u8).collect(), ..case }
+    }
+
+    /// Another sound table under this configuration.
+    fn wanted(&self, rng: &mut Rng) -> Table {
+        let mut zones = self.state.table.zones.clone();
+        match rng.below(8) {
+            0 => {}
+            1 => {
+                rng.shuffle(&mut zones);
+                for zone in &mut zones {
+                    rng.shuffle(&mut zone.cpu);
+                    rng.shuffle(&mut zone.iommu);
+                }
+            }
+            2 if zones.len() > 1 => {
+                let (one, other) = (rng.below(zones.len()), rng.below(zones.len()));
+                let id = zones[one].id;
+                zones[one].id = std::mem::replace(&mut zones[other].id, id);
+            }
+            3 => {
+                let step = 1 + rng.below(3) as u32;
+                zones.iter_mut().for_each(|zone| zone.id = (zone.id + step * MAX_ZONES as u32) % 256);
+            }
+            4 => return self.with_one_moved(rng),
+            5 => {
+                let mut world = World { state: State { table: first_table(rng), ..self.state.clone() } };
+                let steps = rng.below(160);
+                world.change(rng, steps);
+                return world.state.table;
+            }
+            _ => {
+                let mut world = World { state: self.state.clone() };
+                let steps = rng.below(24);
+                world.change(rng, steps);
+                return world.state.table;
+            }
+        }
+        let table = Table { zones };
+        // Ids that wrapped round may meet.
+        if table.is_sound(&self.state.config) {
+            table
+        } else {
+            self.state.table.clone()
+        }
+    }
+
+    /// One region that a zone holds, in a set of another zone, or in its other set.
+    fn with_one_moved(&self, rng: &mut Rng) -> Table {
+        let mut table = self.state.table.clone();
+        let zone = zone_id(rng, &table);
+        let region = held(rng, &self.state.config, &table, zone);
+        let to = zone_id(rng, &table);
+        for kind in [4, 6] {
+            // Of a set that has it not, nothing goes.
+            let _ = table.perform(&self.state.config, &Record { kind, zone, region });
+        }
+        let _ = table.perform(&self.state.config, &Record { kind: *rng.pick(&[3, 5]), zone: to, region });
+        table
     }
 }
 

@@ -68,6 +68,14 @@ mod library {
             buffer_length: usize,
             places: *mut [u64; 2],
         ) -> u32;
+        pub fn peatmitten_list_words(
+            config: *const Config,
+            from: *const Table,
+            to: *const Table,
+            buffer: *mut u8,
+            buffer_length: usize,
+            count: *mut [u64; 1],
+        ) -> u32;
     }
 }
 
@@ -175,4 +183,12 @@ pub fn write_words(config: &Config, table: &mut Table, edition: u32, requests: &
         )
     };
     (number, places)
+}
+
+/// The number for which no requests are listed that lead from one table to the other, or 0, and how many there are. They are records as a plan
+/// holds them. The buffer changes only where the number is 0.
+pub fn list_words(config: &Config, from: &Table, to: &Table, buffer: &mut [u8]) -> (u32, u64) {
+    let mut count = [UNWRITTEN];
+    let number = unsafe { library::peatmitten_list_words(config, from, to, buffer.as_mut_ptr(), buffer.len(), &mut count) };
+    (number, count[0])
 }

@@ -208,7 +208,7 @@ enum peatmitten_answer {
     PEATMITTEN_OTHER_ZONES = 26,      /* (plan) the base zones differ, order included */
     PEATMITTEN_REQUEST_REFUSED = 27,  /* (plan) a request is refused; place: its index from 0; inner: its number, 3 to 17 or 19 */
     PEATMITTEN_BUFFER_SHORT = 28,     /* (lent buffer) it is too short */
-    PEATMITTEN_TOO_MANY_REQUESTS = 29 /* (writer) there are more than PEATMITTEN_MOST_REQUESTS requests */
+    PEATMITTEN_TOO_MANY_REQUESTS = 29 /* (writer, list) there are more than PEATMITTEN_MOST_REQUESTS requests */
 };
 
 /*

@@ -400,7 +400,7 @@ pub fn all() -> Vec<Job> {
         check_table("4 regions, 2 zones", small.clone()),
         translate(&full_name, full.clone()),
         translate("4 regions, 2 zones", small.clone()),
-        list(&format!("half of the zones under other ids, {full_name}"), full.clone(), under_other_ids(&full, 14)),
+        list(&format!("14 zones under other ids, {full_name}"), full.clone(), under_other_ids(&full, 14)),
         list(&format!("the same, {full_name}"), full.clone(), under_other_ids(&full, 0)),
         list("a zone under another id, 16 regions, 4 zones", typical.clone(), under_other_ids(&typical, 1)),
         list("a zone under another id, 4 regions, 2 zones", small.clone(), under_other_ids(&small, 1)),

@@ -9,7 +9,9 @@ use crate::drawn::{poke_config, poke_table, sound_config, sound_zones};
 use crate::fields::Plan;
 use crate::files::{all_zones, first, flipped, in_and_out, least, longest, longest_sound, page, rich};
 use crate::files::{rich_regions_with, rich_zones, H, LAST_EDITION, X};
-use crate::given::{config_words, of_region, of_zone, table_words, with_p, with_rights, with_size, with_v, with_word, zone, P, RIGHTS};
+use crate::given::{
+    config_words, of_region, of_zone, table_words, with_p, with_rights, with_size, with_v, with_word, zone, P, RIGHTS,
+};
 use crate::given::{A, ADD_ZONE, B, C, CPU_INSERT, CPU_REMOVE, G, IOMMU_INSERT, IOMMU_REMOVE, REMOVE_ZONE};
 use crate::requests::random_request;
 use crate::rng::Rng;

@@ -17,7 +17,8 @@ use std::process::ExitCode;
 use peatmitten::limits::LONGEST_PLAN;
 use peatmitten::{PlanRefusal, Reading, Request, State};
 
-const USAGE: &str = "usage: peatmitten run [--words] STATE PLAN... | base PLAN >STATE | show PLAN | write TEXT >PLAN | plan FROM WANTED >PLAN";
+const USAGE: &str =
+    "usage: peatmitten run [--words] STATE PLAN... | base PLAN >STATE | show PLAN | write TEXT >PLAN | plan FROM WANTED >PLAN";
 
 /// More bytes than the text of the longest plan has.
 const LONGEST_TEXT: u64 = 1 << 24;

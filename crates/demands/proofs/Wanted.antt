@@ -27,11 +27,13 @@ calls-lead c t w b d e o v p u x lists zero low writes room =
     (sym (lists .number) ∙ zero) room in
     let answer : p ≡ writesIn c t e (listBytes limits (lentIn c t e) (storedTable w) b) d .outcome =
     writes .answer ∙ ap (λ (r : List ℕ). writesIn c t e r d .outcome) bytes in
-    let plan : take (p .place) x ≡ written limits (lentIn c t e) (askedOf (listBytes limits (lentIn c t e) (storedTable w) b)) d =
+    let plan : take (p .place) x
+    ≡ written limits (lentIn c t e) (askedOf (listBytes limits (lentIn c t e) (storedTable w) b)) d =
     ap₂ (λ (q : Outcome) (l : List ℕ). take (q .place) l) answer
     (writes .buffer ∙ ap (λ (r : List ℕ). writesIn c t e r d .buffer) bytes) in (
       ap (λ (q : Outcome). q .number) answer ∙ leads .0,
       subst (λ (n : ℕ). Led (lentIn c t e) (storedTable w) n (apply limits (lentIn c t e) (take (p .place) x)))
           (sym (lists .count))
-          (subst (λ (l : List ℕ). Led (lentIn c t e) (storedTable w) (listedIn c t w b .count) (apply limits (lentIn c t e) l)) (sym plan) (leads .1)),
+          (subst (λ (l : List ℕ). Led (lentIn c t e) (storedTable w) (listedIn c t w b .count)
+          (apply limits (lentIn c t e) l)) (sym plan) (leads .1)),
     )

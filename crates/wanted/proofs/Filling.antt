@@ -1,13 +1,13 @@
--- The answer is the first of its numbers: 1 and 2 are those of the two tables, and 29 and 28 are left to the list's length.
-use Prim.Native.Nat.{ℕ, _+_, _*_, _/_, _≤_, _<_}
+-- The answer is the first of its numbers: 1 and 2 are those of the two tables, and 29 and 28 are left to the list's
+-- length.
+use Prim.Native.Nat.{ℕ, _+_, _/_, _≤_, _<_}
 use native.Mathlib.Omega.{arith}
-use mathlib.Core.Bool.{Bool, true, false, cond, not, _||_, true≢false}
-use mathlib.Core.List.{List, [], _∷_, _++_}
+use mathlib.Core.Bool.{Bool, true, false, cond, not, _||_}
+use mathlib.Core.List.{List, [], _++_}
 use mathlib.Core.Path.{_≡_, refl, sym, ap, ap₂, subst, _∙_}
-use borrow.Author.Tests.{leb-true, ltb-true, ltb-false, lt-ltb, le-ltb, eq-eqb, ne-eqb, eqb-true, eqb-false}
+use borrow.Author.Tests.{leb-true, lt-ltb, le-ltb, eq-eqb, ne-eqb, eqb-true, eqb-false}
 use lib.Dec.{ltb, leb, eqb}
 use lib.ListN.{length, getD, drop}
-use Rattle.lists.specs.Places.{tab}
 use Rattle.lists.specs.Rules.{firstRule}
 use Rattle.lists.proofs.Every.{all-at}
 use Rattle.lists.proofs.Places.{length-tab, getD-tab}
@@ -18,7 +18,7 @@ use Rattle.rules.specs.Applying.{plain}
 use Rattle.rules.specs.Configuration.{check, isSound}
 use Rattle.rules.specs.Filling.{fillAnswer, fillLeaves}
 use Rattle.rules.specs.Limits.{mostRequests, highestId, limits}
-use Rattle.rules.specs.Requests.{standingRules, standing}
+use Rattle.rules.specs.Requests.{standingRules}
 use Rattle.rules.specs.Run.{requestSize}
 use Rattle.rules.specs.Tables.{noZone, soundSet, soundZone, tableOf, checkTable, Zone}
 use Rattle.rules.specs.Wanted.{requestsFor, noList, workRules, worked, recordsOf, listed, Worked, Listed}
@@ -54,13 +54,13 @@ module _ (c t w : List ℕ) where
       by false q f = absurd (eqb-false _ _ q f)
 
   -- the rules' first two numbers
-  numbered : (a b d : Bool) (x y : Worked) (n : ℕ)
+  numbered : (a b d : Bool) (x : Worked) (n : ℕ)
       → n ≡ cond (eqb (cond a 1 (cond b 2 0)) 0) (cond a 1 (cond d 2 0)) (cond a 1 (cond b 2 0))
       → cond a (noList 1) (cond (b || d) (noList 2) x) ≡ cond (eqb n 0) x (noList n)
-  numbered true b d x y n e = rw e refl
-  numbered false true d x y n e = rw e refl
-  numbered false false true x y n e = rw e refl
-  numbered false false false x y n e = rw e refl
+  numbered true b d x n e = rw e refl
+  numbered false true d x n e = rw e refl
+  numbered false false true x n e = rw e refl
+  numbered false false false x n e = rw e refl
 
   behind : Worked
   behind =
@@ -72,7 +72,7 @@ module _ (c t w : List ℕ) where
   unfolding worked workRules firstRule ownNumber standingRules behind
   worked-as =
       numbered (not (isSound (check limits (storedConfig c)))) (not (checkTable limits (storedConfig c) (storedTable t)))
-      (not (checkTable limits (storedConfig c) (storedTable w))) behind behind (ownNumber c t w) refl
+      (not (checkTable limits (storedConfig c) (storedTable w))) behind (ownNumber c t w) refl
 
 -- ---- a table that stands is within limits
 zone-at : (t : List ℕ) (z : ℕ) → z < length (zonesIn t) → getD (zonesIn t) z noZone ≡ zoneIn t z
@@ -165,6 +165,22 @@ module _ (c t w b : List ℕ) where
     buffer = s ∙ sym (ap (λ (x : Listed). x .buffer) e);
   }
 
+  -- 29, 28 or 0, as the list was filled in
+  filled-lists : (qs : List Request) (o : Listing) (v : List ℕ) (m s : Bool)
+      → worked limits (storedConfig c) (storedTable t) (storedTable w)
+      ≡ cond m (noList 29) (record { number = 0; requests = qs })
+      → ltb (length b) (length (recordsOf qs)) ≡ s
+      → o ≡ cond m (listing 29 0) (cond s (listing 28 0) (listing 0 (length qs)))
+      → v ≡ cond m b (cond s b (recordsOf qs ++ drop (length (recordsOf qs)) b)) → ListsIn c t w b o v
+  unfolding answered listedAs
+  filled-lists qs o v true s r h a g =
+      to-lists o v _ (listed-as (noList 29) r _ refl) (ap (λ (x : Listing). x .number) a)
+      (ap (λ (x : Listing). x .count) a) g
+  filled-lists qs o v false true r h a g =
+      to-lists o v _ (listed-as _ r true h) (ap (λ (x : Listing). x .number) a) (ap (λ (x : Listing). x .count) a) g
+  filled-lists qs o v false false r h a g =
+      to-lists o v _ (listed-as _ r false h) (ap (λ (x : Listing). x .number) a) (ap (λ (x : Listing). x .count) a) g
+
   module _ (n : ℕ) (e : n ≡ ownNumber c t w) where
     pub lists-refused : (n ≡ 0 → ⊥) → ListsIn c t w b (listing n 0) b
     unfolding answered listedAs
@@ -173,8 +189,8 @@ module _ (c t w b : List ℕ) where
         let r : worked limits (storedConfig c) (storedTable t) (storedTable w) ≡ noList n =
         worked-as c t w ∙ ap (λ (k : ℕ). cond (eqb k 0) (behind c t w) (noList k)) (sym e)
         ∙ ap (λ (x : Bool). cond x (behind c t w) (noList n)) f in
-        to-lists (listing n 0) b (listedAs (ltb (length b) (length (recordsOf []))) (noList n)) (listed-as (noList n) r _ refl)
-        (rw f) (rw (f, f)) (rw (f, f))
+        to-lists (listing n 0) b (listedAs (ltb (length b) (length (recordsOf []))) (noList n))
+        (listed-as (noList n) r _ refl) (rw f) (rw (f, f)) (rw (f, f))
 
     module _ (z : n ≡ 0) where
       both : Stands c t × Stands c w
@@ -192,27 +208,7 @@ module _ (c t w b : List ℕ) where
 
       pub lists-filled : (o : Listing) (v : List ℕ) → FillsIn (requestsFor (zonesIn t) (zonesIn w)) b o v
           → ListsIn c t w b o v
-      unfolding answered listedAs
       lists-filled o v f =
-          by (ltb mostRequests (length qs)) (ltb (length b) (length (recordsOf qs))) worked-here refl (f .answer) (f .buffer)
-        where
-          qs : List Request
-          qs = requestsFor (zonesIn t) (zonesIn w)
-
-          by : (m s : Bool)
-              → worked limits (storedConfig c) (storedTable t) (storedTable w)
-              ≡ cond m (noList 29) (record { number = 0; requests = requestsFor (zonesIn t) (zonesIn w) })
-              → ltb (length b) (length (recordsOf (requestsFor (zonesIn t) (zonesIn w)))) ≡ s
-              → o ≡ cond m (listing 29 0) (cond s (listing 28 0) (listing 0 (length (requestsFor (zonesIn t) (zonesIn w)))))
-              → v ≡ cond m b (cond s b (recordsOf (requestsFor (zonesIn t) (zonesIn w))
-              ++ drop (length (recordsOf (requestsFor (zonesIn t) (zonesIn w)))) b))
-              → ListsIn c t w b o v
-          by true s r h a g =
-              to-lists o v _ (listed-as (noList 29) r _ refl) (ap (λ (x : Listing). x .number) a)
-              (ap (λ (x : Listing). x .count) a) g
-          by false true r h a g =
-              to-lists o v _ (listed-as _ r true h) (ap (λ (x : Listing). x .number) a)
-              (ap (λ (x : Listing). x .count) a) g
-          by false false r h a g =
-              to-lists o v _ (listed-as _ r false h) (ap (λ (x : Listing). x .number) a)
-              (ap (λ (x : Listing). x .count) a) g
+          let qs : List Request = requestsFor (zonesIn t) (zonesIn w) in
+          filled-lists qs o v (ltb mostRequests (length qs)) (ltb (length b) (length (recordsOf qs))) worked-here refl
+          (f .answer) (f .buffer)

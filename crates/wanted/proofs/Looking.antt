@@ -1,17 +1,16 @@
--- What is found among words: a zone by the first index of its id, a region by the first index of one that equals it. Past
--- the end of the words stands nothing, as in a zone that is not there.
-use Prim.Native.Nat.{ℕ, zero, suc, _+_, _*_, _^_, _≤_, _<_}
+-- What is found among words: a zone by the first index of its id, a region by the first index of one that equals it.
+-- Past the end of the words stands nothing, as in a zone that is not there.
+use Prim.Native.Nat.{ℕ, zero, suc, _+_, _^_, _≤_, _<_}
 use native.Mathlib.Omega.{arith}
-use mathlib.Core.Bool.{Bool, true, false, cond}
+use mathlib.Core.Bool.{Bool, true, false}
 use mathlib.Core.List.{List, [], _∷_}
-use mathlib.Core.Path.{_≡_, refl, sym, ap, ap₂, _∙_}
+use mathlib.Core.Path.{_≡_, refl, sym, ap, _∙_}
 use borrow.Author.Tests.{lt-ltb, le-ltb, ltb-true, ltb-false}
 use lib.ListN.{length, getD}
 use Rattle.lists.specs.First.{firstIndex, firstFrom}
 use Rattle.lists.specs.Places.{places, tab}
 use Rattle.lists.proofs.First.{any-first}
 use Rattle.lists.proofs.Places.{length-tab}
-use Rattle.lists.proofs.Tests.{holds-or-fails}
 use Rattle.rules.specs.Changes.{setAt}
 use Rattle.rules.specs.Fields.{regionOf}
 use Rattle.rules.specs.Limits.{mostZones, mostInSet}
@@ -21,7 +20,7 @@ use Rattle.rules.specs.Tables.{noZone, sideOf, hasId, Zone}
 use Rattle.rules.specs.declared.Region.{Region}
 use Rattle.rules.specs.declared.Side.{Side}
 use Rattle.rules.specs.declared.Side.the-variants.{Cpu, Iommu}
-use Rattle.zones.specs.Layout.{regionWords, setWords, sideWords, tableWords, zoneBase, zoneStart, setBase}
+use Rattle.zones.specs.Layout.{setWords, sideWords, tableWords, zoneBase, zoneStart, setBase}
 use Rattle.zones.specs.Records.{regionAt, recordAt, recordsAt}
 use Rattle.zones.specs.View.{setIn, zoneIn, zonesIn}
 use Rattle.zones.proofs.Readers.{start-is, id-word, zone-hit, zone-end}

@@ -2,7 +2,7 @@
 -- serves all three.
 use Prim.Native.Nat.{ℕ, _+_, _*_, _≤_, _<_}
 use native.Mathlib.Omega.{arith}
-use mathlib.Core.Bool.{Bool, true, false, cond, not}
+use mathlib.Core.Bool.{Bool, true, false}
 use mathlib.Core.List.{List, [], _∷_, _++_, flatMap, append-nil}
 use mathlib.Core.Path.{_≡_, refl, sym, ap, ap₂, subst, _∙_}
 use lib.ListN.{length, getD}
@@ -12,7 +12,7 @@ use Rattle.lists.proofs.Bytes.{length-bytes}
 use Rattle.lists.proofs.Places.{length-tab, tab-last}
 use Rattle.lists.proofs.Words.{flat-append}
 use Rattle.formats.specs.Formats.{writeMany, writeBoth}
-use Rattle.formats.proofs.Formats.{many-append, many-one}
+use Rattle.formats.proofs.Formats.{many-append}
 use Rattle.puts.specs.Puts.{putAt, Put}
 use Rattle.puts.proofs.Puts.{puts-both, puts-none}
 use Rattle.rules.specs.Changes.{setAt}
@@ -20,13 +20,13 @@ use Rattle.rules.specs.Fields.{numbersOf}
 use Rattle.rules.specs.Limits.{mostZones}
 use Rattle.rules.specs.Plan.{askedField, Asked}
 use Rattle.rules.specs.Regions.{noRegion}
-use Rattle.rules.specs.Requests.{find, present, heldIn}
+use Rattle.rules.specs.Requests.{find, heldIn}
 use Rattle.rules.specs.Run.{requestSize}
 use Rattle.rules.specs.Tables.{sideOf, Zone}
 use Rattle.rules.specs.Wanted.{requestsFor, recordsOf}
 use Rattle.rules.specs.declared.Region.{Region}
 use Rattle.rules.specs.declared.Side.the-variants.{Cpu, Iommu}
-use Rattle.zones.specs.Layout.{regionWords, setWords, sideWords, tableWords, zoneStart}
+use Rattle.zones.specs.Layout.{regionWords, setWords, tableWords, zoneStart}
 use Rattle.zones.specs.Records.{regionAt, recordAt, recordsAt}
 use Rattle.zones.specs.View.{zoneIn, zonesIn}
 use Rattle.wanted.specs.Wanted.{numbers, lacked, setAsked, setsAsked, zoneAsked, regionsAsked, missed}
@@ -151,15 +151,15 @@ module _ (from to : List ℕ) (kind id z k j : ℕ) (ok : InLimits from) (h : z 
 
 -- ---- those of all zones
 module _ (s u w : List ℕ) (kind z n start at : ℕ) (t : List Zone) where
-  pub regions-end : Put s start (writeMany askedField (flatMap (zoneAsked kind t) (tab z (zoneIn w)))) u at → z ≤ n → n ≤ z
-      → n ≡ length (zonesIn w) → Put s start (writeMany askedField (regionsAsked kind (zonesIn w) t)) u at
+  pub regions-end : Put s start (writeMany askedField (flatMap (zoneAsked kind t) (tab z (zoneIn w)))) u at → z ≤ n
+      → n ≤ z → n ≡ length (zonesIn w) → Put s start (writeMany askedField (regionsAsked kind (zonesIn w) t)) u at
   unfolding regionsAsked zonesIn
   regions-end p a b e =
       rows-end (zoneIn w) (zoneAsked kind t) s u z n (getD w 0 0) start at p a b
       (e ∙ length-tab (getD w 0 0) (zoneIn w))
 
-  pub zones-end : Put s start (writeMany askedField (flatMap (missedZone kind t) (tab z (zoneIn w)))) u at → z ≤ n → n ≤ z
-      → n ≡ length (zonesIn w) → Put s start (writeMany askedField (zonesAsked kind (zonesIn w) t)) u at
+  pub zones-end : Put s start (writeMany askedField (flatMap (missedZone kind t) (tab z (zoneIn w)))) u at → z ≤ n
+      → n ≤ z → n ≡ length (zonesIn w) → Put s start (writeMany askedField (zonesAsked kind (zonesIn w) t)) u at
   unfolding zonesAsked zonesIn
   zones-end p a b e =
       rows-end (zoneIn w) (missedZone kind t) s u z n (getD w 0 0) start at p a b
@@ -167,7 +167,8 @@ module _ (s u w : List ℕ) (kind z n start at : ℕ) (t : List Zone) where
 
 -- ---- a zone, or none
 module _ (kind id k : ℕ) (to : List ℕ) (e : k ≡ startOf to id) where
-  pub there-put : (s : List ℕ) (at : ℕ) → k < tableWords → Put s at (writeMany askedField (missed kind (zonesIn to) id)) s at
+  pub there-put : (s : List ℕ) (at : ℕ) → k < tableWords
+      → Put s at (writeMany askedField (missed kind (zonesIn to) id)) s at
   unfolding missed writeMany
   there-put s at h = rw (start-tells to id k e h) (puts-none s at)
 

@@ -2,7 +2,7 @@
 -- set gives in turn.
 use Prim.Native.Nat.{ℕ, _+_}
 use mathlib.Core.List.{List, [], _∷_, _++_, map, flatMap, map-append, map-map}
-use mathlib.Core.Path.{_≡_, refl, sym, ap, ap₂, _∙_}
+use mathlib.Core.Path.{_≡_, refl, ap, ap₂, _∙_}
 use Rattle.lists.specs.Orders.{keep}
 use Rattle.lists.proofs.Kept.{keep-append, keep-flat}
 use Rattle.formats.specs.Formats.{writeMany}

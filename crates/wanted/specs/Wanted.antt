@@ -58,7 +58,8 @@ pub record FillsIn (qs : List Request) (b : List ℕ) (o : Listing) (v : List �
 abbrev pub numbers : ℕ → ℕ → Region → Asked
 numbers kind id r = record { kind = kind; zone = id; region = r }
 
--- a region that the set ys has not; those of a set xs; those of a zone, whose IOMMU set has the kind two higher; those of all zones
+-- a region that the set ys has not; those of a set xs; those of a zone, whose IOMMU set has the kind two higher; those
+-- of all zones
 unfoldable pub lacked : ℕ → ℕ → List Region → Region → List Asked
 lacked kind id ys r = cond (not (heldIn r ys)) (numbers kind id r ∷ []) []
 

@@ -7,7 +7,6 @@ use mathlib.Core.Path.{_≡_, refl, sym, ap, ap₂, subst, _∙_}
 use borrow.Author.Tests.{leb-true}
 use lib.ListN.{length, getD, take, length-take}
 use Rattle.lists.specs.Bytes.{bytesOf, Bytes}
-use Rattle.lists.specs.First.{all}
 use Rattle.lists.specs.Places.{places, tab}
 use Rattle.lists.specs.Words.{part}
 use Rattle.lists.proofs.Every.{all-at}

@@ -12,7 +12,8 @@ use Rattle.wanted.proofs.tables.is_held.Statement.{statement}
 use Rattle.wanted.proofs.tables.is_held.Tie as tie
 
 abbrev Inv-loop : tie.InvT-loop
-Inv-loop w k r n i₀ i = (i ≤ n) × (firstFrom (regionEq r) (recordsAt w (k + 1) n) i ≡ firstIndex (regionEq r) (recordsAt w (k + 1) n))
+Inv-loop w k r n i₀ i =
+    (i ≤ n) × (firstFrom (regionEq r) (recordsAt w (k + 1) n) i ≡ firstIndex (regionEq r) (recordsAt w (k + 1) n))
 
 abbrev μ-loop : tie.MeasureT-loop
 μ-loop w k r n i₀ i = n - i

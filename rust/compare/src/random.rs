@@ -283,6 +283,39 @@ fn cutting(rng: &mut Rng, bytes: usize) -> Vec<usize> {
     (0..rng.below(7)).map(|_| piece(rng)).collect()
 }
 
+/// As many zones and regions as there can be, dealt out at random, and some of the regions dealt out again: so many that a list is on either
+/// side of what a plan has room for.
+fn dealt_twice(rng: &mut Rng) -> (ConfigWords, TableWords, TableWords) {
+    let page = |number: u64| Region::new(number * PAGE, number * PAGE, PAGE, 3);
+    let config = Config { regions: (0..MAX_REGIONS as u64).map(page).collect(), gic: 0 };
+    let mut table = Table { zones: (0..MAX_ZONES as u32).map(Zone::empty).collect() };
+    config.regions[1..].iter().for_each(|region| deal(rng, &mut table, *region));
+    let mut other = table.clone();
+    for region in &config.regions[1 + rng.below(MAX_REGIONS - 1)..] {
+        for zone in &mut other.zones {
+            zone.cpu.retain(|held| held != region);
+            zone.iommu.retain(|held| held != region);
+        }
+        deal(rng, &mut other, *region);
+    }
+    rng.shuffle(&mut other.zones);
+    (config.to_words(), table.to_words(), other.to_words())
+}
+
+/// Gives a region to a zone that has room for it, on one side or on both.
+fn deal(rng: &mut Rng, table: &mut Table, region: Region) {
+    let has_room = |zone: &&mut Zone| zone.cpu.len() < MAX_IN_SET && zone.iommu.len() < MAX_IN_SET;
+    let mut zones: Vec<&mut Zone> = table.zones.iter_mut().filter(has_room).collect();
+    let at = rng.below(zones.len());
+    let sides = rng.below(4);
+    if sides != 0 {
+        zones[at].cpu.push(region);
+    }
+    if sides != 1 {
+        zones[at].iommu.push(region);
+    }
+}
+
 /// No zone; or, so that a table fills up, empty ones, nearly as many as there can be.
 fn first_table(rng: &mut Rng) -> Table {
     let count = if rng.one_in(3) { MAX_ZONES - rng.below(4) } else { 0 };
@@ -479,10 +512,11 @@ impl World {
     /// one with a region moved, or with two zones exchanged. The list goes either way, and the buffer is on either side of its length.
     fn list_case(&self, rng: &mut Rng) -> Case {
         let (config, table) = self.base(rng);
-        let wanted = match rng.below(12) {
-            0 => self.damaged_base(rng).1,
-            1 => bent_table(rng, &self.state).to_words(),
-            _ => self.wanted(rng).to_words(),
+        let (config, table, wanted) = match rng.below(12) {
+            0 => (config, table, self.damaged_base(rng).1),
+            1 => (config, table, bent_table(rng, &self.state).to_words()),
+            2..=3 => dealt_twice(rng),
+            _ => (config, table, self.wanted(rng).to_words()),
         };
         let (from, to) = if rng.one_in(2) { (table, wanted) } else { (wanted, table) };
         let case = Case::list(config, from, &to, vec![0; MAX_REQUESTS * REQUEST_BYTES]);

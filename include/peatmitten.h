@@ -221,7 +221,7 @@ enum peatmitten_answer {
     PEATMITTEN_OTHER_ZONES = 26,      /* (plan) the base zones differ, order included */
     PEATMITTEN_REQUEST_REFUSED = 27,  /* (plan) a request is refused; place: its index from 0; inner: its number, 3 to 17 or 19 */
     PEATMITTEN_BUFFER_SHORT = 28,     /* (lent buffer) it is too short */
-    PEATMITTEN_TOO_MANY_REQUESTS = 29 /* (writer) there are more than PEATMITTEN_MOST_REQUESTS requests */
+    PEATMITTEN_TOO_MANY_REQUESTS = 29 /* (writer, list) there are more than PEATMITTEN_MOST_REQUESTS requests */
 };
 
 /*
@@ -441,6 +441,32 @@ static inline peatmitten_difference peatmitten_differ(const uint8_t *plan, size_
     difference.planned = (uint32_t)bytes[0];
     difference.held = (uint32_t)bytes[1];
     return difference;
+}
+
+/*
+ * Works out, into a buffer, the requests that lead from one table to another under one configuration: what peatmitten_write_words then makes a
+ * plan of. Answers a peatmitten_answer: 0, 1, 2, 28 or 29, the first that applies in the order 1, 2 (of either table), 29, 28. count[0] is on 0
+ * how many requests there are, else 0.
+ * On 0 so many records from the buffer's start are the list, as a plan holds them (peatmitten_record), and the bytes behind them are what they
+ * were. Else no byte of the buffer is changed.
+ * The list has, in this order: removals of the regions that the second table has not in the same set of the same zone; removals of the zones
+ * that it has not; additions of the zones that the first has not; inserts of the regions that it has not. Each request is accepted in turn,
+ * and then the zones and sets are those of the second table, though perhaps in another order; two tables with the same zones and sets give
+ * no request. A buffer of PEATMITTEN_MOST_REQUESTS records is never too short.
+ * `buffer` is not null even where its length is 0. Neither table is changed, and the two may be the same.
+ */
+uint32_t peatmitten_wanted_words(const uint64_t config[PEATMITTEN_CONFIG_WORDS], const uint64_t from[PEATMITTEN_TABLE_WORDS],
+                               const uint64_t to[PEATMITTEN_TABLE_WORDS], uint8_t *buffer, size_t buffer_length, uint64_t count[1]);
+
+/* The same from a state's table, into an array of `room` requests; *count is how many there are. */
+static inline uint32_t peatmitten_wanted(const peatmitten_state *state, const uint64_t to[PEATMITTEN_TABLE_WORDS], peatmitten_record *requests,
+                                       size_t room, size_t *count)
+{
+    uint64_t listed[1];
+    uint32_t number = peatmitten_wanted_words(state->config, state->table, to, (uint8_t *)requests, room * sizeof(peatmitten_record), listed);
+
+    *count = (size_t)listed[0];
+    return number;
 }
 
 #ifdef __cplusplus

@@ -21,7 +21,7 @@
 #define PATTERN 0xa5
 #define PATTERN_WORD (UINT64_MAX / 0xff * PATTERN)
 
-enum { CHECK_CONFIG, CHECK_TABLE, REQUEST, TRANSLATE, EDITION, READ, APPLY, TAKE, END, WRITE, ZONES, BASE, LACKING, LAYOUT, FUNCTIONS };
+enum { CHECK_CONFIG, CHECK_TABLE, REQUEST, TRANSLATE, EDITION, READ, APPLY, TAKE, END, WRITE, LIST, ZONES, BASE, LACKING, LAYOUT, FUNCTIONS };
 
 #define NAME_OF(symbol) #symbol
 #define TEXT_OF(symbol) NAME_OF(symbol)
@@ -29,8 +29,8 @@ enum { CHECK_CONFIG, CHECK_TABLE, REQUEST, TRANSLATE, EDITION, READ, APPLY, TAKE
 static const char *const names[FUNCTIONS] = {
     "peatmitten_check_config", "peatmitten_check_table", "peatmitten_request",     "peatmitten_translate_words",
     "peatmitten_edition",      "peatmitten_read",        "peatmitten_apply_words", "peatmitten_take_piece",
-    "peatmitten_end_words",    "peatmitten_write_words", "peatmitten_zones_words", "peatmitten_base_zones",
-    "peatmitten_lacking",      TEXT_OF(peatmitten_layout)};
+    "peatmitten_end_words",    "peatmitten_write_words", "peatmitten_wanted_words", "peatmitten_zones_words",
+    "peatmitten_base_zones",   "peatmitten_lacking",     TEXT_OF(peatmitten_layout)};
 
 static uint64_t stack[STACK_WORDS] __attribute__((aligned(64)));
 static ucontext_t here, there;
@@ -41,6 +41,7 @@ static uint32_t kind;
 static uint64_t answers[2];
 static uint64_t receiver[2];
 static uint8_t buffer[PEATMITTEN_LONGEST_PLAN];
+static const uint64_t no_zones[PEATMITTEN_TABLE_WORDS];
 
 static void nothing(void)
 {
@@ -127,6 +128,13 @@ static void lacking(void)
     peatmitten_lacking(plan, length, buffer, sizeof buffer, answers);
 }
 
+/* All that there is goes, and comes again. */
+static void list_words(void)
+{
+    peatmitten_wanted_words(state.config, state.table, no_zones, buffer, sizeof buffer, answers);
+    peatmitten_wanted_words(state.config, no_zones, state.table, buffer, sizeof buffer, answers);
+}
+
 static void layout(void)
 {
     answers[0] = peatmitten_layout(kind);
@@ -195,6 +203,7 @@ static void measure(size_t most[FUNCTIONS], const char *state_path, const char *
     keep_most(most, LACKING, lacking);
     keep_most(most, ZONES, zones_words);
     keep_most(most, BASE, base_zones);
+    keep_most(most, LIST, list_words);
     keep_most(most, APPLY, apply);
     state = before;
     keep_most(most, TAKE, take_piece);

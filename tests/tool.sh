@@ -1,5 +1,5 @@
 #!/usr/bin/env bash
-# The tool for plans and state files, by ./peatmitten base, run, show, write and differ: what it prints, says and keeps, and with which status. Each
+# The tool for plans and state files, by ./peatmitten base, run, show, write, plan and differ: what it prints, says and keeps, and with which status. Each
 # stored plan is run at its own base, and shown, and must be answered as it is stored; one that is accepted is written back, byte for byte, from
 # what show prints. A state file is the same from C.
 set -euo pipefail
@@ -185,6 +185,50 @@ check_write() {
     expect 2 '' "peatmitten: $work/text, line 12: the base table is unsound: *" write "$work/text"
 }
 
+# full_text ID: a text of as much as a sound table can have, its zones with ids from ID on.
+full_text() {
+    local region='v %d, p %d, size 4096, rights 3' zone at numbers
+    printf 'GIC position: 255\nbase edition: 0\n'
+    for ((at = 0; at < 256; at++)); do
+        # shellcheck disable=SC2059 # the format is the variable
+        printf "region: $region\n" $((at * 4096)) $((at * 4096))
+    done
+    for ((zone = 0; zone < 32; zone++)); do
+        numbers=()
+        for ((at = zone * 8; at < zone * 8 + 8 && at < 255; at++)); do numbers+=($((at * 4096)) $((at * 4096))); done
+        # shellcheck disable=SC2059 # the format is the variable
+        printf "zone $(($1 + zone))\nCPU regions\n$(printf "region: $region\n" "${numbers[@]}")\nIOMMU regions\n$(printf "region: $region\n" "${numbers[@]}")\n"
+    done
+}
+
+# From the zones of one text to those of another: the requests that moved.txt has by hand, and back; and what has no plan.
+check_plan() {
+    "$launcher" write "$plans/moved.txt" >"$work/moved.plan"
+    "$launcher" plan "$plans/moved.txt" "$plans/wanted.txt" | cmp - "$work/moved.plan" ||
+        say_failed "plan moved.txt wanted.txt is not what write moved.txt gives"
+    "$launcher" plan "$plans/wanted.txt" - <"$plans/moved.txt" >"$work/back.plan" || say_failed "plan wanted.txt moved.txt: status $?"
+    expect 0 $'*request 0: zone 6, CPU remove: *request 1: remove zone 6\n*request 2: zone 5, CPU insert: *request 3: zone 5, IOMMU insert: *reads whole' '' \
+        show "$work/back.plan"
+    make_state "$work/moved.plan"
+    expect 1 $'0 4 0, edition 8\n24 0 0, edition 8' '' run "$state" "$work/moved.plan" "$work/back.plan"
+    "$launcher" plan "$plans/moved.txt" "$plans/moved.txt" >"$work/none.plan" || say_failed "plan moved.txt moved.txt: status $?"
+    expect 0 '*requests: 0*reads whole' '' show "$work/none.plan"
+    full_text 0 >"$work/full.txt"
+    full_text 100 >"$work/other.txt"
+    "$launcher" plan "$work/full.txt" "$work/full.txt" >"$work/none.plan" || say_failed "plan of a full table to itself: status $?"
+    expect 1 '' "peatmitten: $work/full.txt to $work/other.txt: 29: there are more requests than a plan can have" plan "$work/full.txt" "$work/other.txt"
+    expect 2 '' "peatmitten: $work/full.txt is for another configuration than $plans/moved.txt" plan "$plans/moved.txt" "$work/full.txt"
+    expect 2 '' 'peatmitten: only one of the two texts can be standard input' plan - - </dev/null
+    expect 2 '' 'peatmitten: usage: *' plan "$plans/moved.txt"
+    expect 2 '' "peatmitten: cannot open $work/none: No such file *" plan "$plans/moved.txt" "$work/none"
+    sed 's/^zone 6/zone 5/' "$plans/wanted.txt" >"$work/text"
+    expect 2 '' "peatmitten: $work/text, line 13: the base table is unsound: *" plan "$plans/moved.txt" "$work/text"
+    sed 's/^region: v 0x40000000/region: v 0x40000001/' "$plans/wanted.txt" >"$work/text"
+    expect 1 '' "peatmitten: $work/text to $work/text: 1: the configuration is unsound" plan "$work/text" "$work/text"
+    sed 's/edition: 7/edition: 4294967295/' "$plans/moved.txt" >"$work/text"
+    expect 1 '' "peatmitten: $work/text: 25 0 0: *" plan "$work/text" "$plans/wanted.txt"
+}
+
 # Each stored plan at its own base: what it answers, or why it has none; and where it stops reading. One that is accepted is written back from
 # what show prints of it.
 check_stored_plans() {
@@ -232,6 +276,7 @@ check_differ
 check_faults
 check_show
 check_write
+check_plan
 check_stored_plans
 check_same_from_c
 echo "tool: ok"

@@ -3,3 +3,4 @@ pub mod Answers
 pub mod Pieces
 pub mod Writing
 pub mod Differing
+pub mod Listing

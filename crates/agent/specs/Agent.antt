@@ -27,6 +27,7 @@ use Rattle.receiver.specs.Words.{endedIn, TakesIn}
 use Rattle.terminal.specs.Terminal.{Applies}
 use Rattle.walker.specs.declared.Edition.{Edition}
 use Rattle.walker.specs.declared.Edition.the-variants.{Is, Bad as BadEdition}
+use Rattle.wanted.specs.Wanted.{listedIn, ListsIn}
 use Rattle.writer.specs.Writer.{writesIn, WritesIn, writesZonesIn, WritesZonesIn}
 
 -- what a header must have for the library: the most regions, zones, regions in a set and requests, the words of a
@@ -164,3 +165,15 @@ baseStretch b = baseAt (length b) (readPlan limits b) ∷ length (zonesOf limits
 -- what is told of a place that has no byte
 abbrev pub noByte : ℕ
 noByte = 256
+
+-- the list from two tables: the number, what then lies in the buffer, and how many requests there are
+pub record ListsWords (c t w b : List ℕ) (n : ℕ) (v a : List ℕ) : Type 0 where
+  pub number : n ≡ listedIn c t w b .number
+  pub buffer : v ≡ listedIn c t w b .buffer
+  pub count : a ≡ listedIn c t w b .count ∷ []
+
+-- so what is proved of any code that meets `ListsIn` is true of such calls
+abbrev pub WordsAreAList : Type 0
+WordsAreAList =
+    (c t w b : List ℕ) (n : ℕ) (v a : List ℕ) → ListsWords c t w b n v a
+    → ListsIn c t w b (record { number = n; count = getD a 0 0 }) v

@@ -20,6 +20,7 @@ use rules::limits::MOST_REQUESTS;
 use rules::limits::MOST_ZONES;
 use walker::Edition;
 use walker::edition_of;
+use wanted::list_words;
 use writer::write_words;
 use writer::write_zones;
 use zones::CONFIG_WORDS;
@@ -47,7 +48,7 @@ ghost use Rattle.zones.specs.Step.{Stepped};
 ghost use Rattle.zones.specs.View.{storedConfig, storedTable};
 ghost use Rattle.walker.specs.Edition.{editionOf};
 ghost use Rattle.agent.specs.Agent.{layout, placesOf, yesOrNo, sideAsked, stretchOf, readingNumber, readingPlace, editionNumber, editionValue, receiverIn, AppliesWords, TakesWords, EndsWords, WritesWords, WritesZonesWords};
-ghost use Rattle.agent.specs.Agent.{baseStretch, noByte};
+ghost use Rattle.agent.specs.Agent.{baseStretch, noByte, ListsWords};
 
 // What is said of a place that has no byte.
 const NO_BYTE: u64 = 256;
@@ -303,6 +304,23 @@ fn byte_at(s: &[u8], at: usize) -> u64
         return NO_BYTE;
     }
     s[at] as u64
+}
+
+// Works out the requests that lead from one table to another, into the buffer, as a plan holds them: the number, and how many there are. Only
+// the buffer and the count are changed, the buffer only where the number is 0.
+#[no_mangle]
+pub extern "C" fn peatmitten_wanted_words(
+    config: &[u64; CONFIG_WORDS],
+    from: &[u64; TABLE_WORDS],
+    to: &[u64; TABLE_WORDS],
+    buffer: &mut [u8],
+    count: &mut [u64; 1],
+) -> u32
+    ensures { λ n. ⌜ ListsWords (now (config .entry)) (now (from .entry)) (now (to .entry)) (now (buffer .entry)) n (now (buffer .exit)) (now (count .exit)) ⌝ }
+{
+    let listing = list_words(config, from, to, buffer);
+    put_one(count, listing.count as u64);
+    listing.number
 }
 
 fn receiver_in(words: &[u64; 2]) -> Receiver

@@ -2,3 +2,4 @@
 pub mod Following
 pub mod Pieces
 pub mod Writing
+pub mod Wanted

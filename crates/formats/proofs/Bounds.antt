@@ -3,13 +3,14 @@
 use Prim.Native.Nat.{ℕ, zero, suc, _+_, _^_, _≤_, _<_}
 use native.Mathlib.Omega.{arith}
 use mathlib.Core.Bool.{Bool, true, false, cond}
-use mathlib.Core.List.{List, [], _∷_, _++_, append-assoc, append-nil}
+use mathlib.Core.List.{List, [], _∷_, _++_, map, append-assoc, append-nil}
 use mathlib.Core.Path.{_≡_, refl, sym, ap, _∙_}
 use borrow.Author.Tests.{ltb-true, ltb-false, le-leb, leb-true}
 use lib.Dec.{ltb, leb}
 use lib.ListN.{length, getD, drop}
 use lib.Seq.{drop-drop, drop-at}
 use Rattle.lists.specs.Bytes.{bytesOf}
+use Rattle.lists.specs.Orders.{keep}
 use Rattle.lists.specs.Rules.{Silent, Rule, Applies}
 use Rattle.lists.proofs.Bytes.{length-bytes}
 use Rattle.lists.proofs.Tests.{parts, whole, false-of}
@@ -173,6 +174,21 @@ module _ {A : Type 0} (b : List ℕ) (d : Rule ℕ) (o : Out A) where
   unfolding stopped
   stops-never [] q = refl
   stops-never (r ∷ rs) q = rw (q 0 (omega arith)) (stops-never rs (λ j l. q (suc j) (omega arith)))
+
+-- ---- lists of which every element is such a one: an image, and what passes a test
+pub all-image : {A B : Type 0} (P : A → Type 0) (Q : B → Type 0) (f : A → B) → ((x : A) → P x → Q (f x)) → (xs : List A)
+    → All P xs → All Q (map f xs)
+all-image P Q f g [] h = tt
+all-image P Q f g (x ∷ xs) h = (g x (h .0), all-image P Q f g xs (h .1))
+
+pub all-kept : {A : Type 0} (P : A → Type 0) (p : A → Bool) (xs : List A) → All P xs → All P (keep p xs)
+unfolding keep
+all-kept P p [] h = tt
+all-kept {A} P p (x ∷ xs) h = by (p x) (all-kept P p xs (h .1))
+  where
+    by : (b : Bool) → All P (keep p xs) → All P (cond b (x ∷ keep p xs) (keep p xs))
+    by true f = (h .0, f)
+    by false f = f
 
 -- ---- the places lie within the list
 pub all-joined : {R : Type 0} (P : R → Type 0) (xs ys : List R) → All P xs → All P ys → All P (xs ++ ys)

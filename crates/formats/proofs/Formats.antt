@@ -260,6 +260,18 @@ lawful-fits F P Q f to from = record {
 }
 
 -- ---- n of one kind
+module _ {A : Type 0} (F : Format A) where
+  pub many-append : (xs ys : List A) → writeMany F (xs ++ ys) ≡ writeMany F xs ++ writeMany F ys
+  unfolding writeMany
+  many-append [] ys = refl
+  many-append (x ∷ xs) ys =
+      ap (λ (l : List ℕ). F .write x ++ l) (many-append xs ys)
+      ∙ sym (append-assoc (F .write x) (writeMany F xs) (writeMany F ys))
+
+  pub many-one : (x : A) → writeMany F (x ∷ []) ≡ F .write x
+  unfolding writeMany
+  many-one x = append-nil (F .write x)
+
 module _ {A : Type 0} (F : Format A) (P : A → Type 0) (f : Lawful F P) where
   back-many : (xs : List A) (t : List ℕ) → All P xs → readMany F (length xs) (writeMany F xs ++ t) ≡ got xs t
   unfolding readMany writeMany then

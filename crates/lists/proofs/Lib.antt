@@ -12,3 +12,5 @@ pub mod Bytes
 pub mod Runs
 pub mod Orders
 pub mod Alike
+pub mod Kept
+pub mod Distinct

@@ -199,6 +199,17 @@ module _ {A : Type 0} where
   unfolding tab places
   tab-cons n f = ap (λ (l : List A). f 0 ∷ l) (ap (map f) (sym (places-up 0 n)) ∙ map-map f suc (places 0 n))
 
+  -- one element more
+  tab-snoc : (n : ℕ) (f : ℕ → A) → tab (suc n) f ≡ tab n f ++ f n ∷ []
+  unfolding tab places
+  tab-snoc zero f = refl
+  tab-snoc (suc n) f =
+      tab-cons (suc n) f ∙ ap (λ (l : List A). f 0 ∷ l) (tab-snoc n (λ i. f (suc i)))
+      ∙ ap (λ (l : List A). l ++ f (suc n) ∷ []) (sym (tab-cons n f))
+
+  pub tab-last : (n : ℕ) (f : ℕ → A) → tab (n + 1) f ≡ tab n f ++ f n ∷ []
+  tab-last n f = let e : n + 1 ≡ suc n = omega arith in ap (λ (k : ℕ). tab k f) e ∙ tab-snoc n f
+
   -- its first elements, and those from an index on
   pub take-tab : (n i : ℕ) (f : ℕ → A) → i ≤ n → take i (tab n f) ≡ tab i f
   take-tab n i f h =

@@ -293,6 +293,21 @@ module _ {A : Type 0} where
   unfolding part
   part-all n l e = take-all n l (omega arith)
 
+  pub part-last : (k n : ℕ) (l : List A) (d : A) → k + n < length l → part k (n + 1) l ≡ part k n l ++ getD l (k + n) d ∷ []
+  part-last k n l d h =
+      part-add k n 1 l
+      ∙ ap (λ (x : List A). part k n l ++ x)
+      (part-cons (k + n) 0 l d h ∙ ap (λ (x : List A). getD l (k + n) d ∷ x) (part-none (k + n + 1) l))
+
+  -- of lists one behind the other
+  pub part-mid : (u v w : List A) (k n : ℕ) → length u ≡ k → length v ≡ n → part k n (u ++ (v ++ w)) ≡ v
+  unfolding part
+  part-mid u v w k n p q = ap (take n) (drop-at u (v ++ w) k p) ∙ take-at v w n q
+
+  pub part-behind : (u v : List A) (m k n : ℕ) → length u ≡ m → part (m + k) n (u ++ v) ≡ part k n v
+  unfolding part
+  part-behind u v m k n p = ap (take n) (sym (drop-drop k m (u ++ v)) ∙ ap (drop k) (drop-at u v m p))
+
   pub part-tab : (k n : ℕ) (l : List A) (d : A) → k + n ≤ length l → part k n l ≡ tab n (λ i. getD l (k + i) d)
   unfolding tab places
   part-tab k zero l d h = part-none k l

@@ -121,7 +121,7 @@ tells-meets : (a m b n : ℕ) → Tells (overlaps a m b n) (Shared a m b n)
 tells-meets a m b n = overlap-shared a m b n
 
 -- two tests, of which one holds; that both hold
-tells-either : (a b : Bool) (P Q : Type 0) → Tells a P → Tells b Q → Tells (a || b) (P ⊎ Q)
+pub tells-either : (a b : Bool) (P Q : Type 0) → Tells a P → Tells b Q → Tells (a || b) (P ⊎ Q)
 tells-either a b P Q f g = (
   (λ e. ⊎-elim (λ x. inl (f .0 x)) (λ y. inr (g .0 y)) (one-true a b e)),
   λ m. ⊎-elim (λ x. or-left a b (f .1 x)) (λ y. or-right a b (g .1 y)) m,
@@ -253,10 +253,10 @@ module _ (lim : Limits) where
     standingAs : {R : Type 0} → (ℕ → R) → List (Rule R)
     standingAs say = say 1 when not (isSound (check lim c)) ∷ say 2 when not (checkTable lim c t) ∷ []
 
-    tells-unsound : Tells (not (isSound (check lim c))) (check lim c ≡ Sound → ⊥)
+    pub tells-unsound : Tells (not (isSound (check lim c))) (check lim c ≡ Sound → ⊥)
     tells-unsound = tells-not _ _ (sound-answer (check lim c), λ e. ap isSound e ∙ sound-is)
 
-    tells-bad : Tells (not (checkTable lim c t)) (checkTable lim c t ≡ false)
+    pub tells-bad : Tells (not (checkTable lim c t)) (checkTable lim c t ≡ false)
     tells-bad = (not-true (checkTable lim c t), not-fails (checkTable lim c t))
 
     pub table-stands : checkTable lim c t ≡ true → SoundTable lim (configOf c) (tableOf t)

@@ -13,12 +13,12 @@ use Rattle.formats.specs.Formats.{got}
 use Rattle.formats.specs.Sizes.{total, along}
 use Rattle.rules.specs.Applying.{store, plain, apply, storeConfig, Applied, Terminal}
 use Rattle.rules.specs.Configuration.{configOf, check, StoredConfig}
-use Rattle.rules.specs.Desk.{usual, A, G, insert, wholePlan, deskTerminal}
+use Rattle.rules.specs.Desk.{usual, A, G, wholePlan, deskTerminal}
 use Rattle.rules.specs.Limits.{firstFormat, secondFormat, markCount, limits, Limits}
 use Rattle.rules.specs.Fields.{shortSize, regionSize}
 use Rattle.rules.specs.Plan.{readPlan, Plan}
 use Rattle.rules.specs.Regions.{noRegion}
-use Rattle.rules.specs.Requests.{answers, standing}
+use Rattle.rules.specs.Requests.{insert, answers, standing}
 use Rattle.rules.specs.Sizes.{marksSize, regionsSize, zoneSize, zonesAt, requestsAt}
 use Rattle.rules.specs.Tables.{emptyZone, Zone}
 use Rattle.rules.specs.declared.Checked.the-variants.{Sound}

@@ -12,6 +12,9 @@ pub mod Answers
 pub mod Stretches
 pub mod Editions
 pub mod Terminals
+pub mod Wanted
+pub mod WantedOrder
+pub mod WantedPlans
 pub mod Past
 pub mod Receiving
 pub mod Filling

@@ -6,6 +6,7 @@ use mathlib.Core.Path.{_≡_, refl, sym, ap, ap₂, _∙_}
 use lib.ListN.{length, getD, take, drop, set, length-append, length-set}
 use lib.Seq.{set-out, sets, length-sets, sets-eq, drop-cons, drop-length}
 use Rattle.lists.specs.Bytes.{bytesOf}
+use Rattle.lists.proofs.Bytes.{length-bytes}
 use Rattle.puts.specs.Puts.{putAt, Put}
 
 -- past the end nothing is put
@@ -43,6 +44,10 @@ puts-both s u v at m e a b p q = record {
 pub puts-none : (s : List ℕ) (at : ℕ) → Put s at [] s at
 unfolding putAt
 puts-none s at = record { bytes = refl; end = omega arith }
+
+-- a number is put
+pub put-number : (s u : List ℕ) (at k x : ℕ) → u ≡ putAt at (bytesOf k x) s → Put s at (bytesOf k x) u (at + k)
+put-number s u at k x e = record { bytes = e; end = ap (λ (n : ℕ). at + n) (sym (length-bytes k x)) }
 
 -- ---- the loops: r is what the whole leaves
 pub low-on : (s r : List ℕ) (k left y : ℕ) → putAt k (bytesOf left y) s ≡ r → 0 < left

@@ -18,6 +18,10 @@ pub mod Planner
 pub mod Filling
 pub mod Writer
 pub mod Differing
+pub mod Wanted
+pub mod WantedOrder
+pub mod Records
+pub mod WantedBytes
 pub mod Computing
 pub mod Desk
 pub mod Story
@@ -25,5 +29,6 @@ pub mod RequestExamples
 pub mod CheckExamples
 pub mod PlanExamples
 pub mod WriterExamples
+pub mod WantedExamples
 pub mod Closure
 pub mod Inductive

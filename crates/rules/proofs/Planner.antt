@@ -52,7 +52,7 @@ module _ (lim : Limits) (say : Sayable lim) where
       (omega arith, (omega arith, (omega arith, (omega arith, tt))))
 
   module _ (c : Configuration) (ok : SoundConfiguration lim c) where
-    configured-fits : (r : Region) → configured c r ≡ true → RegionFits r
+    pub configured-fits : (r : Region) → configured c r ≡ true → RegionFits r
     configured-fits r e =
         let (i, h, q) = configured-at lim c ok r e in
         sound-fits r (ap (wellFormed (lim .page)) q ∙ ok .formed i h) (ap (inReach lim) q ∙ ok .near i h)

@@ -42,7 +42,7 @@ sized-region r =
     sized-many long (λ n. longSize) sized-long (numbersOf r) ∙ total-same longSize (numbersOf r)
     ∙ ap (λ (n : ℕ). n * longSize) (numbers-many r)
 
-sized-asked : Sized askedField (λ a. requestSize)
+pub sized-asked : Sized askedField (λ a. requestSize)
 sized-asked a =
     sized-both short (both short regionFormat) (λ n. shortSize) (λ p. shortSize + regionSize) sized-short
     (sized-both short regionFormat (λ n. shortSize) (λ r. regionSize) sized-short sized-region)

@@ -9,12 +9,12 @@ use Rattle.lists.specs.Places.{tab}
 use Rattle.lists.specs.Room.{room}
 use Rattle.rules.specs.Applying.{storeZone, store, plain, storeConfig}
 use Rattle.rules.specs.Configuration.{check, checkNumber, checkPlace, checkEarlier, StoredConfig}
-use Rattle.rules.specs.Desk.{usual, deskZones, addZone, dropZone, insert}
+use Rattle.rules.specs.Desk.{usual, deskZones}
 use Rattle.rules.specs.Limits.{limits, Limits}
 use Rattle.rules.specs.Fields.{regionOf}
 use Rattle.rules.specs.Regions.{noRegion}
 use Rattle.rules.specs.RequestExamples.{_gives_, block, theGic, twin, blocks, oneBlockMore, model, allZones, crowdBeside, held, cpuOnly, iommuOnly, sharing, oddAndFar, far, unknown, justInReach, outOfReach, _lasts_, goesNowhere, Shows}
-use Rattle.rules.specs.Requests.{answer}
+use Rattle.rules.specs.Requests.{addZone, dropZone, insert, answer}
 use Rattle.rules.specs.Run.{makeRequest, runAnswer}
 use Rattle.rules.specs.Tables.{emptyZone, unusedSet, unusedZone, checkTable, Zone, StoredSet, StoredZone, StoredTable}
 use Rattle.rules.specs.Translation.{translated}

@@ -10,13 +10,11 @@ use Rattle.rules.specs.Configuration.{configOf, check, StoredConfig}
 use Rattle.rules.specs.Limits.{mostRegions, limits}
 use Rattle.rules.specs.Fields.{regionOf, regionSize}
 use Rattle.rules.specs.Regions.{noRegion}
-use Rattle.rules.specs.Requests.{answers}
+use Rattle.rules.specs.Requests.{addZone, dropZone, insert, remove, answers}
 use Rattle.rules.specs.Tables.{emptyZone, sound, Zone}
 use Rattle.rules.specs.declared.Checked.the-variants.{Sound}
-use Rattle.rules.specs.declared.Kind.the-variants.{AddZone, RemoveZone, Insert, Remove}
 use Rattle.rules.specs.declared.Region.{Region}
 use Rattle.rules.specs.declared.Request.{Request}
-use Rattle.rules.specs.declared.Side.{Side}
 use Rattle.rules.specs.declared.Side.the-variants.{Cpu, Iommu}
 
 -- a region that may be read and written, as all of the document's
@@ -42,19 +40,6 @@ deskConfig = record { count = 4; gic = 3; records = room mostRegions noRegion (A
 -- zones 5 and 6 exist, empty
 abbrev pub deskZones : List Zone
 deskZones = emptyZone 5 ∷ emptyZone 6 ∷ []
-
--- requests
-abbrev pub addZone : ℕ → Request
-addZone id = record { zone = id; kind = AddZone }
-
-abbrev pub dropZone : ℕ → Request
-dropZone id = record { zone = id; kind = RemoveZone }
-
-abbrev pub insert : Side → Region → ℕ → Request
-insert s r id = record { zone = id; kind = Insert s r }
-
-abbrev pub remove : Side → Region → ℕ → Request
-remove s r id = record { zone = id; kind = Remove s r }
 
 -- requests one after another from the desk's zones, and their numbers
 pub record Shown : Type 0 where

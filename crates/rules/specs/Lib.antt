@@ -17,10 +17,12 @@ pub mod Planner
 pub mod Filling
 pub mod Writer
 pub mod Differing
+pub mod Wanted
 pub mod Desk
 pub mod Story
 pub mod RequestExamples
 pub mod CheckExamples
 pub mod PlanExamples
 pub mod WriterExamples
+pub mod WantedExamples
 pub mod Closure

@@ -7,12 +7,13 @@ use lib.ListN.{take, drop, replicate}
 use Rattle.lists.specs.Bytes.{bytesOf}
 use Rattle.formats.specs.Formats.{got}
 use Rattle.rules.specs.Applying.{store, plain, apply, storeConfig, answerAlone, Terminal}
-use Rattle.rules.specs.Desk.{usual, G, addZone, insert}
+use Rattle.rules.specs.Desk.{usual, G}
 use Rattle.rules.specs.Limits.{limits}
 use Rattle.rules.specs.Fields.{regionOf}
 use Rattle.rules.specs.Plan.{readPlan, encode, Asked, Plan}
 use Rattle.rules.specs.Regions.{noRegion}
 use Rattle.rules.specs.RequestExamples.{_gives_, Shows}
+use Rattle.rules.specs.Requests.{addZone, insert}
 use Rattle.rules.specs.Run.{requestsIn}
 use Rattle.rules.specs.Tables.{emptyZone, Zone}
 use Rattle.rules.specs.declared.Outcome.{Outcome}

@@ -12,11 +12,11 @@ use Rattle.lists.specs.Rules.{Rule}
 use Rattle.rules.specs.Applying.{storeConfig}
 use Rattle.rules.specs.Changes.{withSide}
 use Rattle.rules.specs.Configuration.{check, Configuration}
-use Rattle.rules.specs.Desk.{usual, deskZones, addZone, dropZone, insert, remove}
+use Rattle.rules.specs.Desk.{usual, deskZones}
 use Rattle.rules.specs.Limits.{limits}
 use Rattle.rules.specs.Fields.{regionOf}
 use Rattle.rules.specs.Regions.{noRegion}
-use Rattle.rules.specs.Requests.{requestRules, refusal, next, answers}
+use Rattle.rules.specs.Requests.{addZone, dropZone, insert, remove, requestRules, refusal, next, answers}
 use Rattle.rules.specs.Run.{makeRequest}
 use Rattle.rules.specs.Tables.{emptyZone, sound, Zone}
 use Rattle.rules.specs.Translation.{translation}

@@ -19,6 +19,19 @@ use Rattle.rules.specs.declared.Request.{Request}
 use Rattle.rules.specs.declared.Side.{Side}
 use Rattle.rules.specs.declared.Side.the-variants.{Cpu, Iommu}
 
+-- ---- a request of each kind
+abbrev pub addZone : ℕ → Request
+addZone id = record { zone = id; kind = AddZone }
+
+abbrev pub dropZone : ℕ → Request
+dropZone id = record { zone = id; kind = RemoveZone }
+
+abbrev pub insert : Side → Region → ℕ → Request
+insert s r id = record { zone = id; kind = Insert s r }
+
+abbrev pub remove : Side → Region → ℕ → Request
+remove s r id = record { zone = id; kind = Remove s r }
+
 -- ---- what the rules ask of the table
 -- the position of the zone with that id, or the number of zones
 abbrev pub find : ℕ → List Zone → ℕ

@@ -1,17 +1,17 @@
--- What is written of lists: a list in two parts, the records of words, and the requests of bytes.
-use Prim.Native.Nat.{ℕ, zero, suc, _+_, _-_, _*_, _/_, _≤_, _<_}
+-- What is written of lists: the records of words, and the requests of bytes.
+use Prim.Native.Nat.{ℕ, _+_, _*_, _/_, _≤_}
 use native.Mathlib.Omega.{arith}
-use mathlib.Core.List.{List, [], _∷_, _++_, flatMap, map-map, append-assoc, append-nil}
+use mathlib.Core.List.{List, [], _∷_, _++_, flatMap, map-map}
 use mathlib.Core.Path.{_≡_, refl, sym, ap, _∙_}
 use lib.ListN.{length, getD, take, drop, length-append, length-drop}
 use lib.Seq.{take-at, drop-drop}
 use Rattle.lists.specs.Bytes.{little, bytesOf, Bytes}
 use Rattle.lists.specs.Places.{places, tab}
 use Rattle.lists.specs.Words.{part}
-use Rattle.lists.proofs.Places.{length-tab, tab-cons}
-use Rattle.lists.proofs.Words.{parts-flat, part-add, part-cons, part-none}
-use Rattle.formats.specs.Formats.{got, Format, writeMany, readMany, writeHeaded, listed, All}
-use Rattle.formats.proofs.Formats.{lawful-many}
+use Rattle.lists.proofs.Places.{length-tab}
+use Rattle.lists.proofs.Words.{parts-flat}
+use Rattle.formats.specs.Formats.{got, writeMany, readMany, writeHeaded, listed, All}
+use Rattle.formats.proofs.Formats.{lawful-many, many-append}
 use Rattle.formats.proofs.Widths.{fields-there}
 use Rattle.rules.specs.Fields.{numbersOf}
 use Rattle.rules.specs.Plan.{long, regionField, askedField, requestsFrom, AskedFits, Asked}
@@ -24,35 +24,6 @@ use Rattle.zones.specs.Records.{wordsOfRegion, recordAt, recordsAt}
 use Rattle.zones.proofs.Records.{region-part}
 use Rattle.plan.proofs.Fields.{regionValue, askedIn, askedFormat, wide-asked, in-bytes}
 use Rattle.writer.specs.Writer.{setBytes}
-
-module _ {A : Type 0} (F : Format A) where
-  pub many-append : (xs ys : List A) → writeMany F (xs ++ ys) ≡ writeMany F xs ++ writeMany F ys
-  unfolding writeMany
-  many-append [] ys = refl
-  many-append (x ∷ xs) ys =
-      ap (λ (l : List ℕ). F .write x ++ l) (many-append xs ys)
-      ∙ sym (append-assoc (F .write x) (writeMany F xs) (writeMany F ys))
-
-  pub many-one : (x : A) → writeMany F (x ∷ []) ≡ F .write x
-  unfolding writeMany
-  many-one x = append-nil (F .write x)
-
--- one element more
-tab-snoc : {A : Type 0} (n : ℕ) (f : ℕ → A) → tab (suc n) f ≡ tab n f ++ f n ∷ []
-unfolding tab places
-tab-snoc zero f = refl
-tab-snoc {A} (suc n) f =
-    tab-cons (suc n) f ∙ ap (λ (l : List A). f 0 ∷ l) (tab-snoc n (λ i. f (suc i)))
-    ∙ ap (λ (l : List A). l ++ f (suc n) ∷ []) (sym (tab-cons n f))
-
-pub tab-last : {A : Type 0} (n : ℕ) (f : ℕ → A) → tab (n + 1) f ≡ tab n f ++ f n ∷ []
-tab-last n f = let e : n + 1 ≡ suc n = omega arith in ap (λ (k : ℕ). tab k f) e ∙ tab-snoc n f
-
-pub part-last : (w : List ℕ) (a i : ℕ) → a + i < length w → part a (i + 1) w ≡ part a i w ++ getD w (a + i) 0 ∷ []
-part-last w a i h =
-    part-add a i 1 w
-    ∙ ap (λ (l : List ℕ). part a i w ++ l)
-    (part-cons (a + i) 0 w 0 h ∙ ap (λ (l : List ℕ). getD w (a + i) 0 ∷ l) (part-none (a + i + 1) w))
 
 -- ---- records
 -- the bytes of regions are those of their numbers, one after another

@@ -7,16 +7,16 @@ use mathlib.Core.Path.{_≡_, refl, sym, ap, ap₂, subst, _∙_}
 use borrow.Author.Tests.{leb-true}
 use lib.ListN.{length, getD, take, length-take}
 use Rattle.lists.specs.Bytes.{bytesOf, Bytes}
-use Rattle.lists.specs.First.{all}
 use Rattle.lists.specs.Places.{places, tab}
 use Rattle.lists.specs.Words.{part}
-use Rattle.lists.proofs.Bytes.{length-bytes}
 use Rattle.lists.proofs.Every.{all-at}
-use Rattle.lists.proofs.Places.{length-tab, getD-tab}
+use Rattle.lists.proofs.Places.{length-tab, getD-tab, tab-last}
 use Rattle.lists.proofs.Tests.{parts}
+use Rattle.lists.proofs.Words.{part-last}
 use Rattle.formats.specs.Formats.{writeMany, writeBoth, writeHeaded}
+use Rattle.formats.proofs.Formats.{many-append, many-one}
 use Rattle.puts.specs.Puts.{putAt, Put}
-use Rattle.puts.proofs.Puts.{puts-both, puts-none}
+use Rattle.puts.proofs.Puts.{put-number, puts-both, puts-none}
 use Rattle.rules.specs.Differing.{zonesBytes}
 use Rattle.rules.specs.Limits.{mostRegions, mostZones, mostInSet, highestId, limits}
 use Rattle.rules.specs.Plan.{long, regionField, askedField, marksSection, regionsSection, setFormat, zoneFormat}
@@ -39,12 +39,7 @@ use Rattle.zones.proofs.Readers.{count-word, len-word, start-is}
 use Rattle.zones.proofs.Stepping.{stands-same, stands-ready}
 use Rattle.zones.proofs.Writers.{set-few}
 use Rattle.writer.specs.Writer.{planIn, setBytes, zoneBytes, SetFits, ZoneAt, TableFits}
-use Rattle.writer.proofs.Bytes.{many-append, many-one, tab-last, part-last, records-longs, set-written}
-use Rattle.writer.proofs.Bytes.{asked-bytes, asked-many}
-
--- a number is put
-put-number : (s u : List ℕ) (at k x : ℕ) → u ≡ putAt at (bytesOf k x) s → Put s at (bytesOf k x) u (at + k)
-put-number s u at k x e = record { bytes = e; end = ap (λ (n : ℕ). at + n) (sym (length-bytes k x)) }
+use Rattle.writer.proofs.Bytes.{records-longs, set-written, asked-bytes, asked-many}
 
 -- ---- marks
 pub marks-put : (s u v x y : List ℕ) (gic e : ℕ) → u ≡ putAt 0 (bytesOf 4 3) s → v ≡ putAt 4 (bytesOf 4 gic) u
@@ -68,7 +63,7 @@ pub longs-on : (s u v w : List ℕ) (a i n start at : ℕ) → Put s start (writ
 longs-on s u v w a i n start at p e l m =
     let h : a + i < length w = omega arith in
     subst (λ (b : List ℕ). Put s start b v (at + 8))
-    (sym (ap (writeMany long) (part-last w a i h) ∙ many-append long (part a i w) (getD w (a + i) 0 ∷ [])
+    (sym (ap (writeMany long) (part-last a i w 0 h) ∙ many-append long (part a i w) (getD w (a + i) 0 ∷ [])
     ∙ ap (λ (l : List ℕ). writeMany long (part a i w) ++ l) (many-one long (getD w (a + i) 0))))
     (puts-both s u v start at (at + 8) (writeMany long (part a i w)) (bytesOf 8 (getD w (a + i) 0)) p
     (put-number u v at 8 (getD w (a + i) 0) e))

@@ -74,6 +74,18 @@ pub struct Request {
     pub region: Region,
 }
 
+impl Request {
+    /// Its record, into bytes of its own.
+    fn put(&self, record: &mut [u8]) {
+        record[..4].copy_from_slice(&self.kind.to_le_bytes());
+        record[4..8].copy_from_slice(&self.zone.to_le_bytes());
+        let Region { v, p, size, rights } = self.region;
+        for (bytes, number) in record[8..].chunks_exact_mut(8).zip([v, p, size, rights]) {
+            bytes.copy_from_slice(&number.to_le_bytes());
+        }
+    }
+}
+
 impl Region {
     pub const NUMBERS: usize = 4;
 
@@ -281,6 +293,51 @@ impl Table {
 
     fn position(&self, id: u32) -> Option<usize> {
         self.zones().iter().position(|zone| zone.id == u64::from(id))
+    }
+
+    /// The requests that lead to the wanted table, put into the buffer, and how many there are. They are counted first, and then written.
+    pub fn list_to(&self, config: &Config, wanted: &Table, buffer: &mut [u8]) -> Result<usize, u32> {
+        config.check().map_err(|_| 1u32)?;
+        if !self.is_sound_under(config) || !wanted.is_sound_under(config) {
+            return Err(2);
+        }
+        let mut count = 0;
+        self.each_to(wanted, |_| count += 1);
+        if count > MAX_REQUESTS {
+            return Err(29);
+        }
+        let mut records = buffer.get_mut(..count * REQUEST_BYTES).ok_or(28u32)?.chunks_exact_mut(REQUEST_BYTES);
+        self.each_to(wanted, |request| request.put(records.next().expect("as many records as were counted")));
+        Ok(count)
+    }
+
+    /// The requests that lead to the wanted table, one after another.
+    fn each_to(&self, wanted: &Table, mut take: impl FnMut(&Request)) {
+        self.each_lacked_by(wanted, [4, 6], &mut take);
+        self.each_missing_in(wanted, 2, &mut take);
+        wanted.each_missing_in(self, 1, &mut take);
+        wanted.each_lacked_by(self, [3, 5], &mut take);
+    }
+
+    /// A request, of these kinds for the two sides, for each region that the other table has not in that set.
+    fn each_lacked_by(&self, other: &Table, kinds: [u32; 2], take: &mut impl FnMut(&Request)) {
+        for zone in self.zones() {
+            let id = zone.id as u32;
+            let there = other.position(id).map(|place| &other.zones[place]);
+            for (side, kind) in [Side::Cpu, Side::Iommu].into_iter().zip(kinds) {
+                let held = there.map_or(&[][..], |zone| zone.set(side).regions());
+                for region in zone.set(side).regions().iter().filter(|region| !held.contains(region)) {
+                    take(&Request { kind, zone: id, region: *region });
+                }
+            }
+        }
+    }
+
+    /// A request of this kind for each zone that the other table has not.
+    fn each_missing_in(&self, other: &Table, kind: u32, take: &mut impl FnMut(&Request)) {
+        for zone in self.zones().iter().filter(|zone| other.position(zone.id as u32).is_none()) {
+            take(&Request { kind, zone: zone.id as u32, region: Region::ZERO });
+        }
     }
 
     /// One request from outside.
@@ -627,6 +684,13 @@ mod tests {
                 with_place(read.map(|plan| plan.requests_at as u64).map_err(|(number, at)| (number, at as u64)))
             }
             Question::Apply => state.apply(&case.plan),
+            Question::List => {
+                let wanted = State::from_words(&case.config, &case.wanted(), 0).table;
+                let mut buffer = case.buffer.clone();
+                let listed = state.table.list_to(&state.config, &wanted, &mut buffer);
+                assert!(buffer == case.ordinary().left[0].buffer, "the buffer afterwards");
+                with_place(listed.map(|count| count as u64).map_err(|number| (number, 0)))
+            }
             _ => unreachable!("no job asks it"),
         }
     }

@@ -297,6 +297,47 @@ fn translate(name: &str, terminal: Terminal) -> Job {
     }
 }
 
+/// The list from one table to another under one configuration, into a buffer that is long enough.
+fn list(name: &str, terminal: Terminal, wanted: ordinary::Table) -> Job {
+    let state = ordinary::State { table: wanted, ..(*terminal.vectors).clone() };
+    let Terminal { library: wanted_by_library, vectors: wanted_by_vectors, fixed: wanted_by_fixed } = Terminal::from(state);
+    let Terminal { library, vectors, fixed } = terminal;
+    let count = vectors.table.requests_to(&vectors.config, &wanted_by_vectors.table).expect("a list").len();
+    let buffers = [(); 3].map(|()| vec![0; MAX_REQUESTS * ordinary::layout::REQUEST_BYTES]);
+    let [mut of_library, mut of_vectors, mut of_fixed] = buffers;
+    Job {
+        name: format!("list from two tables, {name}: {count} requests"),
+        answer: (0, [count as u64, 0]),
+        library: Box::new(move || {
+            let state = black_box(&*library);
+            let (number, count) =
+                raw::list_words(&state.config, &state.table, &black_box(&wanted_by_library).table, black_box(&mut of_library));
+            (number, [count, 0])
+        }),
+        vectors: Box::new(move || {
+            let state = black_box(&*vectors);
+            match state.table.write_requests_to(&state.config, &black_box(&wanted_by_vectors).table, black_box(&mut of_vectors)) {
+                Ok(count) => (0, [count as u64, 0]),
+                Err(refusal) => (refusal.number(), [0, 0]),
+            }
+        }),
+        fixed: Box::new(move || {
+            let state = black_box(&*fixed);
+            match state.table.list_to(&state.config, &black_box(&wanted_by_fixed).table, black_box(&mut of_fixed)) {
+                Ok(count) => (0, [count as u64, 0]),
+                Err(number) => (number, [0, 0]),
+            }
+        }),
+    }
+}
+
+/// The same zones in which the first `count` are known under other ids: all that they hold goes and comes again.
+fn under_other_ids(terminal: &Terminal, count: usize) -> ordinary::Table {
+    let mut zones = terminal.zones().to_vec();
+    zones.iter_mut().take(count).for_each(|zone| zone.id += 100);
+    ordinary::Table { zones }
+}
+
 /// A plan read and not applied.
 fn read(name: &str, terminal: Terminal, requests: &[Record]) -> Job {
     let plan = encode(&terminal.vectors, requests);
@@ -359,6 +400,10 @@ pub fn all() -> Vec<Job> {
         check_table("4 regions, 2 zones", small.clone()),
         translate(&full_name, full.clone()),
         translate("4 regions, 2 zones", small.clone()),
+        list(&format!("14 zones under other ids, {full_name}"), full.clone(), under_other_ids(&full, 14)),
+        list(&format!("the same, {full_name}"), full.clone(), under_other_ids(&full, 0)),
+        list("a zone under another id, 16 regions, 4 zones", typical.clone(), under_other_ids(&typical, 1)),
+        list("a zone under another id, 4 regions, 2 zones", small.clone(), under_other_ids(&small, 1)),
         read(&full_name, full.clone(), &all_zones(&full, 512)),
         read("16 regions, 4 zones", typical.clone(), &one_region(&typical, 16)),
         read("4 regions, 2 zones", small.clone(), &one_region(&small, 2)),

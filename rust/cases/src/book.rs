@@ -40,6 +40,7 @@ impl Named {
             Question::Write => format!("{number} {place} {other} {}", mixed(&after.left[0].buffer)),
             Question::Zones => format!("{number} {place} {}", mixed(&after.left[0].buffer)),
             Question::Lacking => format!("{place} {:?}", after.left[0].words),
+            Question::List => format!("{number} {place} {}", mixed(&after.left[0].buffer)),
         };
         format!("{}: {answer}", self.name)
     }
@@ -141,6 +142,11 @@ impl Book {
     /// byte, 2 where only the second has ended.
     pub fn ask_lacking(&mut self, name: impl Into<String>, first: &[u8], second: &[u8]) -> &mut Named {
         self.ask(name.into(), Case::lacking(first.to_vec(), second.to_vec()))
+    }
+
+    /// The list to this table, into a buffer of so many bytes.
+    pub fn ask_list(&mut self, name: impl Into<String>, wanted: TableWords, room: usize) -> &mut Named {
+        self.ask(name.into(), Case::list(self.config, self.table, &wanted, vec![0xa5; room]))
     }
 
     fn deliver(&mut self, name: String, case: Case) -> &mut Named {

@@ -24,6 +24,7 @@ pub enum Question {
     Zones,
     Base,
     Lacking,
+    List,
 }
 
 /// How many numbers a question can take: a request has its kind, its zone and those of its region.
@@ -40,6 +41,8 @@ pub struct Case {
     pub numbers: [u64; NUMBERS],
     /// Of two stretches of bytes the first.
     pub plan: Vec<u8>,
+    /// Where requests are listed: the words of the wanted table.
+    pub wanted: Vec<u64>,
     /// Where the plan comes in pieces: how long they are, one after another, the rest of the plan being the last one.
     pub lengths: Vec<usize>,
     /// The buffer that is lent; of two stretches of bytes the second.
@@ -94,7 +97,7 @@ impl Case {
     fn new(question: Question, config: ConfigWords, table: TableWords, given: &[u64], plan: Vec<u8>) -> Case {
         let mut numbers = [0; NUMBERS];
         numbers[..given.len()].copy_from_slice(given);
-        Case { question, config, table, numbers, plan, lengths: Vec::new(), buffer: Vec::new() }
+        Case { question, config, table, numbers, plan, wanted: Vec::new(), lengths: Vec::new(), buffer: Vec::new() }
     }
 
     pub fn config(config: ConfigWords) -> Case {
@@ -167,6 +170,17 @@ impl Case {
         }
     }
 
+    /// The list from one table to another, into a buffer.
+    pub fn list(config: ConfigWords, table: TableWords, wanted: &TableWords, buffer: Vec<u8>) -> Case {
+        let case = Case::new(Question::List, config, table, &[], Vec::new());
+        Case { wanted: wanted.to_vec(), buffer, ..case }
+    }
+
+    /// The words of the wanted table.
+    pub fn wanted(&self) -> TableWords {
+        self.wanted[..].try_into().expect("a table's words")
+    }
+
     /// The pieces, which together are the plan.
     pub fn cut(&self) -> Vec<&[u8]> {
         let mut rest = &self.plan[..];
@@ -235,6 +249,7 @@ impl Case {
                 Err(fault) => self.unchanged(fault.number(), [fault.offset() as u64, base_zones(&self.plan).len() as u64]),
             },
             Question::Lacking => self.lacking_ordinary(),
+            Question::List => self.list_ordinary(),
         }
     }
 
@@ -294,6 +309,21 @@ impl Case {
         let number = Case::way(words);
         let left = vec![Left { number, words, buffer: self.buffer.clone() }];
         Answer { left, ..self.unchanged(number, [place as u64, 0]) }
+    }
+
+    /// The list put into the buffer. A table whose words are none is unsound, and so counts for 2.
+    fn list_ordinary(&self) -> Answer {
+        let mut buffer = self.buffer.clone();
+        let answer = match (self.base_state(), Table::from_words(&self.wanted())) {
+            (Err(number), _) => self.unchanged(number, [0, 0]),
+            (Ok(State { config, .. }), None) => self.unchanged(config.check().map_or(1, |()| 2), [0, 0]),
+            (Ok(State { config, table, .. }), Some(wanted)) => match table.write_requests_to(&config, &wanted, &mut buffer) {
+                Ok(count) => self.unchanged(0, [count as u64, 0]),
+                Err(refusal) => self.unchanged(refusal.number(), [0, 0]),
+            },
+        };
+        let left = vec![Left { number: answer.number, words: [0, 0], buffer }];
+        Answer { left, ..answer }
     }
 
     /// The state that the words are, or the first of 1 and 2 where they are none. Whether a state is sound, whatever is asked next says
@@ -361,6 +391,10 @@ impl fmt::Display for Case {
             Question::Zones => writeln!(f, "  into a buffer of {}: {}", self.buffer.len(), hex(&self.buffer))?,
             Question::Lacking => writeln!(f, "  beside a stretch of {}: {}", self.buffer.len(), hex(&self.buffer))?,
             _ => {}
+        }
+        if self.question == Question::List {
+            write_words(f, "  wanted", &self.wanted)?;
+            writeln!(f, "  into a buffer of {}: {}", self.buffer.len(), hex(&self.buffer))?;
         }
         if self.question == Question::Pieces {
             writeln!(

@@ -9,7 +9,9 @@ use crate::drawn::{poke_config, poke_table, sound_config, sound_zones};
 use crate::fields::Plan;
 use crate::files::{all_zones, first, flipped, in_and_out, least, longest, longest_sound, page, rich};
 use crate::files::{rich_regions_with, rich_zones, H, LAST_EDITION, X};
-use crate::given::{of_region, of_zone, table_words, with_p, with_rights, with_size, with_v, with_word, zone, P, RIGHTS};
+use crate::given::{
+    config_words, of_region, of_zone, table_words, with_p, with_rights, with_size, with_v, with_word, zone, P, RIGHTS,
+};
 use crate::given::{A, ADD_ZONE, B, C, CPU_INSERT, CPU_REMOVE, G, IOMMU_INSERT, IOMMU_REMOVE, REMOVE_ZONE};
 use crate::requests::random_request;
 use crate::rng::Rng;
@@ -33,6 +35,7 @@ pub fn add(book: &mut Book, rng: &mut Rng) {
     in_pieces(book);
     written(book);
     bases(book);
+    listed(book);
     runs(book, rng);
 }
 
@@ -428,6 +431,50 @@ fn bases(book: &mut Book) {
     ask("something beside nothing", &rich_section, &[], 2, 0);
     ask("nothing beside nothing", &[], &[], 0, 0);
     ask("the first byte", &[1, 2, 3], &[9, 2, 3], 1, 0);
+}
+
+// ---- the list from two tables
+
+fn listed(book: &mut Book) {
+    let config = Config { regions: vec![A, B, C, G], gic: 3 };
+    let mut ask = |name: &str, from: &[Zone], to: &[Zone], room: usize, number: u32, count: usize| {
+        book.change_to(config.to_words(), table_words(from));
+        let named = book.ask_list(format!("listed: {name}"), table_words(to), room * REQUEST_BYTES);
+        named.known_with(number, [count as u64, 0]);
+    };
+    let [five, six] = [zone(5, &[A], &[A, G]), zone(6, &[B], &[G])];
+    let both = [five.clone(), six.clone()];
+    ask("no zones", &[], &[], 0, 0, 0);
+    ask("the same table", &both, &both, 0, 0, 0);
+    ask("zones and sets in another order", &both, &[six.clone(), zone(5, &[A], &[G, A])], 0, 0, 0);
+    ask("nothing in common", &[five.clone()], &[six.clone()], 8, 0, 7);
+    ask("from no zones", &[], &both, 8, 0, 7);
+    ask("to no zones", &both, &[], 8, 0, 7);
+    ask("a region to another zone", &[zone(5, &[A], &[]), six.clone()], &[zone(5, &[], &[]), zone(6, &[B], &[G, A])], 2, 0, 2);
+    ask("a region to the other side", &[zone(5, &[A], &[])], &[zone(5, &[], &[A])], 2, 0, 2);
+    ask("two zones exchange all", &both, &[zone(5, &[B], &[G]), zone(6, &[A], &[A, G])], 6, 0, 6);
+    ask("into a buffer a record too short", &both, &[zone(5, &[B], &[G]), zone(6, &[A], &[A, G])], 5, 28, 0);
+    ask("an unsound table", &[zone(5, &[A], &[]), zone(5, &[], &[])], &both, 9, 2, 0);
+    ask("an unsound wanted table", &both, &[zone(5, &[A], &[]), zone(6, &[A], &[])], 9, 2, 0);
+
+    // Every zone holds eight regions of its own on both sides, and the GIC: under another id it goes and comes again, in 36 requests.
+    let all: Vec<Region> = (0..MAX_REGIONS).map(page).collect();
+    let (gic, own) = all.split_last().expect("a region");
+    let held = |id: u32, cpu: &[Region], iommu: &[Region]| zone(id, cpu, &[iommu, &[*gic]].concat());
+    let zones = |first: u32| own.chunks(8).zip(first..).map(|(own, id)| held(id, own, own)).collect::<Vec<_>>();
+    let full = zones(0);
+    let but_one = |left: Zone| [&zones(100)[..14], &[left], &full[15..]].concat();
+    let its_own = &own[14 * 8..];
+    for (name, to, number, count) in [
+        ("as many as a plan may have", but_one(held(14, &its_own[..4], &its_own[..4])), 0, MAX_REQUESTS as u64),
+        ("one more", but_one(held(14, &its_own[..3], &its_own[..4])), 29, 0),
+        ("every zone under another id", zones(100), 29, 0),
+    ] {
+        book.change_to(config_words(&all, MAX_REGIONS - 1), table_words(&full));
+        book.ask_list(format!("listed: {name}"), table_words(&to), MAX_REQUESTS * REQUEST_BYTES).known_with(number, [count, 0]);
+    }
+    book.change_to([0; CONFIG_WORDS], table_words(&full));
+    book.ask_list("listed: 1 comes before 2", [u64::MAX; TABLE_WORDS], 0).known_with(1, [0, 0]);
 }
 
 // ---- random runs of plans

@@ -120,6 +120,14 @@ fn ask_library(case: &Case, state: &mut Lent, left: &mut Vec<Left>) -> (u32, [u6
             left.push(Left { number, words: bytes, buffer: case.buffer.clone() });
             (number, [place, 0])
         }
+        Question::List => {
+            let mut buffer = case.buffer.clone();
+            let wanted = peatmitten::Table::from_words(case.wanted());
+            let (number, count) = raw::list_words(&state.config, &state.table, black_box(&wanted), black_box(&mut buffer));
+            assert!(*black_box(&wanted).words() == case.wanted(), "the wanted table is only read");
+            left.push(Left { number, words: [0, 0], buffer });
+            (number, [count, 0])
+        }
     }
 }
 

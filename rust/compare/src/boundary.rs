@@ -18,7 +18,7 @@ const C: Region = Region::new(0x4010_0000, 0x9000_0000, 0x20_0000, 3);
 const G: Region = Region::new(0x0800_0000, 0x0800_0000, 0x1_0000, 3);
 
 /// All cases, in parts: of all at once the words would take a gigabyte.
-pub const PARTS: [fn() -> Vec<Case>; 16] = [
+pub const PARTS: [fn() -> Vec<Case>; 17] = [
     config_cases,
     table_cases,
     request_cases,
@@ -35,6 +35,7 @@ pub const PARTS: [fn() -> Vec<Case>; 16] = [
     zones_written,
     bases_found,
     stretches,
+    lists_between_tables,
 ];
 
 fn zone(id: u32, cpu: &[Region], iommu: &[Region]) -> Zone {
@@ -584,6 +585,105 @@ fn stretches() -> Vec<Case> {
         cases.extend(few.iter().map(|second| Case::lacking(first.clone(), second.clone())));
     }
     cases
+}
+
+/// From every state to every other table under its configuration and to others that are made of it, there and back, with buffers around the
+/// list's length; and lists as long as a plan may have, one request more, and as long as there can be.
+fn lists_between_tables() -> Vec<Case> {
+    let mut cases = Vec::new();
+    let mut add = |config: &Config, from: &Table, to: &Table| {
+        let most = Case::list(config.to_words(), from.to_words(), &to.to_words(), vec![0xa5; MAX_REQUESTS * REQUEST_BYTES + 9]);
+        let length = most.ordinary().places[0] as usize * REQUEST_BYTES;
+        for room in [0, length.saturating_sub(1), length, length + 1] {
+            cases.push(Case { buffer: vec![0xa5; room], ..most.clone() });
+        }
+        cases.push(most);
+    };
+    let states = states();
+    for state in &states {
+        let of_its_own = states.iter().filter(|other| other.config == state.config).map(|other| other.table.clone());
+        for other in of_its_own.chain(neighbours(&state.table)) {
+            add(&state.config, &state.table, &other);
+            add(&state.config, &other, &state.table);
+        }
+    }
+    for long in [MAX_REQUESTS - 1, MAX_REQUESTS, MAX_REQUESTS + 1] {
+        let (config, from, to) = so_far_apart(long);
+        add(&config, &from, &to);
+        add(&config, &to, &from);
+    }
+    let full = all_held(MAX_REGIONS);
+    let mut turned = full.table.clone();
+    turned.zones.iter_mut().for_each(|zone| zone.id += MAX_ZONES as u32);
+    add(&full.config, &full.table, &turned);
+    let state = desk(&[zone(5, &[A], &[A, G]), zone(6, &[B], &[])]);
+    let (config, table) = (state.config.to_words(), state.table.to_words());
+    let wanted = desk(&[zone(6, &[C], &[G])]).table.to_words();
+    cases.extend((0..=6 * REQUEST_BYTES + 3).map(|room| Case::list(config, table, &wanted, vec![0x5a; room])));
+    for broken in broken_tables() {
+        cases.push(Case::list(config, broken, &wanted, vec![9; 300]));
+        cases.push(Case::list(config, table, &broken, vec![9; 300]));
+        cases.push(Case::list([0; CONFIG_WORDS], table, &broken, vec![9; 300]));
+    }
+    cases
+}
+
+/// Tables like this one: without zones, the same, with its zones or their sets turned round, without its last zone, with one region less in a
+/// set of its first or last zone; and where it has two zones, with those two exchanged, or with a region of the last moved to the first.
+fn neighbours(table: &Table) -> Vec<Table> {
+    let mut tables = vec![Table { zones: Vec::new() }, table.clone()];
+    let mut change = |of: &dyn Fn(&mut Vec<Zone>)| {
+        let mut zones = table.zones.clone();
+        of(&mut zones);
+        tables.push(Table { zones });
+    };
+    change(&|zones| zones.reverse());
+    change(&|zones| {
+        for zone in zones {
+            zone.cpu.reverse();
+            zone.iommu.reverse();
+        }
+    });
+    let Some(last) = table.zones.len().checked_sub(1) else { return tables };
+    change(&|zones| zones.truncate(last));
+    for at in [0, last] {
+        change(&|zones| {
+            zones[at].cpu.pop();
+        });
+        change(&|zones| {
+            zones[at].iommu.pop();
+        });
+    }
+    if last > 0 {
+        change(&|zones| (zones[0].id, zones[last].id) = (zones[last].id, zones[0].id));
+        change(&|zones| {
+            let moved = zones[last].cpu.pop();
+            zones[last].iommu.retain(|region| Some(*region) != moved);
+            zones[0].iommu.extend(moved);
+        });
+    }
+    tables
+}
+
+/// Two tables so many requests apart: all regions in the zones of one, and the same in zones with other ids, some of them the same.
+fn so_far_apart(requests: usize) -> (Config, Table, Table) {
+    let full = all_held(MAX_REGIONS);
+    let mut to = full.table.clone();
+    let mut left = requests;
+    for zone in &mut to.zones {
+        // A zone under another id goes and comes with all that it holds; else regions go from its set.
+        let under_another_id = 2 * (zone.cpu.len() + zone.iommu.len() + 1);
+        if left >= under_another_id {
+            zone.id += MAX_ZONES as u32;
+            left -= under_another_id;
+        } else {
+            let gone = left.min(zone.cpu.len());
+            zone.cpu.truncate(zone.cpu.len() - gone);
+            left -= gone;
+        }
+    }
+    assert_eq!(left, 0, "there are zones enough");
+    (full.config, full.table, to)
 }
 
 /// A plan with as many of everything as there can be.

@@ -298,6 +298,39 @@ fn buffer_about(rng: &mut Rng, length: usize) -> Vec<u8> {
     (0..room).map(|_| rng.word() as u8).collect()
 }
 
+/// As many zones and regions as there can be, dealt out at random, and some of the regions dealt out again: so many that a list is on either
+/// side of what a plan has room for.
+fn dealt_twice(rng: &mut Rng) -> (ConfigWords, TableWords, TableWords) {
+    let page = |number: u64| Region::new(number * PAGE, number * PAGE, PAGE, 3);
+    let config = Config { regions: (0..MAX_REGIONS as u64).map(page).collect(), gic: 0 };
+    let mut table = Table { zones: (0..MAX_ZONES as u32).map(Zone::empty).collect() };
+    config.regions[1..].iter().for_each(|region| deal(rng, &mut table, *region));
+    let mut other = table.clone();
+    for region in &config.regions[1 + rng.below(MAX_REGIONS - 1)..] {
+        for zone in &mut other.zones {
+            zone.cpu.retain(|held| held != region);
+            zone.iommu.retain(|held| held != region);
+        }
+        deal(rng, &mut other, *region);
+    }
+    rng.shuffle(&mut other.zones);
+    (config.to_words(), table.to_words(), other.to_words())
+}
+
+/// Gives a region to a zone that has room for it, on one side or on both.
+fn deal(rng: &mut Rng, table: &mut Table, region: Region) {
+    let has_room = |zone: &&mut Zone| zone.cpu.len() < MAX_IN_SET && zone.iommu.len() < MAX_IN_SET;
+    let mut zones: Vec<&mut Zone> = table.zones.iter_mut().filter(has_room).collect();
+    let at = rng.below(zones.len());
+    let sides = rng.below(4);
+    if sides != 0 {
+        zones[at].cpu.push(region);
+    }
+    if sides != 1 {
+        zones[at].iommu.push(region);
+    }
+}
+
 /// No zone; or, so that a table fills up, empty ones, nearly as many as there can be.
 fn first_table(rng: &mut Rng) -> Table {
     let count = if rng.one_in(3) { MAX_ZONES - rng.below(4) } else { 0 };
@@ -328,7 +361,7 @@ impl World {
     pub fn case(&mut self, rng: &mut Rng) -> Case {
         self.change(rng, 3);
         self.state.edition = edition(rng);
-        match rng.below(25) {
+        match rng.below(26) {
             0..=2 => self.config_case(rng),
             3..=5 => self.table_case(rng),
             6..=10 => self.request_case(rng),
@@ -340,6 +373,7 @@ impl World {
             17 => self.zones_case(rng),
             18 => Case::base(self.plan(rng)),
             19 => self.lacking_case(rng),
+            20 => self.list_case(rng),
             _ => self.apply_case(rng),
         }
     }
@@ -517,6 +551,80 @@ impl World {
         } else {
             Case::lacking(second, first)
         }
+    }
+
+    /// This table and another, most often a sound one: the same in any order, one that requests lead to, one that has little in common with it,
+    /// one with a region moved, or with two zones exchanged. The list goes either way, and the buffer is on either side of its length.
+    fn list_case(&self, rng: &mut Rng) -> Case {
+        let (config, table) = self.base(rng);
+        let (config, table, wanted) = match rng.below(12) {
+            0 => (config, table, self.damaged_base(rng).1),
+            1 => (config, table, bent_table(rng, &self.state).to_words()),
+            2..=3 => dealt_twice(rng),
+            _ => (config, table, self.wanted(rng).to_words()),
+        };
+        let (from, to) = if rng.one_in(2) { (table, wanted) } else { (wanted, table) };
+        let case = Case::list(config, from, &to, vec![0; MAX_REQUESTS * REQUEST_BYTES]);
+        let length = case.ordinary().places[0] as usize * REQUEST_BYTES;
+        Case { buffer: buffer_about(rng, length), ..case }
+    }
+
+    /// Another sound table under this configuration.
+    fn wanted(&self, rng: &mut Rng) -> Table {
+        let mut zones = self.state.table.zones.clone();
+        match rng.below(8) {
+            0 => {}
+            1 => {
+                rng.shuffle(&mut zones);
+                for zone in &mut zones {
+                    rng.shuffle(&mut zone.cpu);
+                    rng.shuffle(&mut zone.iommu);
+                }
+            }
+            2 if zones.len() > 1 => {
+                let (one, other) = (rng.below(zones.len()), rng.below(zones.len()));
+                let id = zones[one].id;
+                zones[one].id = std::mem::replace(&mut zones[other].id, id);
+            }
+            3 => {
+                let step = 1 + rng.below(3) as u32;
+                zones.iter_mut().for_each(|zone| zone.id = (zone.id + step * MAX_ZONES as u32) % 256);
+            }
+            4 => return self.with_one_moved(rng),
+            5 => {
+                let mut world = World { state: State { table: first_table(rng), ..self.state.clone() } };
+                let steps = rng.below(160);
+                world.change(rng, steps);
+                return world.state.table;
+            }
+            _ => {
+                let mut world = World { state: self.state.clone() };
+                let steps = rng.below(24);
+                world.change(rng, steps);
+                return world.state.table;
+            }
+        }
+        let table = Table { zones };
+        // Ids that wrapped round may meet.
+        if table.is_sound(&self.state.config) {
+            table
+        } else {
+            self.state.table.clone()
+        }
+    }
+
+    /// One region that a zone holds, in a set of another zone, or in its other set.
+    fn with_one_moved(&self, rng: &mut Rng) -> Table {
+        let mut table = self.state.table.clone();
+        let zone = zone_id(rng, &table);
+        let region = held(rng, &self.state.config, &table, zone);
+        let to = zone_id(rng, &table);
+        for kind in [4, 6] {
+            // Of a set that has it not, nothing goes.
+            let _ = table.perform(&self.state.config, &Record { kind, zone, region });
+        }
+        let _ = table.perform(&self.state.config, &Record { kind: *rng.pick(&[3, 5]), zone: to, region });
+        table
     }
 }
 

@@ -18,6 +18,7 @@ fn smaller(case: &Case, holds: &impl Fn(&Case) -> bool) -> Option<Case> {
     shorten_plan(&mut smaller, holds);
     zero_each(&mut smaller, holds, |case| &mut case.config);
     zero_each(&mut smaller, holds, |case| &mut case.table);
+    zero_each(&mut smaller, holds, |case| &mut case.wanted);
     zero_each(&mut smaller, holds, |case| &mut case.numbers);
     zero_each(&mut smaller, holds, |case| &mut case.plan);
     zero_each(&mut smaller, holds, |case| &mut case.lengths);

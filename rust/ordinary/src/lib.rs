@@ -1,5 +1,5 @@
 //! The rules of document 01, as the landed requests of document 02 amend them, in ordinary Rust: regions, configurations, tables,
-//! requests, translation, plans, terminals and receivers.
+//! requests, translation, plans, terminals and receivers, and requests from two tables.
 //!
 //! It is the second reading of the rules, written from the document alone and sharing nothing with the proved code, so that the
 //! two can be compared (`rust/compare`) and measured against each other (`rust/bench`). By it `rust/cases` makes the stored plan
@@ -17,6 +17,7 @@ mod region;
 mod request;
 mod table;
 mod terminal;
+mod wanted;
 mod words;
 mod writer;
 
@@ -28,6 +29,7 @@ pub use region::{Guest, Phys, Region, Rights};
 pub use request::{Action, Record, Refusal};
 pub use table::{Side, Table, Translated, Zone};
 pub use terminal::{apply_alone, PlanRefusal, State};
+pub use wanted::ListRefusal;
 pub use words::{ConfigWords, TableWords, CONFIG_WORDS, TABLE_WORDS};
 pub use writer::WriteRefusal;
 

@@ -212,9 +212,7 @@ pub fn encode(base: &State, requests: &[Record]) -> Vec<u8> {
     plan.extend(encode_zones(&base.table));
     put_u32(&mut plan, requests.len() as u32);
     for request in requests {
-        put_u32(&mut plan, request.kind);
-        put_u32(&mut plan, request.zone);
-        put_region(&mut plan, &request.region);
+        put_request(&mut plan, request);
     }
     plan
 }
@@ -229,6 +227,13 @@ pub fn encode_zones(table: &Table) -> Vec<u8> {
         put_regions(&mut section, &zone.iommu);
     }
     section
+}
+
+/// A request's bytes, at the end of others.
+pub(crate) fn put_request(plan: &mut Vec<u8>, request: &Record) {
+    put_u32(plan, request.kind);
+    put_u32(plan, request.zone);
+    put_region(plan, &request.region);
 }
 
 fn put_u32(plan: &mut Vec<u8>, number: u32) {

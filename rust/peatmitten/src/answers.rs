@@ -431,6 +431,55 @@ impl fmt::Display for WriteRefusal {
 
 impl Error for WriteRefusal {}
 
+/// Why there is no list of requests from one table to another: 1, 2, 29 and 28, in this order.
+#[derive(Clone, Copy, Debug, PartialEq, Eq, Hash)]
+pub enum ListRefusal {
+    /// 1: the configuration is unsound.
+    UnsoundConfig,
+    /// 2: one of the two tables is unsound.
+    UnsoundTable,
+    /// 29: the list is longer than that of a plan can be.
+    TooManyRequests,
+    /// 28: the buffer is shorter than the list.
+    BufferShort,
+}
+
+impl ListRefusal {
+    pub(crate) fn from_library(number: u32) -> Result<(), ListRefusal> {
+        Err(match number {
+            0 => return Ok(()),
+            1 => ListRefusal::UnsoundConfig,
+            2 => ListRefusal::UnsoundTable,
+            28 => ListRefusal::BufferShort,
+            29 => ListRefusal::TooManyRequests,
+            _ => not_an_answer(number),
+        })
+    }
+
+    /// The document's number.
+    pub fn number(&self) -> u32 {
+        match self {
+            ListRefusal::UnsoundConfig => 1,
+            ListRefusal::UnsoundTable => 2,
+            ListRefusal::BufferShort => BufferShort.number(),
+            ListRefusal::TooManyRequests => 29,
+        }
+    }
+}
+
+impl fmt::Display for ListRefusal {
+    fn fmt(&self, f: &mut fmt::Formatter) -> fmt::Result {
+        match self {
+            ListRefusal::UnsoundConfig => write!(f, "the configuration is unsound"),
+            ListRefusal::UnsoundTable => write!(f, "one of the tables is unsound"),
+            ListRefusal::TooManyRequests => write!(f, "there are more requests than a plan can have"),
+            ListRefusal::BufferShort => BufferShort.fmt(f),
+        }
+    }
+}
+
+impl Error for ListRefusal {}
+
 /// 28: a buffer that was lent is too short.
 #[derive(Clone, Copy, Debug, PartialEq, Eq, Hash)]
 pub struct BufferShort;

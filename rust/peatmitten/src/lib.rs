@@ -47,9 +47,10 @@ mod region;
 mod request;
 mod store;
 mod table;
+mod wanted;
 mod writer;
 
-pub use answers::{BufferShort, ConfigFault, PlanRefusal, ReadFault, Refusal, WriteRefusal};
+pub use answers::{BufferShort, ConfigFault, ListRefusal, PlanRefusal, ReadFault, Refusal, WriteRefusal};
 pub use config::{Config, CONFIG_WORDS};
 pub use differing::{base_zones, first_difference, lacking_part, Difference};
 pub use plan::{base_edition, read_plan, State};

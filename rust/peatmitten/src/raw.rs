@@ -83,6 +83,14 @@ mod library {
             second_length: usize,
             bytes: *mut [u64; 2],
         ) -> u64;
+        pub fn peatmitten_wanted_words(
+            config: *const Config,
+            from: *const Table,
+            to: *const Table,
+            buffer: *mut u8,
+            buffer_length: usize,
+            count: *mut [u64; 1],
+        ) -> u32;
     }
 }
 
@@ -214,4 +222,12 @@ pub fn lacking(first: &[u8], second: &[u8]) -> (u64, [u64; 2]) {
     let mut bytes = [UNWRITTEN; 2];
     let place = unsafe { library::peatmitten_lacking(first.as_ptr(), first.len(), second.as_ptr(), second.len(), &mut bytes) };
     (place, bytes)
+}
+
+/// The number for which no requests are listed that lead from one table to the other, or 0, and how many there are. They are records as a plan
+/// holds them. The buffer changes only where the number is 0.
+pub fn list_words(config: &Config, from: &Table, to: &Table, buffer: &mut [u8]) -> (u32, u64) {
+    let mut count = [UNWRITTEN];
+    let number = unsafe { library::peatmitten_wanted_words(config, from, to, buffer.as_mut_ptr(), buffer.len(), &mut count) };
+    (number, count[0])
 }

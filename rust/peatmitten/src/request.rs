@@ -69,6 +69,20 @@ impl Request {
         Request { kind, zone, region }
     }
 
+    /// How many bytes its record has.
+    pub const BYTES: usize = 2 * Request::SHORT_BYTES + 8 * Region::WORDS;
+
+    /// How many bytes its kind and its zone have each.
+    const SHORT_BYTES: usize = 4;
+
+    /// The request whose record these bytes are.
+    pub(crate) fn from_bytes(record: &[u8]) -> Request {
+        let (short, long) = record.split_at(2 * Request::SHORT_BYTES);
+        let short = |at: usize| u32::from_le_bytes(std::array::from_fn(|byte| short[at + byte]));
+        let words = std::array::from_fn(|word| u64::from_le_bytes(std::array::from_fn(|byte| long[8 * word + byte])));
+        Request::from_numbers(short(0), short(Request::SHORT_BYTES), Region::from_words(words))
+    }
+
     /// Its record, as a plan holds it.
     pub fn to_bytes(&self) -> Vec<u8> {
         let short = [self.kind, self.zone].into_iter().flat_map(u32::to_le_bytes);

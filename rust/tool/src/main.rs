@@ -1,5 +1,5 @@
 //! Plans and state files at a shell, for people who test an agent, make plans or stand at a service desk: `./peatmitten run`, `base`, `show`,
-//! `write` and `differ`. Every number, place and byte is the library's; this program reads arguments and files, and prints.
+//! `write`, `plan` and `differ`. Every number, place and byte is the library's; this program reads arguments and files, and prints.
 //!
 //! The exit status is 0 for a plan that is accepted (`show`: that reads whole; `differ`: that is for the terminal's base), 1 for one that is
 //! refused, and 2 where an argument or a file is not as it should be, or what is printed cannot be written.
@@ -16,10 +16,10 @@ use std::path::Path;
 use std::process::ExitCode;
 
 use peatmitten::limits::LONGEST_PLAN;
-use peatmitten::{base_edition, first_difference, PlanRefusal, Reading, State};
+use peatmitten::{base_edition, first_difference, PlanRefusal, Reading, Request, State};
 
 const USAGE: &str =
-    "usage: peatmitten run [--words] STATE PLAN... | base PLAN >STATE | show PLAN | write TEXT >PLAN | differ STATE PLAN";
+    "usage: peatmitten run [--words] STATE PLAN... | base PLAN >STATE | show PLAN | write TEXT >PLAN | plan FROM WANTED >PLAN | differ STATE PLAN";
 
 /// More bytes than the text of the longest plan has.
 const LONGEST_TEXT: u64 = 1 << 24;
@@ -48,6 +48,7 @@ fn answer(arguments: &[OsString]) -> Answer {
         (Some("show"), [plan]) => show(plan),
         (Some("write"), [text]) => write(text),
         (Some("differ"), [state, plan]) => differ(state, plan),
+        (Some("plan"), [from, wanted]) => plan(from, wanted),
         _ => Err(USAGE.to_string()),
     }
 }
@@ -96,13 +97,47 @@ fn write(path: &OsStr) -> Answer {
     if io::stdout().is_terminal() {
         return Err("write writes a plan, not text: ./peatmitten write TEXT >PLAN".to_string());
     }
+    let mut asked = text_of(path)?;
+    write_plan(path, &mut asked.base, &asked.requests)
+}
+
+/// Writes the plan that leads from the zones of one text to those of another. Of the second, which is for the same configuration, the edition is
+/// not looked at, and of neither are the requests.
+fn plan(from: &OsStr, wanted: &OsStr) -> Answer {
+    if io::stdout().is_terminal() {
+        return Err("plan writes a plan, not text: ./peatmitten plan FROM WANTED >PLAN".to_string());
+    }
+    if from == "-" && wanted == "-" {
+        return Err("only one of the two texts can be standard input".to_string());
+    }
+    let mut base = text_of(from)?.base;
+    let aim = text_of(wanted)?.base;
+    if base.config != aim.config {
+        return Err(format!("{} is for another configuration than {}", Path::new(wanted).display(), Path::new(from).display()));
+    }
+    match base.table.requests_to(&base.config, &aim.table) {
+        Ok(requests) => write_plan(from, &mut base, &requests),
+        Err(refusal) => {
+            complain(&format!("{} to {}: {}: {refusal}", Path::new(from).display(), Path::new(wanted).display(), refusal.number()));
+            Ok(false)
+        }
+    }
+}
+
+/// What a text says.
+fn text_of(path: &OsStr) -> Result<text::Asked, String> {
     let name = Path::new(path).display();
     let bytes = at_most(path, LONGEST_TEXT)?;
     let text = String::from_utf8(bytes).map_err(|_| format!("{name} is no text"))?;
-    let mut asked = text::read(&text).map_err(|fault| format!("{name}, line {}: {}", fault.line, fault.text))?;
-    match asked.base.plan(&asked.requests) {
+    text::read(&text).map_err(|fault| format!("{name}, line {}: {}", fault.line, fault.text))
+}
+
+/// Writes the plan for a base that came from a text, or says why there is none.
+fn write_plan(path: &OsStr, base: &mut State, requests: &[Request]) -> Answer {
+    match base.plan(requests) {
         Ok(plan) => print(&plan).map(|()| true),
         Err(refusal) => {
+            let name = Path::new(path).display();
             complain(&format!("{name}: {} {} {}: {refusal}", refusal.number(), refusal.place(), refusal.inner()));
             Ok(false)
         }

@@ -1,0 +1,20 @@
+-- Past the end a word is read as zero.
+use Rattle.wanted.proofs.Looking.{word-past}
+use borrow.Author.Needs.{needs}
+use Rattle.wanted.proofs.tables.word_at.Statement.{statement}
+use Rattle.wanted.proofs.tables.word_at.Tie as tie
+
+returns : tie.Need-returns
+returns c = search (word-past, needs)
+
+mul-result : tie.Need-mul-result
+mul-result c = search needs
+
+shared-slice-read-result : tie.Need-shared-slice-read-result
+shared-slice-read-result c = search needs
+
+returns-2 : tie.Need-returns-2
+returns-2 c = search needs
+
+pub word-at-spec : {M : Type 1} → statement M
+word-at-spec = tie.close (tie.spec returns mul-result shared-slice-read-result returns-2)

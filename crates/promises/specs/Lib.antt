@@ -6,12 +6,16 @@ pub mod Tables
 pub mod Requests
 pub mod Closure
 pub mod Translation
+pub mod Editions
+pub mod Steps
 pub mod Plans
 pub mod Rights
 pub mod Answers
 pub mod Stretches
-pub mod Editions
 pub mod Terminals
 pub mod Past
 pub mod Receiving
 pub mod Families
+pub mod OwnedConfiguration
+pub mod Owned
+pub mod Budget

@@ -94,8 +94,9 @@ typedef struct peatmitten_state {
 
 /* What peatmitten_apply answers, and peatmitten_apply_words in three numbers. */
 typedef struct peatmitten_outcome {
-    uint32_t number; /* a peatmitten_answer: 0, 1, 2 or 20 to 27; of peatmitten_end also 28 */
-    size_t place;    /* on 0 how many requests the plan had, on 20 to 22 an offset, on 27 the index of the refused request, else 0 */
+    uint32_t number; /* a peatmitten_answer: 0, 1, 2 or 20 to 27; of peatmitten_end also 28; of peatmitten_write 0, 1, 2, 25, 27 to 29 */
+    size_t place;    /* on 0 how many requests the plan had (of peatmitten_write how many bytes it has), on 20 to 22 an offset, on 27 the
+                        index of the refused request, else 0 */
     uint32_t inner;  /* on 27 why that request is refused, else 0 */
 } peatmitten_outcome;
 
@@ -104,6 +105,13 @@ typedef struct peatmitten_receiver {
     uint64_t stored; /* how many bytes of the buffer are stored */
     uint64_t more;   /* 0 unless more came than the longest plan has */
 } peatmitten_receiver;
+
+/* A request as a plan holds it, whose bytes these are: numbers of any kind and zone, and a region, all zero where the kind takes none. */
+typedef struct peatmitten_record {
+    uint32_t kind; /* a peatmitten_kind */
+    uint32_t zone;
+    uint64_t region[PEATMITTEN_REGION_WORDS]; /* v, p, size, rights */
+} peatmitten_record;
 
 /* What peatmitten_translate answers, and peatmitten_translate_words in three numbers. */
 typedef struct peatmitten_translated {
@@ -117,6 +125,10 @@ PEATMITTEN_ASSERT(offsetof(peatmitten_state, table) == 8 * PEATMITTEN_CONFIG_WOR
 PEATMITTEN_ASSERT(offsetof(peatmitten_state, edition) == 8 * (PEATMITTEN_CONFIG_WORDS + PEATMITTEN_TABLE_WORDS),
                   "the edition stands after the table");
 PEATMITTEN_ASSERT(sizeof(peatmitten_state) == offsetof(peatmitten_state, edition) + 8, "the last 4 bytes of a state are padding");
+PEATMITTEN_ASSERT(offsetof(peatmitten_record, kind) == 0 && offsetof(peatmitten_record, zone) == 4 &&
+                      offsetof(peatmitten_record, region) == 8,
+                  "a request is its kind, its zone and its region");
+PEATMITTEN_ASSERT(sizeof(peatmitten_record) == 8 + 8 * PEATMITTEN_REGION_WORDS, "a request has no padding");
 PEATMITTEN_ASSERT(sizeof(size_t) == 8, "the library is for a 64-bit machine");
 
 /*
@@ -195,7 +207,8 @@ enum peatmitten_answer {
     PEATMITTEN_NO_NEXT_EDITION = 25,  /* (plan) the edition is 2^32 - 1: there is no next one */
     PEATMITTEN_OTHER_ZONES = 26,      /* (plan) the base zones differ, order included */
     PEATMITTEN_REQUEST_REFUSED = 27,  /* (plan) a request is refused; place: its index from 0; inner: its number, 3 to 17 or 19 */
-    PEATMITTEN_BUFFER_SHORT = 28      /* (lent buffer) it is too short */
+    PEATMITTEN_BUFFER_SHORT = 28,     /* (lent buffer) it is too short */
+    PEATMITTEN_TOO_MANY_REQUESTS = 29 /* (writer) there are more than PEATMITTEN_MOST_REQUESTS requests */
 };
 
 /*
@@ -328,6 +341,35 @@ static inline peatmitten_outcome peatmitten_end(peatmitten_state *state, peatmit
     outcome.inner = (uint32_t)places[1];
     receiver->stored = words[0];
     receiver->more = words[1];
+    return outcome;
+}
+
+/*
+ * Writes, into a buffer, the plan for a state's base that asks for these requests: what a planner sends to a terminal in that state. Answers
+ * a peatmitten_answer: 0, 1, 2, 25, 27, 28 or 29, the first that applies in the order 1, 2, 25, 29, 27, 28. places[0] is on 0 how many bytes
+ * the plan has, on 27 the index of the first refused request, else 0; places[1] is on 27 why that request is refused, else 0.
+ * On 0 so many bytes from the buffer's start are the plan, and those behind them are what they were. Else no byte of the buffer is changed.
+ * The plan carries the edition that is given, its base, and applying it at that state answers 0. A buffer of PEATMITTEN_LONGEST_PLAN bytes is
+ * never too short.
+ * `requests` points to `length` bytes: records as a plan holds them, one after another. Bytes after the last whole record are not looked at.
+ * The table is lent so that the requests can be tried where it lies, and is, when the call returns, what it was; while the call runs, it may
+ * hold what they made of it, so no other thread may read it meanwhile.
+ * `requests` and `buffer` are not null even where their lengths are 0.
+ */
+uint32_t peatmitten_write_words(const uint64_t config[PEATMITTEN_CONFIG_WORDS], uint64_t table[PEATMITTEN_TABLE_WORDS], uint32_t edition,
+                                const uint8_t *requests, size_t length, uint8_t *buffer, size_t buffer_length, uint64_t places[2]);
+
+/* The same of a state in one piece and of `count` requests. The state is, when the call returns, what it was. */
+static inline peatmitten_outcome peatmitten_write(peatmitten_state *state, const peatmitten_record *requests, size_t count, uint8_t *buffer,
+                                                  size_t buffer_length)
+{
+    uint64_t places[2];
+    peatmitten_outcome outcome;
+
+    outcome.number = peatmitten_write_words(state->config, state->table, state->edition, (const uint8_t *)requests,
+                                            count * sizeof(peatmitten_record), buffer, buffer_length, places);
+    outcome.place = (size_t)places[0];
+    outcome.inner = (uint32_t)places[1];
     return outcome;
 }
 

@@ -72,6 +72,8 @@ static inline const char *peatmitten_words(uint32_t number)
         return "a request is refused, and the whole plan is undone";
     case PEATMITTEN_BUFFER_SHORT:
         return "the buffer that was lent is too short";
+    case PEATMITTEN_TOO_MANY_REQUESTS:
+        return "there are more requests than a plan can have";
     default:
         return "no number of the library";
     }

@@ -48,9 +48,12 @@ known_lines() {
         "$to(zext|trunc) $flags$number $value to $number"
     printf '%s\n' "($to|  )call (void|$one) $function\(($handed(, $handed)*)?\)" \
         "  call void @llvm\.memmove\.p0\.p0\.i64\(ptr $local_name, ptr $local_name, i64 $value, i1 false\)" \
-        'declare void @llvm\.memmove\.p0\.p0\.i64\(ptr writeonly captures\(none\), ptr readonly captures\(none\), i64, i1 immarg\) #1'
+        'declare void @llvm\.memmove\.p0\.p0\.i64\(ptr writeonly captures\(none\), ptr readonly captures\(none\), i64, i1 immarg\) #1' \
+        "  call void @llvm\.memset\.p0\.i64\(ptr $local_name, i8 0, i64 $value, i1 false\)" \
+        'declare void @llvm\.memset\.p0\.i64\(ptr writeonly captures\(none\), i8, i64, i1 immarg\) #2'
     printf '%s\n' "attributes #0 = \{ nounwind \"probe-stack\"=\"inline-asm\"$x86_attribute \}" \
         'attributes #1 = \{ nocallback nofree nounwind willreturn memory\(argmem: readwrite\) \}' \
+        'attributes #2 = \{ nocallback nofree nounwind willreturn memory\(argmem: write\) \}' \
         '!llvm\.ident = !\{!0\}' '!0 = !\{!"rattle logic=[0-9a-f]+"\}' '![0-9]+ = !\{\}' '![0-9]+ = !\{i8 [0-9]+, i8 [0-9]+\}'
 }
 

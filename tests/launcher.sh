@@ -63,7 +63,7 @@ check_explain() {
     expect 0 '24: the plan is for another edition' '' explain 24 0 0
     expect 0 'C6: a region overlaps*' '' explain C6
     expect 0 '19: the region has too many rights*' '' explain 19
-    expect 2 '' 'peatmitten: no number 29; *' explain 29
+    expect 2 '' 'peatmitten: no number 30; *' explain 30
     expect 2 '' 'peatmitten: the place at 24 is always 0' explain 24 3 0
     expect 2 '' 'peatmitten: only 27 has an inner number*' explain 24 0 5
     expect 2 '' 'peatmitten: no inner number 18; *' explain 27 0 18

@@ -21,7 +21,7 @@
 #define PATTERN 0xa5
 #define PATTERN_WORD (UINT64_MAX / 0xff * PATTERN)
 
-enum { CHECK_CONFIG, CHECK_TABLE, REQUEST, TRANSLATE, EDITION, READ, APPLY, TAKE, END, LAYOUT, FUNCTIONS };
+enum { CHECK_CONFIG, CHECK_TABLE, REQUEST, TRANSLATE, EDITION, READ, APPLY, TAKE, END, WRITE, LAYOUT, FUNCTIONS };
 
 #define NAME_OF(symbol) #symbol
 #define TEXT_OF(symbol) NAME_OF(symbol)
@@ -29,7 +29,7 @@ enum { CHECK_CONFIG, CHECK_TABLE, REQUEST, TRANSLATE, EDITION, READ, APPLY, TAKE
 static const char *const names[FUNCTIONS] = {
     "peatmitten_check_config", "peatmitten_check_table", "peatmitten_request",     "peatmitten_translate_words",
     "peatmitten_edition",      "peatmitten_read",        "peatmitten_apply_words", "peatmitten_take_piece",
-    "peatmitten_end_words",    TEXT_OF(peatmitten_layout)};
+    "peatmitten_end_words",    "peatmitten_write_words", TEXT_OF(peatmitten_layout)};
 
 static uint64_t stack[STACK_WORDS] __attribute__((aligned(64)));
 static ucontext_t here, there;
@@ -98,6 +98,18 @@ static void end_words(void)
     peatmitten_end_words(state.config, state.table, &state.edition, receiver, buffer, sizeof buffer, answers);
 }
 
+/* The plan's own requests, or the whole plan as if it were records where it does not read. */
+static void write_words(void)
+{
+    const uint8_t *requests = plan;
+    uint64_t first[1];
+
+    if (peatmitten_read(plan, length, first) == PEATMITTEN_ACCEPTED)
+        requests += first[0];
+    peatmitten_write_words(state.config, state.table, state.edition, requests, length - (size_t)(requests - plan), buffer, sizeof buffer,
+                           answers);
+}
+
 static void layout(void)
 {
     answers[0] = peatmitten_layout(kind);
@@ -162,6 +174,7 @@ static void measure(size_t most[FUNCTIONS], const char *state_path, const char *
         keep_most(most, LAYOUT, layout);
     }
     state = before;
+    keep_most(most, WRITE, write_words);
     keep_most(most, APPLY, apply);
     state = before;
     keep_most(most, TAKE, take_piece);

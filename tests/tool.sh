@@ -1,6 +1,7 @@
 #!/usr/bin/env bash
-# The tool for state files, by ./peatmitten base, run and show: what it prints, says and keeps, and with which status. Each stored
-# plan is run at its own base, and shown, and must be answered as it is stored. A state file is the same from C.
+# The tool for plans and state files, by ./peatmitten base, run, show and write: what it prints, says and keeps, and with which status. Each
+# stored plan is run at its own base, and shown, and must be answered as it is stored; one that is accepted is written back, byte for byte, from
+# what show prints. A state file is the same from C.
 set -euo pipefail
 test_name=tool
 . "$(dirname "$0")/host.sh"
@@ -81,7 +82,36 @@ check_show() {
         show "$plans/refused.plan"
 }
 
-# Each stored plan at its own base: what it answers, or why it has none; and where it stops reading.
+# said_of_text ERROR: of a text on standard input, of which nothing may be written.
+said_of_text() {
+    cat >"$work/text"
+    expect 2 '' "peatmitten: $work/text, line $1" write "$work/text"
+}
+
+check_write() {
+    "$launcher" write "$plans/first.txt" | cmp - "$plans/first.plan" || say_failed "write first.txt does not give first.plan"
+    "$launcher" write "$plans/moved.txt" >"$work/moved.plan" || say_failed "write moved.txt: status $?"
+    make_state "$work/moved.plan"
+    expect 0 '0 4 0, edition 8' '' run "$state" "$work/moved.plan"
+    "$launcher" show "$plans/refused.plan" >"$work/text"
+    expect 1 '' "peatmitten: $work/text: 27 2 14: request 2 is refused: *" write "$work/text"
+    expect 2 '' "peatmitten: cannot open $work/none: No such file *" write "$work/none"
+    sed 's/edition: 0/edition: 4294967295/' "$plans/first.txt" >"$work/text"
+    expect 1 '' "peatmitten: $work/text: 25 0 0: *" write "$work/text"
+    said_of_text '1: expected *GIC position: N*' <<<'gic 0'
+    said_of_text '2: expected a number of 32 bits in the place of `4294967296`' <<<$'GIC position: 0\nbase edition: 4294967296'
+    said_of_text '1: the text ends without `GIC position: N`' <<<'base edition: 0'
+    said_of_text '3: expected `size N` in the place of `length 1`' <<<$'GIC position: 0\n\nregion: v 0, p 0, length 1, rights 3'
+    said_of_text '2: expected region 0' <<<$'GIC position: 0\nregion 1: v 0, p 0, size 1, rights 3'
+    said_of_text '4: line 3 says 2 configured regions, and there are 1' \
+        <<<$'GIC position: 0\nbase edition: 0\nconfigured regions: 2\nregion: v 0x1000, p 0x1000, size 0x1000, rights 3'
+    said_of_text '2: expected `add zone ID`*' <<<$'GIC position: 0\nrequest: zone 5, insert'
+    sed '/^zone 5/{p;}' "$plans/moved.txt" >"$work/text"
+    expect 2 '' "peatmitten: $work/text, line 12: the base table is unsound: *" write "$work/text"
+}
+
+# Each stored plan at its own base: what it answers, or why it has none; and where it stops reading. One that is accepted is written back from
+# what show prints of it.
 check_stored_plans() {
     local name answer number place plan last
     while read -r name answer; do
@@ -97,6 +127,15 @@ check_stored_plans() {
         case $number in
         20 | 21 | 22) [[ $last =~ ^\ *$place\ \ stops\ here\ with\ $number: ]] || say_failed "$name is $answer; show ended '$last'" ;;
         *) [[ $last =~ end:\ the\ plan\ reads\ whole$ ]] || say_failed "$name is $answer; show ended '$last'" ;;
+        esac
+        case $number in
+        0) "${TOOL[@]}" show "$plan" | "${TOOL[@]}" write - | cmp - "$plan" || say_failed "$name is not written back from what show prints" ;;
+        25 | 27)
+            if "${TOOL[@]}" show "$plan" | "${TOOL[@]}" write - >"$work/written" 2>"$work/errors"; then
+                say_failed "$name is $answer, and is written all the same"
+            fi
+            [[ $(cat "$work/errors") == *": $answer: "* ]] || say_failed "write of $name, which is $answer: $(cat "$work/errors")"
+            ;;
         esac
     done <"$root/vectors/plans/answers.txt"
 }
@@ -116,6 +155,7 @@ check_run
 check_other_zones
 check_faults
 check_show
+check_write
 check_stored_plans
 check_same_from_c
 echo "tool: ok"

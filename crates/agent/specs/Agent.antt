@@ -25,6 +25,7 @@ use Rattle.receiver.specs.Words.{endedIn, TakesIn}
 use Rattle.terminal.specs.Terminal.{Applies}
 use Rattle.walker.specs.declared.Edition.{Edition}
 use Rattle.walker.specs.declared.Edition.the-variants.{Is, Bad as BadEdition}
+use Rattle.writer.specs.Writer.{writesIn, WritesIn}
 
 -- what a header must have for the library: the most regions, zones, regions in a set and requests, the words of a
 -- region, the longest plan
@@ -123,3 +124,16 @@ WordsAreAnEnd =
       receiver = receiverIn j;
     }
     ≡ endedIn (stateIn c t e) (receiverIn k) w
+
+-- the writer: the number, what then lies at the table and in the buffer, and the place and inner number
+pub record WritesWords (c t : List ℕ) (e : ℕ) (r w : List ℕ) (n : ℕ) (u v a : List ℕ) : Type 0 where
+  pub number : n ≡ writesIn c t e r w .outcome .number
+  pub table : u ≡ t
+  pub buffer : v ≡ writesIn c t e r w .buffer
+  pub places : a ≡ writesIn c t e r w .outcome .place ∷ writesIn c t e r w .outcome .inner ∷ []
+
+-- so what is proved of any code that meets `WritesIn` is true of such calls
+abbrev pub WordsAreAWrite : Type 0
+WordsAreAWrite =
+    (c t : List ℕ) (e : ℕ) (r w : List ℕ) (n : ℕ) (u v a : List ℕ) → WritesWords c t e r w n u v a
+    → WritesIn c t e r w (record { number = n; place = getD a 0 0; inner = getD a 1 0 }) u v

@@ -18,6 +18,7 @@ use rules::limits::MOST_REQUESTS;
 use rules::limits::MOST_ZONES;
 use walker::Edition;
 use walker::edition_of;
+use writer::write_words;
 use zones::CONFIG_WORDS;
 use zones::REGION_WORDS;
 use zones::TABLE_WORDS;
@@ -41,7 +42,7 @@ ghost use Rattle.rules.specs.Translation.{translated};
 ghost use Rattle.zones.specs.Step.{Stepped};
 ghost use Rattle.zones.specs.View.{storedConfig, storedTable};
 ghost use Rattle.walker.specs.Edition.{editionOf};
-ghost use Rattle.agent.specs.Agent.{layout, placesOf, yesOrNo, sideAsked, stretchOf, readingNumber, readingPlace, editionNumber, editionValue, receiverIn, AppliesWords, TakesWords, EndsWords};
+ghost use Rattle.agent.specs.Agent.{layout, placesOf, yesOrNo, sideAsked, stretchOf, readingNumber, readingPlace, editionNumber, editionValue, receiverIn, AppliesWords, TakesWords, EndsWords, WritesWords};
 
 // What a header must have for this library, one number at a time; 0 past the last. Its name says them too, so that a program with the
 // header of another library does not link.
@@ -218,6 +219,25 @@ pub extern "C" fn peatmitten_end_words(
     if ending.outcome.number == 0 {
         *edition = at + 1;
     }
+    outcome.number
+}
+
+// Writes the plan for a state's base that asks for requests, which are lent as the bytes that a plan holds them as: the number, and its place
+// and inner number. Only the buffer and the places are changed, the buffer only where the number is 0; while the call runs, the table may
+// hold what the requests made of it.
+#[no_mangle]
+pub extern "C" fn peatmitten_write_words(
+    config: &[u64; CONFIG_WORDS],
+    table: &mut [u64; TABLE_WORDS],
+    edition: u32,
+    requests: &[u8],
+    buffer: &mut [u8],
+    places: &mut [u64; 2],
+) -> u32
+    ensures { λ n. ⌜ WritesWords (now (config .entry)) (now (table .entry)) edition (now (requests .entry)) (now (buffer .entry)) n (now (table .exit)) (now (buffer .exit)) (now (places .exit)) ⌝ }
+{
+    let outcome = write_words(config, table, edition, requests, buffer);
+    put_two(places, outcome.place as u64, outcome.inner as u64);
     outcome.number
 }
 

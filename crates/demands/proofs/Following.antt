@@ -76,12 +76,12 @@ module _ (h : Words) (q : List Asked) (ok : Stands (h .config .words) (h .table 
   ran-back = table-back limits (configIn (h .config .words)) ran ran-sound
 
 -- a record for each region that there is room for
-all-records : (w : List ℕ) → length (storedConfig w .records) ≡ mostRegions
+pub all-records : (w : List ℕ) → length (storedConfig w .records) ≡ mostRegions
 unfolding recordsAt
 all-records w = length-tab mostRegions (recordAt w configRecords)
 
 -- the terminal whose words are held
-abbrev now : editions.State Words → Terminal
+abbrev pub now : editions.State Words → Terminal
 now s = terminalIn (lent s)
 
 module _ (f : Code) (meets : Meets f) where
@@ -169,7 +169,7 @@ module _ (c : Config) (asked : ℕ → List Asked) (f : Code) where
   file-at : (i : ℕ) → planOf (terminalsOf f) (planner c asked f) i ≡ planAt c asked i
   file-at i = ap (λ (s : Terminal). planBytes limits s (asked i)) (planned-at (i - 1))
 
-  start-stands : ConfigPassed (c .words) → terminalsOf f .Sound (planner c asked f .start)
+  pub start-stands : ConfigPassed (c .words) → terminalsOf f .Sound (planner c asked f .start)
   start-stands e =
       ap (λ (t : StoredTable). standing limits (storedConfig (c .words)) t) (table-view [])
       ∙ stored-stands limits (storedConfig (c .words)) [] e

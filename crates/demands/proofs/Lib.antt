@@ -1,3 +1,4 @@
 -- The proofs of the demands.
 pub mod Following
 pub mod Pieces
+pub mod Writing

@@ -1,3 +1,4 @@
 -- The demands, of the code: each is a statement here, and its proof stands in proofs/ under the same file name.
 pub mod Following
 pub mod Pieces
+pub mod Writing

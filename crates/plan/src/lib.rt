@@ -14,6 +14,7 @@ pub use applying::apply;
 pub use applying::apply_alone;
 pub use applying::apply_words;
 pub use finding::Found;
+pub use finding::MARKS_BYTES;
 pub use finding::find_sections;
 pub use read::Read;
 pub use read::find_requests;

@@ -75,7 +75,7 @@ tells-lt a b = (ltb-true a b, lt-ltb a b)
 tells-le : (a b : ℕ) → Tells (leb a b) (a ≤ b)
 tells-le a b = (leb-true a b, le-leb a b)
 
-tells-eq : (a b : ℕ) → Tells (eqb a b) (a ≡ b)
+pub tells-eq : (a b : ℕ) → Tells (eqb a b) (a ≡ b)
 tells-eq a b = (eqb-true a b, eq-eqb a b)
 
 tells-zone : (id : ℕ) (t : List Zone) → Tells (present id t) (HasZone id t)
@@ -283,6 +283,10 @@ module _ (lim : Limits) where
         by false true = refl
         by false false = refl
 
+    pub standing-exactly : {R : Type 0} (say : ℕ → R) (x : R) (P : R → Type 0) → Exactly x P
+        → Exactly (cond (eqb (standing lim c t) 0) x (say (standing lim c t))) (FirstOf (standingLines say lim c t) P)
+    standing-exactly say x P h = exactly-of (standing-as say x) (standing-first say x P (λ none. h))
+
   pub answer-is-exact : AnswerIsExact lim
   unfolding answer standingRules standingAs
   answer-is-exact c t q =
@@ -380,16 +384,14 @@ module _ (lim : Limits) where
         ))
         (first-failing (λ j. eqb (numberAt lim c t qs j) 0) (length qs))
 
-    ends-exactly : Exactly (ended (run lim c t qs)) (Ends lim c t qs)
+    pub ends-exactly : Exactly (ended (run lim c t qs)) (Ends lim c t qs)
     ends-exactly = exactly (ended (run lim c t qs)) (Ends lim c t qs) some-end ends-so
 
   pub run-answer-is-exact : RunAnswerIsExact lim
   unfolding runAnswer
   run-answer-is-exact c t qs =
-      let r : Outcome = ended (run lim (configOf c) (tableOf t) qs) in
-      exactly-of (standing-as c t (λ n. plain n 0) r)
-      (standing-first c t (λ n. plain n 0) r (Ends lim (configOf c) (tableOf t) qs)
-      (λ none. ends-exactly (configOf c) (tableOf t) qs))
+      standing-exactly c t (λ n. plain n 0) (ended (run lim (configOf c) (tableOf t) qs))
+      (Ends lim (configOf c) (tableOf t) qs) (ends-exactly (configOf c) (tableOf t) qs)
 
   -- ---- reading
   module _ (b : List ℕ) (answered : Out Plan → Outcome)

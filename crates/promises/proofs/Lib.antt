@@ -14,6 +14,7 @@ pub mod Answers
 pub mod Stretches
 pub mod Past
 pub mod Receiving
+pub mod Writing
 pub mod Families
 pub mod OwnedConfiguration
 pub mod Owned

@@ -304,6 +304,17 @@ module _ (lim : Limits) where
     reads =
         λ say c e t q full s low fits. read-encoded-owned lim _
         (owned-fits lim say (ownedOf c) (owned-passed lim c (full .0) (s .0)) e low t (s .1 .table) q fits);
+    tight = λ b p t bytes e. (let (same, fits) = no-slack-owned lim b p t bytes e in (same, fits .1 .1 .1 .most));
+    only =
+        λ s p f i. record {
+          plan = record {
+            marks = record { gic = sym (f .config .config .gic) i; edition = sym (f .edition) i };
+            regions = sym (f .config .config .regions) i;
+            zones = sym (f .zones) i;
+            asked = p .plan .asked;
+          };
+          owners = sym (f .config .owners) i;
+        };
     ends = λ b p t e. owned-ends lim b p t e;
     refuses = λ b k t e. owned-refuses lim b k t e;
   }

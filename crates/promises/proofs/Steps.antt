@@ -6,9 +6,9 @@ use native.Mathlib.Omega.{arith}
 use mathlib.Core.Bool.{Bool, true, false, cond}
 use mathlib.Core.List.{List, [], _++_, map}
 use mathlib.Core.Path.{_≡_, refl, sym, ap, subst, _∙_}
-use borrow.Author.Tests.{eqb-false, eq-eqb}
+use borrow.Author.Tests.{eqb-true, eqb-false, eq-eqb}
 use lib.Dec.{eqb}
-use lib.ListN.{length, take, drop, length-append, length-take, take-append-drop}
+use lib.ListN.{length, take, drop, length-append, length-take, length-map, take-append-drop}
 use lib.Seq.{take-all}
 use Rattle.lists.specs.Places.{places}
 use Rattle.lists.specs.Runs.{runs}
@@ -63,6 +63,18 @@ module _ (m : StepRule) where
           → cond c (applyReadBy m s b (m .read b)) (unsound s b) .state ≡ s
       by true ne = read-stays s b (m .read b) ne
       by false ne = refl
+
+  -- at a state at which neither 1 nor 2 is answered
+  pub accepted-stands-by : (s : Kept m) (b : List ℕ) → applyBy m s b .outcome .number ≡ 0
+      → m .standing (s .config) (s .table) ≡ 0
+  unfolding applyBy
+  accepted-stands-by s b e = by (eqb (m .standing (s .config) (s .table)) 0) refl e
+    where
+      by : (c : Bool) → eqb (m .standing (s .config) (s .table)) 0 ≡ c
+          → cond c (applyReadBy m s b (m .read b)) (unsound s b) .outcome .number ≡ 0
+          → m .standing (s .config) (s .table) ≡ 0
+      by true h e = eqb-true _ _ h
+      by false h e = e
 
   module _ (ok : Proper m) where
     pub accepted-is-plan-by : AcceptedIsPlanBy m (applyBy m)
@@ -181,6 +193,38 @@ module _ (m : StepRule) where
   unfolding editionRead
   one-edition s t b (p, (f, x)) (q, (g, y)) = x .edition ∙ ap editionRead (sym f ∙ g) ∙ sym (y .edition)
 
+  -- what the planner may ask for at a sound state is accepted there, and leads where its run leads
+  pub asked-is-accepted-by : Proper m → Sayable (m .limits) → (s : Kept m) (q : List Asked) → m .Whole (s .config)
+      → m .standing (s .config) (s .table) ≡ 0 → MayAskBy m s q
+      → applyBy m s (planBytesBy m s q)
+      ≡ record {
+        outcome = plain 0 (length q);
+        state = record {
+          config = s .config;
+          table = store (m .limits) (ranBy m (s .config) (tableOf (s .table)) q .table);
+          edition = s .edition + 1;
+        };
+      }
+  asked-is-accepted-by ok say s q full st may =
+      let p : m .Said = planForBy m s q in
+      let below : s .edition < lastEdition = may .edition in
+      let w : m .asked p ≡ q = ok .asks s q in
+      let n : length (requestsFrom (m .asked p)) ≡ length q = length-map (m .asked p) _ ∙ ap length w in
+      let inner : runOfBy m s p .inner ≡ 0 =
+      ap (λ (a : List Asked). ranBy m (s .config) (tableOf (s .table)) a .inner) w ∙ may .accepted in
+      let read : m .read (planBytesBy m s q) ≡ got p [] =
+      ok .reads say (s .config) (s .edition) (tableOf (s .table)) q full (ok .stands (s .config) (s .table) st) below
+      (may .fits) in
+      plan-is-accepted-by ok s (planBytesBy m s q) p st (read, ok .based s q) (λ l. omega arith) inner
+      ∙ (λ i. record {
+        outcome = plain 0 (n i);
+        state = record {
+          config = s .config;
+          table = store (m .limits) (ranBy m (s .config) (tableOf (s .table)) (w i) .table);
+          edition = s .edition + 1;
+        };
+      })
+
   module _ (ok : Proper m) (say : Sayable (m .limits)) where
     plan-leads : (s : State (HeldOf (m .Config))) (q : List Asked) → SoundHeldBy m (s .table)
         → MayAskBy m (terminal s) q
@@ -188,27 +232,11 @@ module _ (m : StepRule) where
         × (machine .after s (machine .encode s q)
         ≡ record { edition = suc (s .edition); table = machine .next (s .table) q })
     plan-leads s q held may =
-        let k : Kept m = terminal s in
-        let p : m .Said = planForBy m k q in
-        let below : s .edition < lastEdition = may .edition in
-        let n : s .edition + 1 ≡ suc (s .edition) = omega arith in
-        let w : m .asked p ≡ q = ok .asks k q in
-        let inner : runOfBy m k p .inner ≡ 0 =
-        ap (λ (a : List Asked). ranBy m (k .config) (tableOf (k .table)) a .inner) w ∙ may .accepted in
-        let read : m .read (planBytesBy m k q) ≡ got p [] =
-        ok .reads say (k .config) (k .edition) (tableOf (k .table)) q (held .records)
-        (ok .stands (k .config) (k .table) (held .stands)) below (may .fits) in
-        let e =
-        plan-is-accepted-by ok k (planBytesBy m k q) p (held .stands) (read, ok .based k q) (λ l. omega arith) inner in (
+        let e = asked-is-accepted-by ok say (terminal s) q (held .records) (held .stands) may in
+        let n : s .edition + 1 ≡ suc (s .edition) = omega arith in (
           ap (λ (a : AppliedOf (m .Config)). a .outcome .number) e,
           ap (λ (a : AppliedOf (m .Config)). stateOf (a .state)) e
-              ∙ (λ i. record {
-                edition = n i;
-                table = record {
-                  config = k .config;
-                  table = store (m .limits) (ranBy m (k .config) (tableOf (k .table)) (w i) .table);
-                };
-              }),
+              ∙ (λ i. record { edition = n i; table = machine .next (s .table) q }),
         )
 
     next-sound : (h : HeldOf (m .Config)) (q : List Asked) → SoundHeldBy m h → SoundHeldBy m (machine .next h q)

@@ -1,7 +1,7 @@
 -- Demand 3 for document 01's terminals: their step rule is proper, and the rest is said of every proper one.
 use Prim.Native.Nat.{ℕ}
 use mathlib.Core.List.{List, []}
-use mathlib.Core.Path.{_≡_, refl}
+use mathlib.Core.Path.{_≡_, refl, sym}
 use Rattle.rules.specs.Applying.{plainSteps, apply}
 use Rattle.rules.specs.Configuration.{configOf, check, Configuration, StoredConfig}
 use Rattle.rules.specs.Limits.{Limits}
@@ -14,7 +14,7 @@ use Rattle.rules.specs.declared.Request.{Request}
 use Rattle.rules.proofs.Applying.{same-config}
 use Rattle.rules.proofs.Configuration.{passed}
 use Rattle.rules.proofs.Keeps.{sound-parts, next-keeps, SoundTable}
-use Rattle.rules.proofs.Plan.{read-encoded, plan-ends, plan-refuses}
+use Rattle.rules.proofs.Plan.{read-encoded, no-slack, plan-ends, plan-refuses}
 use Rattle.rules.proofs.Planner.{plan-fits, plan-for-base}
 use Rattle.rules.proofs.Stored.{stands-well, stored-stands}
 use Rattle.promises.specs.Editions.{at}
@@ -45,6 +45,14 @@ module _ (lim : Limits) where
     reads =
         λ say c e t q full s low fits. read-encoded lim _
         (plan-fits lim say (configOf c) (passed lim c full (s .0)) e low t (s .1) q fits);
+    tight = λ b p t bytes e. (let (same, fits) = no-slack lim b p t bytes e in (same, fits .1 .1 .1 .most));
+    only =
+        λ s p f i. record {
+          marks = record { gic = sym (f .config .gic) i; edition = sym (f .edition) i };
+          regions = sym (f .config .regions) i;
+          zones = sym (f .zones) i;
+          asked = p .asked;
+        };
     ends = λ b p t e. plan-ends lim b p t e;
     refuses = λ b k t e. plan-refuses lim b k t e;
   }

@@ -15,6 +15,7 @@ pub mod Stretches
 pub mod Terminals
 pub mod Past
 pub mod Receiving
+pub mod Writing
 pub mod Families
 pub mod OwnedConfiguration
 pub mod Owned

@@ -6,6 +6,7 @@ use mathlib.Core.List.{List, [], map}
 use mathlib.Core.Logic.{_↔_}
 use mathlib.Core.Path.{_≡_}
 use lib.ListN.{length, take}
+use Rattle.lists.specs.Bytes.{Bytes}
 use Rattle.lists.specs.Places.{places}
 use Rattle.lists.specs.Runs.{runs}
 use Rattle.formats.specs.Formats.{got, bad, ListFits}
@@ -40,6 +41,11 @@ pub record Proper (m : StepRule) : Type 1 where
   pub reads : Sayable (m .limits) → (c : m .Config) (e : ℕ) (t : List Zone) (q : List Asked) → m .Whole c → Sound c t
       → e < lastEdition → ListFits 4 0 (m .limits .requests) AskedFits q
       → m .read (m .write (m .planAt c e t q)) ≡ got (m .planAt c e t q) []
+  -- whatever reads whole is the bytes of what it reads to, which asks for no more requests than a plan may have; and
+  -- what gives a terminal's base is the plan for it that asks for the same
+  pub tight : (b : List ℕ) (p : m .Said) (t : List ℕ) → Bytes b → m .read b ≡ got p t
+      → (b ≡ m .write p) × (length (m .asked p) ≤ m .limits .requests)
+  pub only : (s : Kept m) (p : m .Said) → ForBaseBy m s p → p ≡ planForBy m s (m .asked p)
   -- bytes that read whole have nothing left, and no refusal of bytes has number 0
   pub ends : (b : List ℕ) (p : m .Said) (t : List ℕ) → m .read b ≡ got p t → t ≡ []
   pub refuses : (b : List ℕ) (k : ℕ) (t : List ℕ) → m .read b ≡ bad k t → k ≡ 0 → ⊥

@@ -21,6 +21,8 @@ pub mod OwnedNever
 pub mod OwnedOver
 pub mod OwnedPlan
 pub mod OwnedSizes
+pub mod Filling
+pub mod Writer
 pub mod Computing
 pub mod Desk
 pub mod Story
@@ -28,6 +30,7 @@ pub mod OwnedDesk
 pub mod RequestExamples
 pub mod CheckExamples
 pub mod PlanExamples
+pub mod WriterExamples
 pub mod Closure
 pub mod Inductive
 pub mod Budget

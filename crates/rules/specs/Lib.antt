@@ -18,11 +18,14 @@ pub mod Planner
 pub mod Owners
 pub mod OwnedPlan
 pub mod OwnedSizes
+pub mod Filling
+pub mod Writer
 pub mod Desk
 pub mod Story
 pub mod OwnedDesk
 pub mod RequestExamples
 pub mod CheckExamples
 pub mod PlanExamples
+pub mod WriterExamples
 pub mod Closure
 pub mod Budget

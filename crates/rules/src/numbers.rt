@@ -60,6 +60,9 @@ pub const REQUEST_REFUSED: u32 = 27;
 // A lent buffer.
 pub const BUFFER_SHORT: u32 = 28;
 
+// A list of requests.
+pub const TOO_MANY_REQUESTS: u32 = 29;
+
 // C1 to C6, of a configuration.
 pub const C1_COUNT: u32 = 1;
 

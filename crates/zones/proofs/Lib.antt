@@ -6,6 +6,7 @@ pub mod Spans
 pub mod QuickCheck
 pub mod Merging
 pub mod Moves
+pub mod Opening
 pub mod Readers
 pub mod Focus
 pub mod Free
@@ -21,6 +22,8 @@ pub mod Deciding
 pub mod Committing
 pub mod Stepping
 pub mod Running
+pub mod Undoing
+pub mod Trying
 pub mod Spelling
 pub mod Kept
 pub mod Translating

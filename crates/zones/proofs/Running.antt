@@ -109,10 +109,10 @@ module _ (c w u : List ℕ) (q : Request) (r : Ready c w) (e : u ≡ wordsOf (ne
       parts-sound limits (configIn c) (next limits (configIn c) (zonesIn w) q)
       (next-keeps limits (configIn c) (zonesIn w) q (sound-parts limits (configIn c) (zonesIn w) (r .table)))
 
-  after-within : Within (next limits (configIn c) (zonesIn w) q)
+  pub after-within : Within (next limits (configIn c) (zonesIn w) q)
   after-within = sound-within (configIn c) (next limits (configIn c) (zonesIn w) q) after-sound
 
-  after-view : zonesIn u ≡ next limits (configIn c) (zonesIn w) q
+  pub after-view : zonesIn u ≡ next limits (configIn c) (zonesIn w) q
   after-view = ap zonesIn e ∙ view-words (next limits (configIn c) (zonesIn w) q) after-within
 
   pub ready-on : Ready c u

@@ -41,7 +41,7 @@ use Rattle.zones.proofs.Packing.{packed-words}
 use Rattle.zones.proofs.Stored.{passed-packed, passed-same, passed-sound}
 
 -- ---- decided by the rules: refused with the first number that applies, or the change is made
-refused-or-made : (rs : List (Rule ℕ)) (ch : Change) → aboveZero rs ≡ true
+pub refused-or-made : (rs : List (Rule ℕ)) (ch : Change) → aboveZero rs ≡ true
     → ((firstRule rs 0 ≡ 0 → ⊥) × (firstRule (refusing rs) ch ≡ Refuse (firstRule rs 0)))
     ⊎ ((firstRule rs 0 ≡ 0) × (firstRule (refusing rs) ch ≡ ch))
 unfolding firstRule aboveZero all

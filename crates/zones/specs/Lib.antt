@@ -1,5 +1,6 @@
 -- What words stand for.
 pub mod Layout
+pub mod Moves
 pub mod Records
 pub mod Alike
 pub mod View
@@ -12,4 +13,5 @@ pub mod Decide
 pub mod Step
 pub mod Run
 pub mod Kept
+pub mod Trial
 pub mod Translate

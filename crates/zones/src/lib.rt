@@ -12,6 +12,7 @@ mod sound;
 mod steps;
 mod table;
 mod translation;
+mod trial;
 mod words;
 
 pub use config::Config;
@@ -41,6 +42,7 @@ pub use table::clear_zones;
 pub use table::zone_start;
 pub use translation::translate;
 pub use translation::translate_in;
+pub use trial::try_in;
 pub use words::count_words;
 pub use words::holds_region;
 pub use words::put_region;

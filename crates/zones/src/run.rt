@@ -68,7 +68,7 @@ fn run_ready(c: &[u64; CONFIG_WORDS], t: &mut [u64; TABLE_WORDS], requests: &[u8
 }
 
 // Request i of those that are wholly there.
-fn request_at(s: &[u8], i: usize) -> Request
+pub fn request_at(s: &[u8], i: usize) -> Request
     requires { ⌜ i < length (now s) / requestSize ⌝ }
     ensures { λ q. ⌜ q ≡ requestFrom (now (s .entry)) (i * requestSize) ⌝ }
 {

@@ -8,6 +8,7 @@ use crate::words::clear;
 use crate::words::close_gap;
 use crate::words::count_words;
 use crate::words::find_record;
+use crate::words::open_gap;
 use crate::words::read_region;
 use crate::words::write_region;
 use crate::words::zeros_in;
@@ -16,16 +17,18 @@ use rules::Side;
 use rules::limits::MOST_IN_SET;
 use rules::limits::MOST_ZONES;
 ghost use Prim.Native.Nat.{_+_, _≤_, _<_};
+ghost use mathlib.Core.List.{List};
 ghost use mathlib.Core.Path.{_≡_};
 ghost use lib.ListN.{length};
 ghost use Rattle.lists.specs.First.{firstIndex, all};
 ghost use Rattle.lists.specs.Places.{places};
 ghost use Rattle.rules.specs.Limits.{mostZones, mostInSet};
-ghost use Rattle.rules.specs.Tables.{hasId};
+ghost use Rattle.rules.specs.Tables.{hasId, Zone};
 ghost use Rattle.rules.specs.Changes.{pushed, cut, added, dropped};
 ghost use Rattle.zones.specs.Layout.{setWords, tableWords, zoneBase, zoneStart, setBase};
 ghost use Rattle.zones.specs.Alike.{alikeBy};
 ghost use Rattle.zones.specs.Packing.{setPacked, zonePacked, packed};
+ghost use Rattle.zones.specs.Trial.{WithoutRegion, WithoutZone};
 ghost use Rattle.zones.specs.View.{recordIn, setIn, zoneIn, zonesIn};
 ghost use Rattle.zones.specs.Words.{wordsOf, emptied, Packed};
 
@@ -165,6 +168,34 @@ pub fn remove_zone(t: &mut [u64; TABLE_WORDS], z: usize)
     let n = zone_count(t);
     close_gap(t, zone_base(z), ZONE_WORDS, zone_base(n));
     t[0] = n as u64 - 1;
+}
+
+// ---- writers that undo
+
+// A region that was cut out of its set, back at its place i.
+pub fn put_back_region(t: &mut [u64; TABLE_WORDS], z: usize, side: Side, i: usize, r: Region)
+    requires { ⌜ (Packed (now t) × (z < length (zonesIn (now t)))) × ((i ≤ length (setIn (now t) z side)) × (length (setIn (now t) z side) < mostInSet)) ⌝ }
+    ensures { λ r0. ⌜ ((b : List Zone) → WithoutRegion b z side i r (now (t .entry)) → now (t .exit) ≡ wordsOf b) ⌝ }
+{
+    let b = set_base(z, side);
+    let n = set_len(t, z, side);
+    let at = b + 1 + i * REGION_WORDS;
+    open_gap(t, at, REGION_WORDS, b + 1 + (n + 1) * REGION_WORDS);
+    write_region(t, at, r);
+    t[b] = n as u64 + 1;
+}
+
+// An empty zone that was removed, back at its position z.
+pub fn put_back_zone(t: &mut [u64; TABLE_WORDS], z: usize, id: u64)
+    requires { ⌜ (Packed (now t) × (z ≤ length (zonesIn (now t)))) × (length (zonesIn (now t)) < mostZones) ⌝ }
+    ensures { λ r. ⌜ ((b : List Zone) → WithoutZone b z id (now (t .entry)) → now (t .exit) ≡ wordsOf b) ⌝ }
+{
+    let n = zone_count(t);
+    let at = zone_base(z);
+    open_gap(t, at, ZONE_WORDS, zone_base(n + 1));
+    clear(t, at, at + ZONE_WORDS);
+    t[at] = id;
+    t[0] = n as u64 + 1;
 }
 
 // The words of the zones that are there, with their count, are zero: packed words become those of a table without zones.

@@ -21,6 +21,7 @@ ghost use Rattle.rules.specs.Run.{regionIn};
 ghost use Rattle.zones.specs.Layout.{regionWords};
 ghost use Rattle.zones.specs.Packing.{zeros};
 ghost use Rattle.zones.specs.Alike.{alikeBy};
+ghost use Rattle.zones.specs.Moves.{opened};
 ghost use Rattle.zones.specs.Records.{regionAt, recordsAt, wordsOfRegion, placed, holdsAt};
 
 // How a region is looked for among records: by equality, or by overlap in physical or in guest addresses.
@@ -226,4 +227,19 @@ pub fn close_gap(s: &mut [u64], at: usize, width: usize, end: usize)
 {
     move_down(s, at, width, end);
     clear(s, end - width, end);
+}
+
+// The words from at up to end go up by width, those of the last width of them away: the reverse of `close_gap`. The width words at `at`
+// are then what they were.
+pub fn open_gap(s: &mut [u64], at: usize, width: usize, end: usize)
+    requires { ⌜ (at + width ≤ end) × (end ≤ length (now s)) ⌝ }
+    ensures { λ r. ⌜ now (s .exit) ≡ opened (now (s .entry)) at width end ⌝ }
+{
+    let first = at + width;
+    let mut k = end;
+    while first < k {
+        k -= 1;
+        let x = s[k - width];
+        s[k] = x;
+    }
 }

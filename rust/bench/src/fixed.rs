@@ -627,7 +627,7 @@ mod tests {
                 with_place(read.map(|plan| plan.requests_at as u64).map_err(|(number, at)| (number, at as u64)))
             }
             Question::Apply => state.apply(&case.plan),
-            Question::Edition | Question::Pieces => unreachable!("no job asks it"),
+            Question::Edition | Question::Pieces | Question::Write => unreachable!("no job asks it"),
         }
     }
 
@@ -637,7 +637,8 @@ mod tests {
         let named = cases::named().into_iter().map(|named| (named.name, named.case));
         let files = cases::plan_files().into_iter().map(|file| (file.name.clone(), file.case()));
         let mut asked = 0;
-        for (name, case) in named.chain(files).filter(|(_, case)| !matches!(case.question, Question::Edition | Question::Pieces)) {
+        let asked_by_a_job = |case: &cases::Case| !matches!(case.question, Question::Edition | Question::Pieces | Question::Write);
+        for (name, case) in named.chain(files).filter(|(_, case)| asked_by_a_job(case)) {
             let mut state = State::from_words(&case.config, &case.table, case.edition());
             let answer = ask(&case, &mut state);
             let expected = case.ordinary();

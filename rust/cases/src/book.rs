@@ -28,7 +28,8 @@ impl Named {
 
     /// The case and its answer on a line. Of a table afterwards it has the count of zones and a fingerprint of all words.
     pub fn line(&self) -> String {
-        let Answer { number, places: [place, other], table, edition, .. } = self.case.ordinary();
+        let after = self.case.ordinary();
+        let Answer { number, places: [place, other], table, edition, .. } = after;
         let left = format!("{} {}", table[TABLE_COUNT], fingerprint(&table));
         let answer = match self.case.question {
             Question::Config | Question::Translate => format!("{number} {place} {other}"),
@@ -36,6 +37,7 @@ impl Named {
             Question::Request => format!("{number} {left}"),
             Question::Edition | Question::Read => format!("{number} {place}"),
             Question::Apply | Question::Pieces => format!("{number} {place} {other} {edition} {left}"),
+            Question::Write => format!("{number} {place} {other} {}", mixed(&after.left[0].buffer)),
         };
         format!("{}: {answer}", self.name)
     }
@@ -47,6 +49,11 @@ impl Named {
         ((known, known_places) != (number, places))
             .then(|| format!("{}: {known} {known_places:?} by hand, {number} {places:?} by rust/ordinary", self.name))
     }
+}
+
+/// All bytes mixed into one number.
+fn mixed(bytes: &[u8]) -> u64 {
+    fingerprint(&bytes.iter().map(|&byte| byte.into()).collect::<Vec<u64>>())
 }
 
 /// All words mixed into one number: a step of the generator xorshift64 before each word.
@@ -111,6 +118,11 @@ impl Book {
     ) -> &mut Named {
         let whole = Case::apply(self.config, self.table, self.edition, plan);
         self.deliver(name.into(), Case::pieces(whole, receiver, lengths.to_vec(), vec![0xa5; room]))
+    }
+
+    /// The writer with these requests' records, into a buffer of so many bytes.
+    pub fn ask_writer(&mut self, name: impl Into<String>, requests: Vec<u8>, room: usize) -> &mut Named {
+        self.ask(name.into(), Case::write(self.config, self.table, self.edition, requests, vec![0xa5; room]))
     }
 
     fn deliver(&mut self, name: String, case: Case) -> &mut Named {

@@ -19,6 +19,7 @@ pub enum Question {
     Read,
     Apply,
     Pieces,
+    Write,
 }
 
 /// How many numbers a question can take: a request has its kind, its zone and those of its region.
@@ -124,6 +125,12 @@ impl Case {
         Case { question: Question::Pieces, numbers, lengths, buffer, ..apply }
     }
 
+    /// The writer at a state, with the bytes of request records and a buffer.
+    pub fn write(config: ConfigWords, table: TableWords, edition: u32, requests: Vec<u8>, buffer: Vec<u8>) -> Case {
+        let case = Case::new(Question::Write, config, table, &[edition.into()], requests);
+        Case { buffer, ..case }
+    }
+
     /// The pieces, which together are the plan.
     pub fn cut(&self) -> Vec<&[u8]> {
         let mut rest = &self.plan[..];
@@ -145,7 +152,7 @@ impl Case {
     /// The terminal's edition, where a plan is applied.
     pub fn edition(&self) -> u32 {
         match self.question {
-            Question::Apply | Question::Pieces => self.number(0),
+            Question::Apply | Question::Pieces | Question::Write => self.number(0),
             _ => 0,
         }
     }
@@ -185,6 +192,7 @@ impl Case {
                 Err(number) => self.unchanged(number, [0, 0]),
             },
             Question::Pieces => self.pieces_ordinary(),
+            Question::Write => self.write_ordinary(),
         }
     }
 
@@ -203,6 +211,23 @@ impl Case {
             Ok(plan) => Case { question: Question::Apply, plan, ..self.clone() }.ordinary(),
         };
         left.push(Left { number: answer.number, receiver: [receiver.stored, receiver.more], buffer });
+        Answer { left, ..answer }
+    }
+
+    /// The plan written into the buffer.
+    fn write_ordinary(&self) -> Answer {
+        let mut buffer = self.buffer.clone();
+        let answer = match self.base() {
+            Err(number) => self.unchanged(number, [0, 0]),
+            Ok(state) => match state.write(&self.plan, &mut buffer) {
+                Ok(length) => self.unchanged(0, [length as u64, 0]),
+                Err(refusal) => {
+                    let (place, inner) = refusal.found();
+                    self.unchanged(refusal.number(), [place as u64, inner.into()])
+                }
+            },
+        };
+        let left = vec![Left { number: answer.number, receiver: [0, 0], buffer }];
         Answer { left, ..answer }
     }
 
@@ -264,6 +289,9 @@ impl fmt::Display for Case {
         write_words(f, "  table", &self.table)?;
         write_words(f, "  numbers", &self.numbers)?;
         writeln!(f, "  plan of {} bytes: {}", self.plan.len(), hex(&self.plan))?;
+        if self.question == Question::Write {
+            writeln!(f, "  as requests, into a buffer of {}: {}", self.buffer.len(), hex(&self.buffer))?;
+        }
         if self.question == Question::Pieces {
             writeln!(
                 f,

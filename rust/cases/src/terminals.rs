@@ -1,7 +1,7 @@
 //! Cases for plans at a terminal: each number, the order of the numbers, the state afterwards, and random runs.
 
 use ordinary::layout::{config_record, set_record, zone_id, CONFIG_COUNT, CONFIG_GIC, LONGEST_PLAN, REQUEST_BYTES, TABLE_COUNT};
-use ordinary::limits::{MAX_ID, MAX_REGIONS, MAX_ZONES, PAGE};
+use ordinary::limits::{MAX_ID, MAX_REGIONS, MAX_REQUESTS, MAX_ZONES, PAGE};
 use ordinary::{Config, Record, Region, Side, State, Table, Zone, CONFIG_WORDS, TABLE_WORDS};
 
 use crate::book::Book;
@@ -31,6 +31,7 @@ pub fn add(book: &mut Book, rng: &mut Rng) {
     empty_plans(book);
     long_plans(book);
     in_pieces(book);
+    written(book);
     runs(book, rng);
 }
 
@@ -346,6 +347,37 @@ fn in_pieces(book: &mut Book) {
     ask("behind a byte of another", [1, 0], &[], LONGEST_PLAN, plan.clone(), 21, 0);
     ask("more came, as no call says it", [0, 2], &[7], LONGEST_PLAN, plan.clone(), 21, 0);
     ask("a length that no call leaves", [most + 1, 0], &[7], LONGEST_PLAN, plan, 21, 0);
+}
+
+// ---- the writer
+
+fn written(book: &mut Book) {
+    let add = Record { kind: 1, zone: 5, region: Region::ZERO };
+    let none = Record { kind: 0, zone: 5, region: Region::ZERO };
+    let records = |records: &[Record]| {
+        let plan = least().with_requests(records).bytes();
+        plan[plan.len() - records.len() * REQUEST_BYTES..].to_vec()
+    };
+    let one = records(&[add]);
+    let length = first().bytes().len();
+    let many = |count: usize| records(&vec![none; count]);
+
+    let mut ask = |name: &str, edition: u32, requests: Vec<u8>, room: usize, number: u32, places: [usize; 2]| {
+        stand_at(book, &least().with_edition(edition));
+        book.ask_writer(format!("written: {name}"), requests, room).known_with(number, places.map(|place| place as u64));
+    };
+    ask("a plan", 0, one.clone(), length, 0, [length, 0]);
+    ask("into a longer buffer", 0, one.clone(), length + 9, 0, [length, 0]);
+    ask("into one a byte too short", 0, one.clone(), length - 1, 28, [0, 0]);
+    ask("into one of no bytes", 0, one.clone(), 0, 28, [0, 0]);
+    ask("no requests", 0, Vec::new(), length - REQUEST_BYTES, 0, [length - REQUEST_BYTES, 0]);
+    ask("a request that is cut does not count", 0, one[..REQUEST_BYTES - 1].to_vec(), length, 0, [length - REQUEST_BYTES, 0]);
+    ask("a refused request comes before the room", 0, records(&[add, add]), 0, 27, [1, 5]);
+    ask("what makes no request", 0, records(&[none]), length, 27, [0, 3]);
+    ask("as many as a plan may have", 0, many(MAX_REQUESTS), 0, 27, [0, 3]);
+    ask("one more comes before a refused one", 0, many(MAX_REQUESTS + 1), 0, 29, [0, 0]);
+    ask("the last edition comes before both", u32::MAX, many(MAX_REQUESTS + 1), 0, 25, [0, 0]);
+    ask("the edition before the last", u32::MAX - 1, one, length, 0, [length, 0]);
 }
 
 // ---- random runs of plans

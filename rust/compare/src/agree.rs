@@ -100,6 +100,13 @@ fn ask_library(case: &Case, state: &mut Lent, left: &mut Vec<Left>) -> (u32, [u6
             left.push(Left { number, receiver, buffer });
             (number, places)
         }
+        Question::Write => {
+            let mut buffer = case.buffer.clone();
+            let (number, places) =
+                raw::write_words(&state.config, &mut state.table, case.edition(), &case.plan, black_box(&mut buffer));
+            left.push(Left { number, receiver: [0, 0], buffer });
+            (number, places)
+        }
     }
 }
 

@@ -1,7 +1,9 @@
 //! Cases on both sides of every boundary. They are the same in every run and reach every number.
 
 use cases::Case;
-use ordinary::layout::{config_record, set_count, set_record, zone_id, CONFIG_COUNT, CONFIG_GIC, LONGEST_PLAN, TABLE_COUNT};
+use ordinary::layout::{
+    config_record, set_count, set_record, zone_id, CONFIG_COUNT, CONFIG_GIC, LONGEST_PLAN, REQUEST_BYTES, TABLE_COUNT,
+};
 use ordinary::limits::{GUEST_REACH, MAX_IN_SET, MAX_REGIONS, MAX_REQUESTS, MAX_ZONES, PAGE, PHYS_REACH};
 use ordinary::{
     encode, Config, ConfigWords, Record, Region, Rights, Side, State, Table, TableWords, Zone, CONFIG_WORDS, TABLE_WORDS,
@@ -15,7 +17,7 @@ const C: Region = Region::new(0x4010_0000, 0x9000_0000, 0x20_0000, 3);
 const G: Region = Region::new(0x0800_0000, 0x0800_0000, 0x1_0000, 3);
 
 /// All cases, in parts: of all at once the words would take a gigabyte.
-pub const PARTS: [fn() -> Vec<Case>; 12] = [
+pub const PARTS: [fn() -> Vec<Case>; 13] = [
     config_cases,
     table_cases,
     request_cases,
@@ -28,6 +30,7 @@ pub const PARTS: [fn() -> Vec<Case>; 12] = [
     refused_plans,
     unsound_terminals,
     plans_in_pieces,
+    plans_written,
 ];
 
 fn zone(id: u32, cpu: &[Region], iommu: &[Region]) -> Zone {
@@ -450,6 +453,81 @@ fn plans_in_pieces() -> Vec<Case> {
     }
     let apply = Case::apply([0; CONFIG_WORDS], [u64::MAX; TABLE_WORDS], 0, plan);
     cases.extend([LONGEST_PLAN - 1, LONGEST_PLAN].map(|room| Case::pieces(apply.clone(), [0, 0], vec![9], vec![0; room])));
+    cases
+}
+
+/// The records of requests, as a plan has them.
+fn records(requests: &[Record]) -> Vec<u8> {
+    let plan = encode(&desk(&[]), requests);
+    plan[plan.len() - requests.len() * REQUEST_BYTES..].to_vec()
+}
+
+/// All that a state holds taken out, from the front or from the back, and its zones with it.
+fn emptying(state: &State, from_the_back: bool) -> Vec<Record> {
+    let mut requests = Vec::new();
+    let mut zones: Vec<&Zone> = state.table.zones.iter().collect();
+    if from_the_back {
+        zones.reverse();
+    }
+    for zone in zones {
+        for (kind, set) in [(4, &zone.cpu), (6, &zone.iommu)] {
+            let mut held = set.clone();
+            if from_the_back {
+                held.reverse();
+            }
+            requests.extend(held.into_iter().map(|region| record(kind, zone.id, region)));
+        }
+        requests.push(record(2, zone.id, Region::ZERO));
+    }
+    requests
+}
+
+/// The writer at every state: requests that are accepted, refused first or last, none at all, too many, cut; buffers on every side of the
+/// plan's length; states that are unsound or at the last edition. Whatever is tried, the table must be afterwards what it was.
+fn plans_written() -> Vec<Case> {
+    let refused = record(0, 0, Region::ZERO);
+    let mut cases = Vec::new();
+    let mut add = |state: &State, requests: Vec<u8>| {
+        let (config, table) = (state.config.to_words(), state.table.to_words());
+        let most = Case::write(config, table, state.edition, requests, vec![0xa5; LONGEST_PLAN + 9]);
+        let length = most.ordinary().places[0] as usize;
+        for room in [0, 1, length.saturating_sub(1), length, length + 1, length + 40] {
+            cases.push(Case { buffer: vec![0xa5; room], ..most.clone() });
+        }
+        cases.push(most);
+    };
+    for state in states() {
+        let mut lists: Vec<Vec<Record>> = requests(&state).into_iter().step_by(11).map(|request| vec![request]).collect();
+        lists.push(Vec::new());
+        for from_the_back in [false, true] {
+            let emptied = emptying(&state, from_the_back);
+            lists.push(emptied.iter().copied().chain([refused]).collect());
+            lists.push(emptied.iter().copied().chain([record(1, 9, Region::ZERO), record(1, 9, Region::ZERO)]).collect());
+            lists.push(emptied);
+        }
+        for list in &lists {
+            add(&state, records(list));
+            add(&state, records(&[&list[..], &[refused]].concat()));
+        }
+        add(&State { edition: u32::MAX, ..state.clone() }, records(&[refused]));
+        add(&State { edition: u32::MAX - 1, ..state.clone() }, records(&[record(1, 77, Region::ZERO)]));
+    }
+    let state = desk(&[zone(5, &[A], &[A, G])]);
+    let there_and_back = [record(1, 9, Region::ZERO), record(2, 9, Region::ZERO)].repeat(MAX_REQUESTS);
+    for count in [1, 2, MAX_REQUESTS - 1, MAX_REQUESTS, MAX_REQUESTS + 1, 2 * MAX_REQUESTS] {
+        add(&state, records(&there_and_back[..count]));
+        add(&state, records(&[&there_and_back[..count - 1], &[refused]].concat()));
+    }
+    let two = records(&[record(1, 9, Region::ZERO), record(3, 9, B)]);
+    for length in 0..=two.len() {
+        add(&state, two[..length].to_vec());
+    }
+    let (config, table) = (state.config.to_words(), state.table.to_words());
+    let length = encode(&state, &[record(1, 9, Region::ZERO)]).len();
+    let asked = records(&[record(1, 9, Region::ZERO)]);
+    cases.extend((0..length + 3).map(|room| Case::write(config, table, 7, asked.clone(), vec![0x5a; room])));
+    cases.extend(broken_tables().into_iter().map(|table| Case::write(config, table, u32::MAX, asked.clone(), vec![9; 100])));
+    cases.push(Case::write([0; CONFIG_WORDS], [u64::MAX; TABLE_WORDS], 0, asked, vec![9; 100]));
     cases
 }
 

@@ -2,9 +2,9 @@
 
 use cases::rng::Rng;
 use cases::Case;
-use ordinary::layout::LONGEST_PLAN;
+use ordinary::layout::{LONGEST_PLAN, REQUEST_BYTES};
 use ordinary::limits::{GUEST_REACH, MAX_IN_SET, MAX_REGIONS, MAX_REQUESTS, MAX_ZONES, PAGE, PHYS_REACH};
-use ordinary::{encode, Config, ConfigWords, Record, Region, Rights, State, Table, TableWords, Zone};
+use ordinary::{encode, Config, ConfigWords, Plan, Record, Region, Rights, State, Table, TableWords, Zone};
 
 use crate::damage::{damage_bytes, damage_words};
 
@@ -313,7 +313,7 @@ impl World {
     pub fn case(&mut self, rng: &mut Rng) -> Case {
         self.change(rng, 3);
         self.state.edition = edition(rng);
-        match rng.below(21) {
+        match rng.below(22) {
             0..=2 => self.config_case(rng),
             3..=5 => self.table_case(rng),
             6..=10 => self.request_case(rng),
@@ -321,6 +321,7 @@ impl World {
             13 => Case::base_edition(self.plan_begun(rng)),
             14 => Case::read(self.plan(rng)),
             15 => self.pieces_case(rng),
+            16 => self.write_case(rng),
             _ => self.apply_case(rng),
         }
     }
@@ -444,6 +445,33 @@ impl World {
         };
         let lengths = cutting(rng, apply.plan.len());
         Case::pieces(apply, receiver, lengths, vec![rng.word() as u8; room])
+    }
+
+    /// The requests of a plan, now and then cut or with bytes behind them or too many; and a buffer on either side of the plan's length.
+    fn write_case(&self, rng: &mut Rng) -> Case {
+        let (config, table) = self.base(rng);
+        let plan = self.plan(rng);
+        let mut requests = match Plan::read(&plan) {
+            Ok(read) => plan[read.requests_at..].to_vec(),
+            Err(_) => plan,
+        };
+        match rng.below(12) {
+            0 => requests.truncate(rng.below(1 + requests.len())),
+            1 => requests.resize(requests.len() + rng.below(REQUEST_BYTES), rng.word() as u8),
+            2 => requests.resize((MAX_REQUESTS + rng.below(2)) * REQUEST_BYTES, rng.below(7) as u8),
+            _ => {}
+        }
+        let case = Case::write(config, table, self.state.edition, requests, vec![0; LONGEST_PLAN]);
+        let length = case.ordinary().places[0] as usize;
+        let room = match rng.below(8) {
+            0 => length.saturating_sub(1),
+            1 => length + 1,
+            2 => 0,
+            3 => rng.below(1 + length),
+            4 => length + rng.below(5000),
+            _ => length,
+        };
+        Case { buffer: (0..room).map(|_| rng.word() as u8).collect(), ..case }
     }
 }
 

@@ -9,7 +9,7 @@ use crate::agree::Trouble;
 use crate::event::Event;
 
 /// What every run must answer at least once, by question.
-const ALL_NUMBERS: [(Question, &[u32]); 8] = [
+const ALL_NUMBERS: [(Question, &[u32]); 9] = [
     (Question::Config, &[0, 1, 2, 3, 4, 5, 6]),
     (Question::Table, &[0, 1]),
     (Question::Request, &[0, 1, 2, 3, 4, 5, 6, 7, 8, 9, 10, 11, 12, 13, 14, 15, 16, 17, 19]),
@@ -18,6 +18,7 @@ const ALL_NUMBERS: [(Question, &[u32]); 8] = [
     (Question::Read, &[0, 20, 21, 22]),
     (Question::Apply, &[0, 1, 2, 20, 21, 22, 23, 24, 25, 26, 27]),
     (Question::Pieces, &[0, 1, 2, 20, 21, 22, 23, 24, 25, 26, 27, 28]),
+    (Question::Write, &[0, 1, 2, 25, 27, 28, 29]),
 ];
 
 const REQUEST_REFUSED: u32 = 27;

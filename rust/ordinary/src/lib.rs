@@ -17,6 +17,7 @@ mod request;
 mod table;
 mod terminal;
 mod words;
+mod writer;
 
 pub use config::{Config, ConfigFault};
 pub use plan::{base_edition, encode, Plan, ReadFault, Requests};
@@ -26,6 +27,7 @@ pub use request::{Action, Record, Refusal};
 pub use table::{Side, Table, Translated, Zone};
 pub use terminal::{apply_alone, PlanRefusal, State};
 pub use words::{ConfigWords, TableWords, CONFIG_WORDS, TABLE_WORDS};
+pub use writer::WriteRefusal;
 
 /// The limits that the document sets.
 pub mod limits {

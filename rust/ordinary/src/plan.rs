@@ -81,6 +81,11 @@ pub fn base_edition(bytes: &[u8]) -> Result<u32, ReadFault> {
 }
 
 impl<'a> Requests<'a> {
+    /// The records that stand one after another in these bytes.
+    pub fn in_bytes(bytes: &'a [u8]) -> Requests<'a> {
+        Requests(bytes)
+    }
+
     /// How many there are.
     pub fn len(&self) -> usize {
         self.0.len() / REQUEST_BYTES

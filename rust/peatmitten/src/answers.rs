@@ -351,6 +351,86 @@ impl fmt::Display for PlanRefusal {
 
 impl Error for PlanRefusal {}
 
+/// Why no plan is written: 1, 2, 25, 29, 27 and 28, in this order.
+#[derive(Clone, Copy, Debug, PartialEq, Eq, Hash)]
+pub enum WriteRefusal {
+    /// 1: the configuration is unsound.
+    UnsoundConfig,
+    /// 2: the table is unsound.
+    UnsoundTable,
+    /// 25: the edition is the last one, 2^32 - 1.
+    NoNextEdition,
+    /// 29: there are more requests than a plan can have.
+    TooManyRequests,
+    /// 27: a request is refused.
+    Request {
+        /// Which, from 0.
+        index: u64,
+        /// Why.
+        refusal: Refusal,
+    },
+    /// 28: the buffer is shorter than the plan.
+    BufferShort,
+}
+
+impl WriteRefusal {
+    pub(crate) fn from_library(number: u32, place: u64, inner: u64) -> Result<(), WriteRefusal> {
+        Err(match number {
+            0 => return Ok(()),
+            1 => WriteRefusal::UnsoundConfig,
+            2 => WriteRefusal::UnsoundTable,
+            25 => WriteRefusal::NoNextEdition,
+            27 => WriteRefusal::Request { index: place, refusal: inner_refusal(inner) },
+            28 => WriteRefusal::BufferShort,
+            29 => WriteRefusal::TooManyRequests,
+            _ => not_an_answer(number),
+        })
+    }
+
+    /// The document's number.
+    pub fn number(&self) -> u32 {
+        match self {
+            WriteRefusal::UnsoundConfig => 1,
+            WriteRefusal::UnsoundTable => 2,
+            WriteRefusal::NoNextEdition => 25,
+            WriteRefusal::Request { .. } => 27,
+            WriteRefusal::BufferShort => BufferShort.number(),
+            WriteRefusal::TooManyRequests => 29,
+        }
+    }
+
+    /// The document's place: the index of a refused request, else 0.
+    pub fn place(&self) -> u64 {
+        match self {
+            WriteRefusal::Request { index, .. } => *index,
+            _ => 0,
+        }
+    }
+
+    /// The document's inner number: why a request is refused, else 0.
+    pub fn inner(&self) -> u32 {
+        match self {
+            WriteRefusal::Request { refusal, .. } => refusal.number(),
+            _ => 0,
+        }
+    }
+}
+
+impl fmt::Display for WriteRefusal {
+    fn fmt(&self, f: &mut fmt::Formatter) -> fmt::Result {
+        match self {
+            WriteRefusal::UnsoundConfig => write!(f, "the configuration is unsound"),
+            WriteRefusal::UnsoundTable => write!(f, "the table is unsound"),
+            WriteRefusal::NoNextEdition => write!(f, "the edition is the last one"),
+            WriteRefusal::TooManyRequests => write!(f, "there are more requests than a plan can have"),
+            WriteRefusal::Request { index, refusal } => write!(f, "request {index} is refused: {refusal}"),
+            WriteRefusal::BufferShort => BufferShort.fmt(f),
+        }
+    }
+}
+
+impl Error for WriteRefusal {}
+
 /// 28: a buffer that was lent is too short.
 #[derive(Clone, Copy, Debug, PartialEq, Eq, Hash)]
 pub struct BufferShort;

@@ -46,8 +46,9 @@ mod region;
 mod request;
 mod store;
 mod table;
+mod writer;
 
-pub use answers::{BufferShort, ConfigFault, PlanRefusal, ReadFault, Refusal};
+pub use answers::{BufferShort, ConfigFault, PlanRefusal, ReadFault, Refusal, WriteRefusal};
 pub use config::{Config, CONFIG_WORDS};
 pub use plan::{base_edition, read_plan, State};
 pub use reading::{Counted, Field, Reading};

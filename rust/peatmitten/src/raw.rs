@@ -58,6 +58,16 @@ mod library {
             buffer_length: usize,
             places: *mut [u64; 2],
         ) -> u32;
+        pub fn peatmitten_write_words(
+            config: *const Config,
+            table: *mut Table,
+            edition: u32,
+            requests: *const u8,
+            length: usize,
+            buffer: *mut u8,
+            buffer_length: usize,
+            places: *mut [u64; 2],
+        ) -> u32;
     }
 }
 
@@ -145,4 +155,24 @@ pub fn end_words(config: &Config, table: &mut Table, edition: &mut u32, receiver
 /// The same of a whole state.
 pub fn end(state: &mut State, receiver: &mut [u64; 2], buffer: &[u8]) -> (u32, [u64; 2]) {
     end_words(&state.config, &mut state.table, &mut state.edition, receiver, buffer)
+}
+
+/// The number for which no plan is written, or 0, its place and its inner number. The requests are the bytes of records as a plan holds
+/// them; bytes after the last whole one are not looked at. The buffer changes only where the number is 0, and the table is afterwards what
+/// it was.
+pub fn write_words(config: &Config, table: &mut Table, edition: u32, requests: &[u8], buffer: &mut [u8]) -> (u32, [u64; 2]) {
+    let mut places = [UNWRITTEN; 2];
+    let number = unsafe {
+        library::peatmitten_write_words(
+            config,
+            table,
+            edition,
+            requests.as_ptr(),
+            requests.len(),
+            buffer.as_mut_ptr(),
+            buffer.len(),
+            &mut places,
+        )
+    };
+    (number, places)
 }

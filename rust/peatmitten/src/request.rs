@@ -69,6 +69,12 @@ impl Request {
         Request { kind, zone, region }
     }
 
+    /// Its record, as a plan holds it.
+    pub fn to_bytes(&self) -> Vec<u8> {
+        let short = [self.kind, self.zone].into_iter().flat_map(u32::to_le_bytes);
+        short.chain(self.region.words().into_iter().flat_map(u64::to_le_bytes)).collect()
+    }
+
     /// What is asked, 1 to 6.
     pub const fn kind(&self) -> u32 {
         self.kind

@@ -1,10 +1,12 @@
-//! Plans and state files at a shell, for people who test an agent: `./peatmitten run`, `base` and `show`. Every number, place and byte
+//! Plans and state files at a shell, for people who test an agent or make plans: `./peatmitten run`, `base`, `show` and `write`. Every number,
+//! place and byte
 //! is the library's; this program reads arguments and files, and prints.
 //!
 //! The exit status is 0 for a plan that is accepted (`show`: that reads whole), 1 for one that is refused, and 2 where an argument
 //! or a file is not as it should be, or what is printed cannot be written.
 
 mod show;
+mod text;
 
 use std::env;
 use std::ffi::{OsStr, OsString};
@@ -16,7 +18,10 @@ use std::process::ExitCode;
 use peatmitten::limits::LONGEST_PLAN;
 use peatmitten::{PlanRefusal, Reading, State};
 
-const USAGE: &str = "usage: peatmitten run [--words] STATE PLAN... | base PLAN >STATE | show PLAN";
+const USAGE: &str = "usage: peatmitten run [--words] STATE PLAN... | base PLAN >STATE | show PLAN | write TEXT >PLAN";
+
+/// More bytes than the text of the longest plan has.
+const LONGEST_TEXT: u64 = 1 << 24;
 
 /// Whether all was accepted; or what is not as it should be.
 type Answer = Result<bool, String>;
@@ -40,6 +45,7 @@ fn answer(arguments: &[OsString]) -> Answer {
         (Some("run"), [state, plans @ ..]) if state != "--words" && !plans.is_empty() => run(state, plans, false),
         (Some("base"), [plan]) => base(plan),
         (Some("show"), [plan]) => show(plan),
+        (Some("write"), [text]) => write(text),
         _ => Err(USAGE.to_string()),
     }
 }
@@ -83,6 +89,24 @@ fn show(plan: &OsStr) -> Answer {
     Ok(reading.end.is_ok())
 }
 
+/// Writes the plan whose contents a text says. Nothing is written where a line is not understood, or where there is no such plan.
+fn write(path: &OsStr) -> Answer {
+    if io::stdout().is_terminal() {
+        return Err("write writes a plan, not text: ./peatmitten write TEXT >PLAN".to_string());
+    }
+    let name = Path::new(path).display();
+    let bytes = at_most(path, LONGEST_TEXT)?;
+    let text = String::from_utf8(bytes).map_err(|_| format!("{name} is no text"))?;
+    let mut asked = text::read(&text).map_err(|fault| format!("{name}, line {}: {}", fault.line, fault.text))?;
+    match asked.base.plan(&asked.requests) {
+        Ok(plan) => print(&plan).map(|()| true),
+        Err(refusal) => {
+            complain(&format!("{name}: {} {} {}: {refusal}", refusal.number(), refusal.place(), refusal.inner()));
+            Ok(false)
+        }
+    }
+}
+
 /// Number, place and inner number, as `./peatmitten apply` prints them.
 fn numbers(answer: &Result<u64, PlanRefusal>) -> String {
     match answer {
@@ -101,11 +125,16 @@ fn in_words(answer: &Result<u64, PlanRefusal>) -> String {
 
 /// The bytes of a plan file, or of standard input. One more than a plan can have is enough to see that a file is longer.
 fn bytes_of(plan: &OsStr) -> Result<Vec<u8>, String> {
+    at_most(plan, LONGEST_PLAN as u64 + 1)
+}
+
+/// So many bytes of a file, or of standard input.
+fn at_most(plan: &OsStr, most: u64) -> Result<Vec<u8>, String> {
     let because = |doing: &str, fault: io::Error| format!("cannot {doing} {}: {fault}", Path::new(plan).display());
     let source: Box<dyn Read> =
         if plan == "-" { Box::new(io::stdin()) } else { Box::new(File::open(plan).map_err(|fault| because("open", fault))?) };
     let mut bytes = Vec::new();
-    source.take(LONGEST_PLAN as u64 + 1).read_to_end(&mut bytes).map_err(|fault| because("read", fault))?;
+    source.take(most).read_to_end(&mut bytes).map_err(|fault| because("read", fault))?;
     Ok(bytes)
 }
 

@@ -1,0 +1,213 @@
+-- The writer's answer is the first of its numbers: 25 is asked of the edition alone, a run that is tried gives the others
+-- but 28, and that is left to the plan's length.
+use Prim.Native.Nat.{ℕ, _+_, _/_, _≤_, _<_}
+use native.Mathlib.Omega.{arith}
+use mathlib.Core.Bool.{Bool, true, false, cond, not, true≢false}
+use mathlib.Core.List.{List, _++_}
+use mathlib.Core.Path.{_≡_, refl, sym, ap, subst, _∙_}
+use borrow.Author.Tests.{ltb-false, eqb-true, eqb-false, not-true, not-false, lt-ltb, le-ltb, eq-eqb, ne-eqb}
+use lib.Dec.{ltb, eqb}
+use lib.ListN.{length, drop, length-map}
+use Rattle.lists.specs.Rules.{firstRule}
+use Rattle.lists.proofs.Tests.{not-holds}
+use Rattle.puts.specs.Puts.{Put}
+use Rattle.puts.proofs.Puts.{put-fits}
+use Rattle.rules.specs.Applying.{lastEdition, plain}
+use Rattle.rules.specs.Filling.{fillAnswer, fillLeaves}
+use Rattle.rules.specs.Limits.{mostRequests, limits}
+use Rattle.rules.specs.Plan.{requestsFrom}
+use Rattle.rules.specs.Planner.{ranAt}
+use Rattle.rules.specs.Requests.{standing}
+use Rattle.rules.specs.Run.{requestSize, requestsIn, run, ended, Run}
+use Rattle.rules.specs.Tables.{tableOf}
+use Rattle.rules.specs.Writer.{writerRules, write, askedOf}
+use Rattle.rules.specs.declared.Outcome.{Outcome}
+use Rattle.rules.proofs.Filling.{leaves-all, leaves-filled}
+use Rattle.zones.specs.Kept.{Stands}
+use Rattle.zones.specs.Trial.{trialAnswer}
+use Rattle.zones.specs.View.{storedConfig, storedTable, configIn}
+use Rattle.writer.specs.Writer.{lentIn, planIn, noNext, FilledIn, WritesIn}
+use Rattle.writer.proofs.Bytes.{asked-many, asked-requests}
+
+-- ---- 25
+module _ (c t : List ℕ) (n : ℕ) (e : n ≡ standing limits (storedConfig c) (storedTable t)) where
+  pub own-first : (n ≡ 0 → ⊥) → record { number = n; place = 0; inner = 0 } ≡ noNext c t
+  unfolding noNext
+  own-first ne =
+      (λ i. plain (e i) 0)
+      ∙ sym (ap (λ (b : Bool). cond b (plain 25 0) (plain (standing limits (storedConfig c) (storedTable t)) 0))
+      (ne-eqb _ 0 (λ z. ne (e ∙ z))))
+
+  pub last-edition : n ≡ 0 → record { number = 25; place = 0; inner = 0 } ≡ noNext c t
+  unfolding noNext
+  last-edition z =
+      sym (ap (λ (b : Bool). cond b (plain 25 0) (plain (standing limits (storedConfig c) (storedTable t)) 0))
+      (eq-eqb _ 0 (sym e ∙ z)))
+
+-- ---- 28
+module _ (b w : List ℕ) (n : ℕ) (e : n ≡ 0 + length b) where
+  pub fill-short : length w < n → FilledIn b w (record { number = 28; place = 0; inner = 0 }) w
+  fill-short h =
+      let l : length w < length b = omega arith in
+      let s : ltb (length w) (length b) ≡ true = lt-ltb _ _ l in
+      record {
+        answer = sym (ap (λ (x : Bool). cond x (plain 28 0) (plain 0 (length b))) s);
+        buffer = sym (ap (λ (x : Bool). cond x w (b ++ drop (length b) w)) s);
+      }
+
+  pub fill-done : n ≤ length w → (v : List ℕ) (k : ℕ) → Put w 0 b v k
+      → FilledIn b w (record { number = 0; place = n; inner = 0 }) v
+  fill-done h v k p =
+      let l : length b ≤ length w = omega arith in
+      let s : ltb (length w) (length b) ≡ false = le-ltb _ _ l in
+      let m : n ≡ length b = omega arith in
+      let z : 0 + length b ≡ length b = omega arith in
+      record {
+        answer = ap (plain 0) m ∙ sym (ap (λ (x : Bool). cond x (plain 28 0) (plain 0 (length b))) s);
+        buffer =
+            p .bytes ∙ put-fits 0 b w (omega arith) ∙ ap (λ (j : ℕ). b ++ drop j w) z
+            ∙ sym (ap (λ (x : Bool). cond x w (b ++ drop (length b) w)) s);
+      }
+
+-- ---- the whole
+-- the first of three, with more behind the third where it is a refusal
+refused-same : (a m i : Bool) (x y o rest : Outcome) → (i ≡ true → o .number ≡ 0)
+    → (cond a x (cond m y o) .number ≡ 0 → ⊥)
+    → cond a x (cond m y (cond (not i) o rest)) ≡ cond a x (cond m y o)
+refused-same true m i x y o rest h ne = refl
+refused-same false true i x y o rest h ne = refl
+refused-same false false true x y o rest h ne = absurd (ne (h refl))
+refused-same false false false x y o rest h ne = refl
+
+zero-parts : (a m : Bool) (x y o : Outcome) → (a ≡ true → x .number ≡ 0 → ⊥) → (y .number ≡ 0 → ⊥)
+    → cond a x (cond m y o) .number ≡ 0 → (a ≡ false) × ((m ≡ false) × (o .number ≡ 0))
+zero-parts true m x y o hx hy e = absurd (hx refl e)
+zero-parts false true x y o hx hy e = absurd (hy e)
+zero-parts false false x y o hx hy e = (refl, (refl, e))
+
+ended-zero : (r : Run) → ended r .number ≡ 0 → eqb (r .inner) 0 ≡ true
+unfolding ended
+ended-zero r e = by (eqb (r .inner) 0) e
+  where
+    by : (b : Bool) → _≡_ {A = ℕ} (cond b 0 27) 0 → b ≡ true
+    by true e = refl
+    by false e = absurd (omega arith)
+
+zero-ended : (r : Run) → eqb (r .inner) 0 ≡ true → ended r .number ≡ 0
+unfolding ended
+zero-ended r e = ap (λ (b : Bool). cond b 0 27) e
+
+module _ (c t : List ℕ) (e : ℕ) (r w : List ℕ) where
+  st : ℕ
+  st = standing limits (storedConfig c) (storedTable t)
+
+  R : Run
+  R = ranAt limits (storedConfig c) (storedTable t) (askedOf r)
+
+  b : List ℕ
+  b = planIn c t e r
+
+  behind : Outcome
+  behind = cond (ltb (length w) (length b)) (plain 28 0) (plain 0 (length b))
+
+  Answer : Outcome
+  Answer = fillAnswer (writerRules limits (lentIn c t e) (askedOf r)) b (length w)
+
+  -- a refusal is an answer that leaves the buffer
+  as-refused : (o : Outcome) (u : List ℕ) → o ≡ Answer → (o .number ≡ 0 → ⊥) → u ≡ t → WritesIn c t e r w o u w
+  unfolding write Answer b
+  as-refused o u f ne eu = record {
+    answer = f;
+    buffer = sym (leaves-all _ b w (λ z. ne (ap (λ (x : Outcome). x .number) f ∙ z)));
+    table = eu;
+  }
+
+  -- no next edition
+  pub writes-none : (o : Outcome) → o ≡ noNext c t → e ≡ lastEdition → WritesIn c t e r w o t w
+  unfolding noNext Answer fillAnswer writerRules firstRule st
+  writes-none o f last =
+      let same : noNext c t ≡ Answer =
+      by (eqb st 0)
+      (cond (ltb mostRequests (length (askedOf r))) (plain 29 0)
+      (cond (not (eqb (ranAt limits (storedConfig c) (storedTable t) (askedOf r) .inner) 0))
+      (ended (ranAt limits (storedConfig c) (storedTable t) (askedOf r)))
+      (cond (ltb (length w) (length b)) (plain 28 0) (plain 0 (length b)))))
+      (eqb e lastEdition) (eq-eqb e lastEdition last) in
+      as-refused o t (f ∙ same) (ne-of (eqb st 0) refl o f) refl
+    where
+      by : (a : Bool) (x : Outcome) (l : Bool) → l ≡ true
+          → cond a (plain 25 0) (plain st 0) ≡ cond (not a) (plain st 0) (cond l (plain 25 0) x)
+      by true x true h = refl
+      by false x true h = refl
+      by a x false h = absurd (true≢false (sym h))
+
+      ne-of : (a : Bool) → eqb st 0 ≡ a → (o : Outcome) → o ≡ cond a (plain 25 0) (plain st 0) → o .number ≡ 0 → ⊥
+      ne-of true h o f z = let k : _≡_ {A = ℕ} 25 0 = sym (ap (λ (x : Outcome). x .number) f) ∙ z in omega arith
+      ne-of false h o f z = eqb-false st 0 h (sym (ap (λ (x : Outcome). x .number) f) ∙ z)
+
+  -- ---- a run that was tried
+  tried-as : trialAnswer limits (storedConfig c) (storedTable t) (requestsIn r)
+      ≡ cond (not (eqb st 0)) (plain st 0) (cond (ltb mostRequests (length (askedOf r))) (plain 29 0) (ended R))
+  unfolding trialAnswer firstRule st R
+  tried-as =
+      let q : requestsIn r ≡ requestsFrom (askedOf r) = sym (asked-requests r) in
+      let n : length (requestsIn r) ≡ length (askedOf r) = ap length q ∙ length-map (askedOf r) _ in
+      (λ i. cond (not (eqb (standing limits (storedConfig c) (storedTable t)) 0))
+      (plain (standing limits (storedConfig c) (storedTable t)) 0)
+      (cond (ltb mostRequests (n i)) (plain 29 0)
+      (ended (run limits (configIn c) (tableOf (storedTable t)) (q i)))))
+
+  answer-as : (e ≡ lastEdition → ⊥)
+      → Answer
+      ≡ cond (not (eqb st 0)) (plain st 0)
+      (cond (ltb mostRequests (length (askedOf r))) (plain 29 0)
+      (cond (not (eqb (R .inner) 0)) (ended R) behind))
+  unfolding Answer fillAnswer writerRules firstRule st R behind b
+  answer-as ne = rw (ne-eqb e lastEdition ne)
+
+  module _ (o : Outcome) (f : o ≡ trialAnswer limits (storedConfig c) (storedTable t) (requestsIn r))
+      (u : List ℕ) (eu : u ≡ t) (ne : e ≡ lastEdition → ⊥) where
+    pub writes-refused : (o .number ≡ 0 → ⊥) → WritesIn c t e r w o u w
+    writes-refused nz =
+        as-refused o u
+        (f ∙ tried-as
+        ∙ sym (refused-same (not (eqb st 0)) (ltb mostRequests (length (askedOf r))) (eqb (R .inner) 0) (plain st 0)
+        (plain 29 0) (ended R) behind (zero-ended R)
+        (λ z. nz (ap (λ (x : Outcome). x .number) (f ∙ tried-as) ∙ z)))
+        ∙ sym (answer-as ne))
+        nz eu
+
+    module _ (z : o .number ≡ 0) where
+      zeros : (not (eqb st 0) ≡ false) × ((ltb mostRequests (length (askedOf r)) ≡ false) × (ended R .number ≡ 0))
+      zeros =
+          zero-parts (not (eqb st 0)) (ltb mostRequests (length (askedOf r))) (plain st 0) (plain 29 0) (ended R)
+          (λ a h. eqb-false st 0 (not-true _ a) h) (λ h. omega arith)
+          (sym (ap (λ (x : Outcome). x .number) (f ∙ tried-as)) ∙ z)
+
+      pub tried-stands : Stands c u
+      unfolding st
+      tried-stands = subst (Stands c) (sym eu) (eqb-true _ _ (not-false _ (zeros .0)))
+
+      pub tried-few : length r / requestSize ≤ mostRequests
+      tried-few =
+          let few : length (askedOf r) ≤ mostRequests = ltb-false _ _ (zeros .1 .0) in
+          omega (arith, asked-many r)
+
+      answer-behind : Answer ≡ behind
+      answer-behind =
+          answer-as ne
+          ∙ rw (zeros .0, zeros .1 .0, not-holds _ (ended-zero R (zeros .1 .1)))
+
+      pub writes-filled : (p : Outcome) (v : List ℕ) → FilledIn (planIn c u e r) w p v → WritesIn c t e r w p u v
+      unfolding write Answer behind b
+      writes-filled p v g =
+          let h : FilledIn (planIn c t e r) w p v = subst (λ (x : List ℕ). FilledIn (planIn c x e r) w p v) eu g in record {
+            answer = h .answer ∙ sym answer-behind;
+            buffer = h .buffer ∙ by (ltb (length w) (length b)) refl ∙ ap (λ (x : Outcome). fillLeaves x b w) (sym answer-behind);
+            table = eu;
+          }
+        where
+          by : (x : Bool) → ltb (length w) (length b) ≡ x
+              → cond x w (b ++ drop (length b) w) ≡ fillLeaves (cond x (plain 28 0) (plain 0 (length b))) b w
+          by true k = sym (leaves-all (plain 28 0) b w (λ y. omega arith))
+          by false k = sym (leaves-filled (plain 0 (length b)) b w refl)

@@ -1,31 +1,34 @@
 -- Terminals with owners: their rules are the first machine's with one test widened, and their lines likewise; what holds
 -- of every proper step rule holds of theirs.
-use Prim.Native.Nat.{ℕ, suc}
+use Prim.Native.Nat.{ℕ, suc, _<_}
 use native.Mathlib.Omega.{arith}
 use mathlib.Core.Bool.{Bool, true, false, cond, _&&_, _||_, true≢false}
 use mathlib.Core.List.{List, [], _∷_, map}
 use mathlib.Core.Logic.{_⊎_, inl, inr, ⊎-elim}
-use mathlib.Core.Path.{_≡_, refl, sym, ap, _∙_}
+use mathlib.Core.Path.{_≡_, refl, sym, ap, subst, _∙_}
 use borrow.Author.Tests.{eqb-true, eqb-false, eq-eqb}
 use lib.Dec.{eqb}
-use lib.ListN.{getD}
+use lib.ListN.{length, getD}
 use Rattle.lists.specs.First.{all}
 use Rattle.lists.specs.Lines.{Line}
-use Rattle.lists.specs.Rules.{Rule, firstRule}
+use Rattle.lists.specs.Rules.{Rule, _when_, firstRule}
 use Rattle.lists.proofs.Every.{all-at, all-make}
 use Rattle.lists.proofs.Lines.{Tells, tells-not, first-of, all as no-more, _and_, Matches}
 use Rattle.lists.proofs.Rules.{Quiet, quiet, aboveZero, numbers-tell, quiet-answer, stage-skip}
 use Rattle.lists.proofs.Runs.{run-keeps}
 use Rattle.lists.proofs.Tests.{one-true, or-left, or-right, both-true, true-both, parts, whole}
+use Rattle.formats.specs.Formats.{got, bad, Out}
+use Rattle.rules.specs.Applying.{plain, baseRules, judgedBy, applyReadBy, applyBy, TerminalOf}
 use Rattle.rules.specs.Changes.{setAt}
 use Rattle.rules.specs.Configuration.{gicOf, isSound}
 use Rattle.rules.specs.Limits.{Limits}
-use Rattle.rules.specs.OwnedPlan.{ownedSteps}
+use Rattle.rules.specs.OwnedPlan.{readOwned, ownedSteps, OwnedPlan}
 use Rattle.rules.specs.OwnedSizes.{longestOwnedSize, ownedWith}
 use Rattle.rules.specs.Owners.{ownedOf, ownedCheck, isOwnedSound, ownedSound, ownedCheckTable, mayHold, holdsOwn}
 use Rattle.rules.specs.Owners.{stranger, elevenToo, elevenOver, ownedRules, ownedRefusal, ownedNext, ownedStandingRules}
 use Rattle.rules.specs.Owners.{ownedStanding, ownedAnswer, ownedRun, ownedRunAnswer, ownedTranslated, ownerOf, Owned}
 use Rattle.rules.specs.Owners.{StoredOwned}
+use Rattle.rules.specs.Plan.{requestsFrom}
 use Rattle.rules.specs.Regions.{regionEq, noRegion}
 use Rattle.rules.specs.Requests.{find, requestRules, refusal, next}
 use Rattle.rules.specs.Run.{runBy, runFrom, ended, Run}
@@ -35,10 +38,12 @@ use Rattle.rules.specs.declared.Checked.the-variants.{Sound}
 use Rattle.rules.specs.declared.Kind.{Kind}
 use Rattle.rules.specs.declared.Kind.the-variants.{AddZone, RemoveZone, Insert, Remove, NoRequest}
 use Rattle.rules.specs.declared.OwnedChecked.the-variants.{Plain}
+use Rattle.rules.specs.declared.Outcome.{Outcome}
 use Rattle.rules.specs.declared.Region.{Region}
 use Rattle.rules.specs.declared.Request.{Request}
 use Rattle.rules.specs.declared.Side.{Side}
 use Rattle.rules.specs.declared.Side.the-variants.{Cpu, Iommu}
+use Rattle.rules.proofs.Applying.{outcome-by}
 use Rattle.rules.proofs.Configuration.{sound-is}
 use Rattle.rules.proofs.Keeps.{sound-parts, parts-sound}
 use Rattle.rules.proofs.OwnedCheck.{owned-sound-is, owned-sound-answer, plain-passed, owned-passed}
@@ -56,12 +61,15 @@ use Rattle.promises.specs.Owned.{MayHold, Stranger, elevenLine, OwnedRef
 use Rattle.promises.specs.Owned.{OwnedRunKeepsSound, OwnedEmptyIsSound, NoTwelveNoFourteen, HoldsOwn}
 use Rattle.promises.specs.Owned.{OwnedTableCheckIsExact, OwnedStandingIsInside, OwnedPlansReadBack}
 use Rattle.promises.specs.Owned.{OwnedPlansAreTight, OwnedPlanLengths, OwnedIsProper, OwnedPassedIsGood}
-use Rattle.promises.specs.Owned.{OwnedTerminals}
+use Rattle.promises.specs.Owned.{Neither, NeverTwelveNorFourteen, OwnedTerminals, OwnedWriter}
+use Rattle.promises.specs.Steps.{runOfBy}
 use Rattle.promises.proofs.Answers.{tells-kind, tells-lt, kind-matches}
 use Rattle.promises.proofs.Steps.{refusal-stays-by, configuration-stays-by, apply-keeps-sound-by}
 use Rattle.promises.proofs.Steps.{accepted-is-plan-by, plan-is-accepted-by, past-the-longest-by, steps-follow}
 use Rattle.promises.proofs.Steps.{equal-editions-by, lower-is-behind-by}
 use Rattle.promises.proofs.Tables.{empty-is-sound}
+use Rattle.promises.proofs.Writing.{refusal-leaves-buffer-by, success-fills-by, writes-when-may-ask-by}
+use Rattle.promises.proofs.Writing.{written-is-accepted-by, accepted-is-written-by}
 
 -- ---- what a zone may hold
 isIommu : Side → Bool
@@ -191,6 +199,32 @@ module _ (lim : Limits) where
       let tab = owned-parts lim (ownedOf s) t ok in
       (no-twelve lim (ownedOf s) good t tab q, no-fourteen lim (ownedOf s) good t tab q)
 
+  -- the numbers of a run are those of requests at sound tables; 0, 1 and 2 are neither
+  neither : (n : ℕ) → n < 12 → Neither n
+  neither n h = ((λ e. omega arith), λ e. omega arith)
+
+  module _ (c : StoredOwned) (full : length (c .config .records) ≡ lim .regions) where
+    run-tells-neither : (i : ℕ) (t : List Zone) (qs : List Request) → ownedCheck lim c ≡ Plain Sound
+        → OwnedTable lim (ownedOf c) t
+        → Neither (runBy (ownedRefusal lim (ownedOf c)) (ownedNext lim (ownedOf c)) i t qs .inner)
+    unfolding runBy
+    run-tells-neither i t [] e tab = neither 0 (omega arith)
+    run-tells-neither i t (q ∷ qs) e tab =
+        let o : Owned = ownedOf c in
+        let good = owned-passed lim c full e in
+        by (runBy (ownedRefusal lim o) (ownedNext lim o) (suc i) (ownedNext lim o t q) qs)
+        (record { place = i; inner = ownedRefusal lim o t q; table = t })
+        (run-tells-neither (suc i) (ownedNext lim o t q) qs e (owned-keeps lim o t q tab))
+        (no-twelve lim o good t tab q, no-fourteen lim o good t tab q) (eqb (ownedRefusal lim o t q) 0)
+      where
+        by : (a b : Run) → Neither (a .inner) → Neither (b .inner) → (x : Bool) → Neither (cond x a b .inner)
+        by a b f g true = f
+        by a b f g false = g
+
+    stands-tells-neither : (t : StoredTable) (qs : List Request) → ownedStanding lim c t ≡ 0
+        → Neither (ownedRun lim (ownedOf c) (tableOf t) qs .inner)
+    stands-tells-neither t qs z = let (e, tab) = owned-stands-well lim c t z in run-tells-neither 0 (tableOf t) qs e tab
+
   -- ---- tables
   own-means : (o : Owned) (t : List Zone) → all (holdsOwn o) t ≡ true → HoldsOwn o t
   unfolding holdsOwn sideOf
@@ -254,6 +288,75 @@ module _ (lim : Limits) where
     requests =
         λ qs. ap (λ (b : Bool). cond b (ended (ownedRun lim (ownedOf c) (tableOf t) qs))
         (record { number = ownedStanding lim c t; place = 0; inner = 0 })) (eq-eqb _ 0 z);
+  }
+
+  -- ---- 12 and 14 from outside
+  -- behind 1 and 2
+  behind-standing : (u v : Bool) (n : ℕ) → (_≡_ {A = ℕ} (firstRule (1 when u ∷ 2 when v ∷ []) 0) 0 → Neither n)
+      → Neither (firstRule (1 when u ∷ 2 when v ∷ []) n)
+  unfolding firstRule
+  behind-standing true v n f = neither 1 (omega arith)
+  behind-standing false true n f = neither 2 (omega arith)
+  behind-standing false false n f = f refl
+
+  -- behind 23 to 26
+  behind-base : (u v w x : Bool) (o : Outcome) → Neither (o .inner)
+      → Neither (firstRule (plain 23 0 when u ∷ plain 24 0 when v ∷ plain 25 0 when w ∷ plain 26 0 when x ∷ []) o .inner)
+  unfolding firstRule
+  behind-base true v w x o f = neither 0 (omega arith)
+  behind-base false true w x o f = neither 0 (omega arith)
+  behind-base false false true x o f = neither 0 (omega arith)
+  behind-base false false false true o f = neither 0 (omega arith)
+  behind-base false false false false o f = f
+
+  module _ (s : TerminalOf StoredOwned) (b : List ℕ) (full : length (s .config .config .records) ≡ lim .regions)
+      (z : ownedStanding lim (s .config) (s .table) ≡ 0) where
+    read-tells-neither : (o : Out OwnedPlan) → Neither (applyReadBy (ownedSteps lim) s b o .outcome .inner)
+    unfolding applyReadBy baseRules ended
+    read-tells-neither (bad k t) = neither 0 (omega arith)
+    read-tells-neither (got p t) =
+        let r : Run = runOfBy (ownedSteps lim) s p in
+        let j : Outcome = judgedBy (ownedSteps lim) s p r in
+        subst (λ (o : Outcome). Neither (o .inner)) (sym (outcome-by lim s j r))
+        (behind-base _ _ _ _ (ended r)
+        (stands-tells-neither (s .config) full (s .table) (requestsFrom (p .plan .asked)) z))
+
+  request-tells-neither : (c : StoredOwned) (t : StoredTable) (q : Request) → length (c .config .records) ≡ lim .regions
+      → Neither (ownedAnswer lim c t q)
+  unfolding ownedAnswer ownedStandingRules
+  request-tells-neither c t q full =
+      behind-standing _ _ (ownedRefusal lim (ownedOf c) (tableOf t) q) (λ z.
+      let (e, tab) = owned-stands-well lim c t z in
+      let good = owned-passed lim c full e in
+      (no-twelve lim (ownedOf c) good (tableOf t) tab q, no-fourteen lim (ownedOf c) good (tableOf t) tab q))
+
+  requests-tell-neither : (c : StoredOwned) (t : StoredTable) (qs : List Request)
+      → length (c .config .records) ≡ lim .regions → Neither (ownedRunAnswer lim c t qs .inner)
+  unfolding ownedRunAnswer ended
+  requests-tell-neither c t qs full = by (eqb (ownedStanding lim c t) 0) refl
+    where
+      by : (x : Bool) → eqb (ownedStanding lim c t) 0 ≡ x
+          → Neither (cond x (ended (ownedRun lim (ownedOf c) (tableOf t) qs)) (plain (ownedStanding lim c t) 0) .inner)
+      by true e = stands-tells-neither c full t qs (eqb-true _ _ e)
+      by false e = neither 0 (omega arith)
+
+  plan-tells-neither : (s : TerminalOf StoredOwned) (b : List ℕ) → length (s .config .config .records) ≡ lim .regions
+      → Neither (applyBy (ownedSteps lim) s b .outcome .inner)
+  unfolding applyBy
+  plan-tells-neither s b full = by (eqb (ownedStanding lim (s .config) (s .table)) 0) refl
+    where
+      by : (x : Bool) → eqb (ownedStanding lim (s .config) (s .table)) 0 ≡ x
+          → Neither
+          (cond x (applyReadBy (ownedSteps lim) s b (readOwned lim b))
+          (record { outcome = plain (ownedStanding lim (s .config) (s .table)) 0; state = s }) .outcome .inner)
+      by true e = read-tells-neither s b full (eqb-true _ _ e) (readOwned lim b)
+      by false e = neither 0 (omega arith)
+
+  pub never-twelve-nor-fourteen : NeverTwelveNorFourteen lim
+  never-twelve-nor-fourteen = record {
+    request = request-tells-neither;
+    requests = requests-tell-neither;
+    plan = plan-tells-neither;
   }
 
   -- ---- plans
@@ -336,4 +439,13 @@ module _ (lim : Limits) where
     follow = steps-follow (ownedSteps lim) owned-is-proper;
     equal-editions = equal-editions-by (ownedSteps lim) owned-is-proper;
     lower-is-behind = lower-is-behind-by (ownedSteps lim) owned-is-proper;
+  }
+
+  pub owned-writer : OwnedWriter lim
+  owned-writer = record {
+    written-is-accepted = written-is-accepted-by (ownedSteps lim) owned-is-proper;
+    accepted-is-written = accepted-is-written-by (ownedSteps lim) owned-is-proper;
+    writes-when-may-ask = writes-when-may-ask-by (ownedSteps lim);
+    refusal-leaves-buffer = refusal-leaves-buffer-by (ownedSteps lim);
+    success-fills = success-fills-by (ownedSteps lim);
   }

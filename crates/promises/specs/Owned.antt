@@ -10,7 +10,7 @@ use Rattle.lists.specs.Bytes.{Bytes}
 use Rattle.lists.specs.Lines.{_given_, FirstOf, Exactly, Line}
 use Rattle.lists.specs.Runs.{runs}
 use Rattle.formats.specs.Formats.{got}
-use Rattle.rules.specs.Applying.{applyBy, answerAloneBy}
+use Rattle.rules.specs.Applying.{applyBy, answerAloneBy, TerminalOf}
 use Rattle.rules.specs.Configuration.{gicOf}
 use Rattle.rules.specs.Limits.{highestId, Limits, Sayable}
 use Rattle.rules.specs.OwnedPlan.{readOwned, encodeOwned, ownedSteps, OwnedPlanFits, OwnedPlan}
@@ -37,6 +37,8 @@ use Rattle.promises.specs.Steps.{RefusalStaysBy, ConfigurationStaysBy, A
 use Rattle.promises.specs.Steps.{PlanIsAcceptedBy, PastTheLongestBy, GoodConfig, StepsFollow, EqualEditionsBy}
 use Rattle.promises.specs.Steps.{LowerIsBehindBy, Proper}
 use Rattle.promises.specs.Tables.{In}
+use Rattle.promises.specs.Writing.{WrittenIsAcceptedBy, AcceptedIsWrittenBy, WritesWhenMayAskBy}
+use Rattle.promises.specs.Writing.{RefusalLeavesBufferBy, SuccessFillsBy}
 
 -- ---- beside document 01's machine
 -- a request that this machine accepts the first accepts, with the same next table; and so with requests in turn
@@ -111,10 +113,23 @@ abbrev pub OwnedEmptyIsSound : Limits → Type 0
 OwnedEmptyIsSound l = (o : Owned) → ownedSound l o [] ≡ true
 
 -- at a sound table 12 and 14 are not answered
+abbrev pub Neither : ℕ → Type 0
+Neither n = (n ≡ 12 → ⊥) × (n ≡ 14 → ⊥)
+
 abbrev pub NoTwelveNoFourteen : Limits → Type 0
 NoTwelveNoFourteen l =
     (s : StoredOwned) (t : List Zone) (q : Request) → OwnedPassed l s → ownedSound l (ownedOf s) t ≡ true
-    → (ownedRefusal l (ownedOf s) t q ≡ 12 → ⊥) × (ownedRefusal l (ownedOf s) t q ≡ 14 → ⊥)
+    → Neither (ownedRefusal l (ownedOf s) t q)
+
+-- so from outside they never occur, whatever is lent: not as the number of a request, and not as the inner number of a
+-- run or of a plan
+pub record NeverTwelveNorFourteen (l : Limits) : Type 0 where
+  pub request : (c : StoredOwned) (t : StoredTable) (q : Request) → length (c .config .records) ≡ l .regions
+      → Neither (ownedAnswer l c t q)
+  pub requests : (c : StoredOwned) (t : StoredTable) (qs : List Request) → length (c .config .records) ≡ l .regions
+      → Neither (ownedRunAnswer l c t qs .inner)
+  pub plan : (s : TerminalOf StoredOwned) (b : List ℕ) → length (s .config .config .records) ≡ l .regions
+      → Neither (applyBy (ownedSteps l) s b .outcome .inner)
 
 -- ---- tables
 -- every region of a zone is one that it may hold
@@ -186,3 +201,11 @@ pub record OwnedTerminals (l : Limits) : Type 0 where
   pub follow : Sayable l → StepsFollow (ownedSteps l) (applyBy (ownedSteps l))
   pub equal-editions : Sayable l → EqualEditionsBy (ownedSteps l) (applyBy (ownedSteps l))
   pub lower-is-behind : Sayable l → LowerIsBehindBy (ownedSteps l) (applyBy (ownedSteps l))
+
+-- and so does what is said of the planner's writer
+pub record OwnedWriter (l : Limits) : Type 0 where
+  pub written-is-accepted : WrittenIsAcceptedBy (ownedSteps l) (applyBy (ownedSteps l))
+  pub accepted-is-written : AcceptedIsWrittenBy (ownedSteps l) (applyBy (ownedSteps l))
+  pub writes-when-may-ask : WritesWhenMayAskBy (ownedSteps l)
+  pub refusal-leaves-buffer : RefusalLeavesBufferBy (ownedSteps l)
+  pub success-fills : SuccessFillsBy (ownedSteps l)

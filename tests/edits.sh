@@ -1,6 +1,6 @@
 #!/usr/bin/env bash
 # Each must-fail edit still says which text it changes: the line behind `old:` stands once, and only once, in the file that it names. The gate
-# begins with this, since the edits themselves are tried half an hour later.
+# begins with this, since the edits themselves (must_fail.sh) are tried after the proofs.
 set -euo pipefail
 cd "$(dirname "$0")/.."
 
@@ -11,9 +11,10 @@ say_failed() {
 }
 
 count=0
-for edit in crates/*/must-fail/*.edit; do
+for edit in must-fail/*/*.edit; do
     count=$((count + 1))
-    crate=${edit%/must-fail/*}
+    crate=${edit#must-fail/}
+    crate=crates/${crate%%/*}
     file=
     while IFS= read -r line; do
         case $line in

@@ -121,10 +121,10 @@ module _ {C : Type 0} (s : TerminalOf C) (same : Bool) (e : ℕ) (zs : List Zone
         ended-well well,
       )
 
-  pub base-accepted : SameBase s same e zs → (s .edition ≡ lastEdition → ⊥) → r .inner ≡ 0
-      → answered ≡ plain 0 (r .place)
+  -- for the base, below the last edition, it is what the run ended with
+  pub base-judged : SameBase s same e zs → (s .edition ≡ lastEdition → ⊥) → answered ≡ ended r
   unfolding baseRules
-  base-accepted b last inner =
+  base-judged b last =
       let z : sameList sameZone (tableOf (s .table)) zs ≡ true =
       ap (λ (l : List Zone). sameList sameZone l zs) (b .zones) ∙ list-same sameZone zone-same zs in
       sym
@@ -132,7 +132,10 @@ module _ {C : Type 0} (s : TerminalOf C) (same : Bool) (e : ℕ) (zs : List Zone
         not-holds _ (b .config),
         (not-holds _ (eq-eqb _ _ (b .edition)), (ne-eqb _ _ last, (not-holds _ z, tt))),
       ))
-      ∙ well-ended inner
+
+  pub base-accepted : SameBase s same e zs → (s .edition ≡ lastEdition → ⊥) → r .inner ≡ 0
+      → answered ≡ plain 0 (r .place)
+  base-accepted b last inner = base-judged b last ∙ well-ended inner
 
 -- what was settled: the answer as it is, and the state as it was or moved
 module _ {C : Type 0} (l : Limits) (s : TerminalOf C) (o : Outcome) (r : Run) where

@@ -31,6 +31,7 @@ pub mod RequestExamples
 pub mod CheckExamples
 pub mod PlanExamples
 pub mod WriterExamples
+pub mod OneZone
 pub mod Closure
 pub mod Inductive
 pub mod Budget

@@ -21,16 +21,16 @@ module _ (number : List Zone → Request → ℕ) (after : List Zone → Request
   abbrev onward : ℕ → List Zone → List Request → Run
   onward = runBy number after
 
-  abbrev stopped : ℕ → List Zone → Request → Run
+  abbrev pub stopped : ℕ → List Zone → Request → Run
   stopped k t q = record { place = k; inner = number t q; table = t }
 
   -- the first request is accepted; it is refused
   module _ (k : ℕ) (t : List Zone) (q : Request) (qs : List Request) where
-    goes-on : number t q ≡ 0 → onward k t (q ∷ qs) ≡ onward (suc k) (after t q) qs
+    pub goes-on : number t q ≡ 0 → onward k t (q ∷ qs) ≡ onward (suc k) (after t q) qs
     unfolding runBy
     goes-on e = ap (λ (b : Bool). cond b (onward (suc k) (after t q) qs) (stopped k t q)) (eq-eqb (number t q) 0 e)
 
-    stops-here : (number t q ≡ 0 → ⊥) → onward k t (q ∷ qs) ≡ stopped k t q
+    pub stops-here : (number t q ≡ 0 → ⊥) → onward k t (q ∷ qs) ≡ stopped k t q
     unfolding runBy
     stops-here ne = ap (λ (b : Bool). cond b (onward (suc k) (after t q) qs) (stopped k t q)) (ne-eqb (number t q) 0 ne)
 
@@ -59,6 +59,20 @@ module _ (number : List Zone → Request → ℕ) (after : List Zone → Request
           → cond b (onward (suc i) (after t q) qs) (stopped i t q) .inner ≡ 0
           → cond b (onward (suc i) (after t q) qs) (stopped i t q) .place ≡ i + length (q ∷ qs)
       by f true h g = f g ∙ omega arith
+      by f false h g = absurd (eqb-false _ _ h g)
+
+  -- and leaves what the steps leave
+  pub run-leads : (i : ℕ) (t : List Zone) (qs : List Request) → onward i t qs .inner ≡ 0
+      → onward i t qs .table ≡ runs after t qs
+  unfolding runBy runs
+  run-leads i t [] e = refl
+  run-leads i t (q ∷ qs) e = by (run-leads (suc i) (after t q) qs) (eqb (number t q) 0) refl e
+    where
+      by : (onward (suc i) (after t q) qs .inner ≡ 0 → onward (suc i) (after t q) qs .table ≡ runs after (after t q) qs)
+          → (b : Bool) → eqb (number t q) 0 ≡ b
+          → cond b (onward (suc i) (after t q) qs) (stopped i t q) .inner ≡ 0
+          → cond b (onward (suc i) (after t q) qs) (stopped i t q) .table ≡ runs after (after t q) qs
+      by f true h g = f g
       by f false h g = absurd (eqb-false _ _ h g)
 
   module _ (d : Request) where

@@ -19,3 +19,5 @@ pub mod Families
 pub mod OwnedConfiguration
 pub mod Owned
 pub mod Budget
+pub mod Neighbours
+pub mod OwnedNeighbours

@@ -11,11 +11,15 @@ use lib.ListN.{getD, set}
 use Rattle.lists.specs.First.{firstIndex, any, all}
 use Rattle.lists.specs.Pairs.{pairwise}
 use Rattle.lists.specs.Room.{removeAt}
-use Rattle.lists.proofs.Every.{all-at, none-make}
-use Rattle.lists.proofs.Tests.{both-true, both-false, false-of}
-use Rattle.rules.specs.Changes.{added, dropped}
-use Rattle.rules.specs.Requests.{find, present}
-use Rattle.rules.specs.Tables.{emptyZone, noZone, hasId, zoneIn, idsDiffer, Zone}
+use Rattle.lists.proofs.Every.{all-at, all-right, none-make}
+use Rattle.lists.proofs.Tests.{both-true, both-false, false-both, false-of}
+use Rattle.rules.specs.Changes.{setAt, withSide, putSet, added, pushed, cut, dropped}
+use Rattle.rules.specs.Regions.{regionEq}
+use Rattle.rules.specs.Requests.{find, present, after}
+use Rattle.rules.specs.Tables.{emptyZone, noZone, sideOf, hasId, zoneIn, idsDiffer, Zone}
+use Rattle.rules.specs.declared.Kind.{Kind}
+use Rattle.rules.specs.declared.Kind.the-variants.{AddZone, RemoveZone, Insert, Remove, NoRequest}
+use Rattle.rules.proofs.Keeps.{id-kept}
 
 -- ---- where it is
 module _ (id : ℕ) where
@@ -118,3 +122,38 @@ module _ (id x : ℕ) where
           ap (λ (m : ℕ). cond (eqb m x) (some (g z)) (zoneIn t x)) (kept z n) ∙ over (eqb id x)
           ∙ ap (λ (m : ℕ). cond (eqb id x) (some (g z)) (cond (eqb m x) (some z) (zoneIn t x))) (sym n)
       by f false q = under (eqb (z .id) x) (eqb id x) _ _ _ _ (not-both (z .id) q) f
+
+-- where an added zone is the only one with its id, there was none before
+none-before : (id : ℕ) (t : List Zone) → pairwise idsDiffer (added id t) ≡ true → present id t ≡ false
+unfolding added pairwise all any
+none-before id [] e = refl
+none-before id (z ∷ t) e =
+    let h = both-true (all (idsDiffer z) (added id t)) (pairwise idsDiffer (added id t)) e in
+    let d = all-right (idsDiffer z) t (emptyZone id ∷ []) (h .0) in
+    false-both (eqb (z .id) id) (present id t) (not-true _ (both-true (idsDiffer z (emptyZone id)) true d .0))
+    (none-before id t (h .1))
+
+-- ---- what an accepted request makes of the zone that it names, from that zone alone
+unfoldable pub ownAfter : Kind → ℕ → Option Zone → Option Zone
+ownAfter AddZone id v = some (emptyZone id)
+ownAfter RemoveZone id v = none
+ownAfter (Insert s r) id v = Option·map (λ z. withSide s (sideOf s z ++ r ∷ []) z) v
+ownAfter (Remove s r) id v =
+    Option·map (λ z. withSide s (removeAt (firstIndex (regionEq r) (sideOf s z)) (sideOf s z)) z) v
+ownAfter NoRequest id v = v
+
+-- and every other zone stays: in both tables an id names one zone
+pub zone-after : (k : Kind) (id x : ℕ) (t : List Zone) → pairwise idsDiffer t ≡ true
+    → pairwise idsDiffer (after k id t) ≡ true
+    → zoneIn (after k id t) x ≡ cond (eqb id x) (ownAfter k id (zoneIn t id)) (zoneIn t x)
+unfolding after ownAfter pushed cut putSet setAt
+zone-after AddZone id x t e f = zone-added id x t (none-before id t f)
+zone-after RemoveZone id x t e f = zone-dropped id x t e
+zone-after (Insert s r) id x t e f = zone-changed id x _ (λ z h. id-kept s (sideOf s z ++ r ∷ []) z ∙ h) t
+zone-after (Remove s r) id x t e f =
+    zone-changed id x _ (λ z h. id-kept s (removeAt (firstIndex (regionEq r) (sideOf s z)) (sideOf s z)) z ∙ h) t
+zone-after NoRequest id x t e f = by (eqb id x) refl
+  where
+    by : (b : Bool) → eqb id x ≡ b → zoneIn t x ≡ cond b (zoneIn t id) (zoneIn t x)
+    by true q = ap (zoneIn t) (sym (eqb-true _ _ q))
+    by false q = refl

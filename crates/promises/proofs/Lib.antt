@@ -21,3 +21,4 @@ pub mod Owned
 pub mod Budget
 pub mod Neighbours
 pub mod OwnedNeighbours
+pub mod NeighboursShown

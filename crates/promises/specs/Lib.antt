@@ -22,3 +22,4 @@ pub mod Owned
 pub mod Budget
 pub mod Neighbours
 pub mod OwnedNeighbours
+pub mod NeighboursShown

@@ -13,15 +13,15 @@ use lib.ListN.{length, getD}
 use Rattle.lists.specs.First.{any, all}
 use Rattle.lists.specs.Orders.{keep}
 use Rattle.lists.specs.Pairs.{pairwise}
-use Rattle.lists.specs.Room.{room}
 use Rattle.lists.specs.Rules.{Rule, _when_, firstRule}
 use Rattle.lists.specs.Runs.{runs}
 use Rattle.lists.proofs.Orders.{keep-append}
 use Rattle.lists.proofs.Rules.{testOf, aboveZero, silent-number}
 use Rattle.lists.proofs.Runs.{run-keeps, runs-append}
 use Rattle.lists.proofs.Tests.{both-true, holds-or-fails}
-use Rattle.formats.specs.Formats.{got, Out}
-use Rattle.rules.specs.Applying.{lastEdition, store, plain, Kept, judgedBy, applyReadBy, applyBy, plainSteps, apply, AppliedOf}
+use Rattle.formats.specs.Formats.{Out}
+use Rattle.rules.specs.Applying.{lastEdition, store, plain, Kept, judgedBy, applyReadBy, applyBy, plainSteps, apply}
+use Rattle.rules.specs.Applying.{AppliedOf}
 use Rattle.rules.specs.Changes.{setAt}
 use Rattle.rules.specs.Configuration.{configOf, check, Configuration, StoredConfig}
 use Rattle.rules.specs.Limits.{Limits}
@@ -31,7 +31,7 @@ use Rattle.rules.specs.Requests.{find, present, heldIn, holdsAny, addRules, rem
 use Rattle.rules.specs.Requests.{insertRules, removeRules, kindRules, requestRules, refusal, after, nextBy, next}
 use Rattle.rules.specs.Requests.{standingRules, standing, answer}
 use Rattle.rules.specs.Run.{runBy, ended, Run}
-use Rattle.rules.specs.Steps.{ranBy, StepRule}
+use Rattle.rules.specs.Steps.{StepRule}
 use Rattle.rules.specs.Tables.{noZone, sideOf, zoneIn, tableOf, idsDiffer, Zone, StoredTable}
 use Rattle.rules.specs.Translation.{translationRules, translation, translated}
 use Rattle.rules.specs.declared.Guest.{Guest}
@@ -48,12 +48,12 @@ use Rattle.rules.proofs.Configuration.{sound-answer}
 use Rattle.rules.proofs.Keeps.{sound-parts, next-keeps, SoundTable}
 use Rattle.rules.proofs.OneZone.{zone-there, zone-not, ownAfter, zone-after}
 use Rattle.rules.proofs.Owners.{found-id}
-use Rattle.rules.proofs.Run.{goes-on, stops-here, run-by-keeps, run-leads, stopped}
+use Rattle.rules.proofs.Run.{goes-on, stops-here, run-leads, stopped}
 use Rattle.rules.proofs.Stored.{table-back, stands-well}
 use Rattle.promises.specs.Answers.{Stands}
 use Rattle.promises.specs.Neighbours.{Alike, TranslatesAlike, SevenOrFourteen, InStep, names, endOf, accepted}
-use Rattle.promises.specs.Neighbours.{acceptedFor, OwesNothing, OnlyTheseTell, AlikeOutside, bare, zonesAfter}
-use Rattle.promises.specs.Neighbours.{requestsRead, taken, PlansOweNothingBy, NextPlan, PlansTellBy}
+use Rattle.promises.specs.Neighbours.{OwesNothing, OnlyTheseTell, AlikeOutside, bare, zonesAfter}
+use Rattle.promises.specs.Neighbours.{requestsRead, taken, PlansOweNothingBy, PlansTellBy}
 use Rattle.promises.specs.Neighbours.{PlainIsNeighbourly, PaymentZoneOwesNothing, PlansOweNothing, Neighbourly}
 use Rattle.promises.specs.Neighbours.{SevenOrFourteenTells, PaymentZoneOutside, PlansTell, StandAlike}
 use Rattle.promises.specs.Steps.{PlanForBy, runOfBy, Proper}
@@ -107,7 +107,8 @@ alike-zones id t u (inr (p, (q, f))) = zone-there id t p ∙ ap some same ∙ sy
   where
     same : getD t (find id t) noZone ≡ getD u (find id u) noZone
     same =
-        let n : getD t (find id t) noZone .id ≡ getD u (find id u) noZone .id = found-id id t p ∙ sym (found-id id u q) in
+        let n : getD t (find id t) noZone .id ≡ getD u (find id u) noZone .id =
+        found-id id t p ∙ sym (found-id id u q) in
         (λ i. record { id = n i; cpu = f Cpu i; iommu = f Iommu i })
 
 -- ---- rules that go in step

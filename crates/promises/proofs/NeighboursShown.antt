@@ -8,12 +8,12 @@ use Rattle.rules.specs.OwnedPlan.{encodeOwned}
 use Rattle.rules.specs.Translation.{translation}
 use Rattle.rules.proofs.Computing.{requestParts, translationParts, checkParts, applyingParts, writingParts, ownedParts}
 use Rattle.promises.specs.Neighbours.{accepted, requestsRead, taken}
-use Rattle.promises.specs.NeighboursShown.{PlainNeighboursShown, OwnedNeighboursShown, PlansShown}
-use Rattle.promises.specs.NeighboursShown.{OwnedPlansShown}
+use Rattle.promises.specs.NeighboursShown.{NeighboursShown, OwnedNeighboursShown, NeighbourPlansShown}
+use Rattle.promises.specs.NeighboursShown.{OwnedNeighbourPlansShown}
 
-pub plain-neighbours-shown : PlainNeighboursShown
+pub neighbours-shown : NeighboursShown
 unfolding accepted keep runs requestParts checkParts translationParts translation
-plain-neighbours-shown = (
+neighbours-shown = (
   (refl, refl, refl, refl, refl, refl),
   (inr (refl, (refl, λ s. refl)), refl, refl),
   (inl (refl, refl), refl, refl),
@@ -27,10 +27,10 @@ owned-neighbours-shown = (
   (inl (refl, refl), refl, refl),
 )
 
-pub plans-shown : PlansShown
+pub neighbour-plans-shown : NeighbourPlansShown
 unfolding taken requestsRead keep runs applyingParts writingParts applyBy applyReadBy
-plans-shown = ((refl, refl), (refl, refl), refl, refl, refl, refl)
+neighbour-plans-shown = ((refl, refl), (refl, refl), refl, refl, refl, refl)
 
-pub owned-plans-shown : OwnedPlansShown
+pub owned-neighbour-plans-shown : OwnedNeighbourPlansShown
 unfolding runs ownedParts writingParts encodeOwned
-owned-plans-shown = (refl, refl)
+owned-neighbour-plans-shown = (refl, refl)

@@ -7,7 +7,6 @@ use mathlib.Core.Logic.{inl, inr, ⊎-elim}
 use mathlib.Core.Path.{_≡_, refl, ap, subst}
 use lib.Dec.{eqb}
 use lib.ListN.{length}
-use Rattle.rules.specs.Applying.{Kept, applyBy}
 use Rattle.rules.specs.Limits.{Limits}
 use Rattle.rules.specs.OwnedPlan.{ownedSteps}
 use Rattle.rules.specs.Owners.{ownedOf, ownedSound, stranger, elevenToo, ownedRules, ownedRefusal, ownedNext}
@@ -18,7 +17,7 @@ use Rattle.rules.specs.declared.Request.{Request}
 use Rattle.rules.proofs.OwnedPlan.{owned-stands-well}
 use Rattle.rules.proofs.Owners.{owned-parts, owned-keeps, OwnedTable}
 use Rattle.rules.proofs.Stored.{table-back}
-use Rattle.promises.specs.Neighbours.{Alike, SevenOrFourteen, InStep, endOf, NextPlan}
+use Rattle.promises.specs.Neighbours.{Alike, SevenOrFourteen, InStep, endOf}
 use Rattle.promises.specs.Owned.{Neither}
 use Rattle.promises.specs.OwnedConfiguration.{OwnedPassed}
 use Rattle.promises.specs.OwnedNeighbours.{OwnedIsNeighbourly, OwnedZoneOwesNothing, OwnedPlansOweNothing}

@@ -24,8 +24,8 @@ use Rattle.rules.specs.declared.Translated.{Translated}
 use Rattle.promises.specs.Neighbours.{Alike, names, endOf, acceptedFor, bare, zonesAfter, taken}
 
 -- ---- requests
--- zone 5 has region A: beside a neighbour that came after it and is refused A; and beside one that came before it and has
--- B, for which zone 5 asks in vain
+-- zone 5 has region A: beside a neighbour that came after it and is refused A; and beside one that came before it and
+-- has B, for which zone 5 asks in vain
 abbrev pub quiet : List Request
 quiet = addZone 5 ∷ insert Cpu A 5 ∷ addZone 6 ∷ insert Cpu A 6 ∷ insert Iommu G 6 ∷ []
 
@@ -84,8 +84,8 @@ Answered m c qs us q a b =
     Alike (q .zone) (endOf m c qs) (endOf m c us) × (asked m c qs q ≡ a) × (asked m c us q ≡ b)
 
 -- region B for zone 5's devices: 0 and 14. Zone 40, absent from both: 0 and 7
-abbrev pub PlainNeighboursShown : Type 0
-PlainNeighboursShown =
+abbrev pub NeighboursShown : Type 0
+NeighboursShown =
     OwnShown (plainSteps limits) deskConfig
     × Answered (plainSteps limits) deskConfig quiet crowded (insert Iommu B 5) 0 14
     × Answered (plainSteps limits) deskConfig quiet full (addZone 40) 0 7
@@ -133,8 +133,8 @@ abbrev pub refusedWith : ℕ → Outcome
 refusedWith n = record { number = 27; place = 0; inner = n }
 
 -- the same pairs of answers, from plans
-abbrev pub PlansShown : Type 0
-PlansShown =
+abbrev pub NeighbourPlansShown : Type 0
+NeighbourPlansShown =
     Delivered oneZone (addZone 5 ∷ []) (emptyZone 5 ∷ [])
     × Delivered twoZones (addZone 5 ∷ []) deskZones
     × Replies (plainSteps limits) deskConfig quietEnd wantsB (plain 0 1)
@@ -142,7 +142,7 @@ PlansShown =
     × Replies (plainSteps limits) deskConfig quietEnd wants40 (plain 0 1)
     × Replies (plainSteps limits) deskConfig (endOf (plainSteps limits) deskConfig full) wants40 (refusedWith 7)
 
-abbrev pub OwnedPlansShown : Type 0
-OwnedPlansShown =
+abbrev pub OwnedNeighbourPlansShown : Type 0
+OwnedNeighbourPlansShown =
     Replies (ownedSteps limits) bank quietEnd wants40 (plain 0 1)
     × Replies (ownedSteps limits) bank (endOf (ownedSteps limits) bank full) wants40 (refusedWith 7)

@@ -268,6 +268,19 @@ check_same_from_c() {
     cmp "$state" "$work/from_c" || say_failed "C and the tool keep the same state in different bytes"
 }
 
+# The runs that docs/ISOLATION.md shows: what is typed there, line by line, prints the lines between.
+check_isolation() {
+    local typed
+    sed -n 's/^    //p' "$root/docs/ISOLATION.md" >"$work/shown"
+    grep -q '^\$ ' "$work/shown" || say_failed "docs/ISOLATION.md shows no run"
+    cd "$root"
+    while read -r typed <&3; do
+        echo "\$ $typed"
+        eval "$typed" 2>&1 || true
+    done 3< <(sed -n 's/^\$ //p' "$work/shown") >"$work/printed"
+    diff "$work/shown" "$work/printed" || say_failed "docs/ISOLATION.md shows (<) what is not printed (>)"
+}
+
 # What is not built yet is built here, so that nothing but the tool speaks below.
 need_tool
 check_run
@@ -279,4 +292,5 @@ check_write
 check_plan
 check_stored_plans
 check_same_from_c
+check_isolation
 echo "tool: ok"

@@ -26,8 +26,9 @@ use Rattle.promises.specs.Editions as editions
 use Rattle.promises.specs.Editions.{makes, plan, noise, restart, tableAt, at, planOf, begin, taken, happens, Legal}
 use Rattle.promises.specs.Editions.{AllLegal, missing, world, Lawful, Event, Planner, World}
 use Rattle.promises.specs.Past.{askedFor, events}
+use Rattle.promises.specs.Steps.{plannedBy}
 use Rattle.promises.specs.Terminals as promised
-use Rattle.promises.specs.Terminals.{terminal, stateOf, terminals, planned, Held, SoundHeld}
+use Rattle.promises.specs.Terminals.{terminal, stateOf, terminals, Held, SoundHeld}
 use Rattle.promises.proofs.Editions.{always-in-step, planners-table, lower-is-behind}
 use Rattle.promises.proofs.Past.{past-shown}
 use Rattle.promises.proofs.Plans.{accepted-is-plan}
@@ -147,7 +148,7 @@ module _ (c : Config) (asked : ℕ → List Asked) (f : Code) where
   config-stays (suc k) = config-stays k
 
   planned-at : (k : ℕ) → now (at (terminalsOf f) (planner c asked f) k) ≡ plannedAt c asked k
-  unfolding planned tableAt
+  unfolding plannedBy tableAt
   planned-at zero = λ i. record { config = storedConfig (c .words); table = table-view [] i; edition = 0 }
   planned-at (suc k) =
       let p : c ≡ tableAt (terminalsOf f) (planner c asked f) k .config = config-stays k in

@@ -4,6 +4,7 @@ use Prim.Native.Nat.{ℕ, suc}
 use mathlib.Core.List.{List, []}
 use mathlib.Core.Path.{_≡_, sym, ap, ap₂, subst, _∙_}
 use lib.ListN.{length, take}
+use Rattle.rules.specs.Applying.{plainSteps}
 use Rattle.rules.specs.Limits.{limits}
 use Rattle.rules.specs.Planner.{planBytes, MayAsk}
 use Rattle.rules.specs.Writer.{write, askedOf}
@@ -28,18 +29,18 @@ module _ (f : Code) (g : Pen) (meets : Meets f) (pen : PenMeets g) (w : List ℕ
 
     may : MayAsk limits (now s) (askedOf r)
     may =
-        may-ask limits limits-sayable (now s) (askedOf r)
+        may-ask (plainSteps limits) limits-sayable (now s) (askedOf r)
         (record {
           edition = h .edition;
           numbers = asked-fit r (h .bytes);
           records = all-records (s .table .config .words);
         })
-        (length w) (zero-writable limits (now s) (askedOf r) w answered)
+        (length w) (zero-writable (plainSteps limits) (now s) (askedOf r) w answered)
 
     wrote-plan : wrote g (lent s) r w ≡ planBytes limits (now s) (askedOf r)
     wrote-plan =
         ap₂ (λ (o : Outcome) (v : List ℕ). take (o .place) v) (pen (lent s) r w .answer) (pen (lent s) r w .buffer)
-        ∙ written-plan limits (now s) (askedOf r) w answered
+        ∙ written-plan (plainSteps limits) (now s) (askedOf r) w answered
 
   pub writer-laws : Lawful (terminalsBy f g w)
   writer-laws =

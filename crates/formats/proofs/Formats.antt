@@ -14,10 +14,12 @@ use Rattle.lists.specs.Bytes.{little, bytesOf, Bytes}
 use Rattle.lists.specs.Tests.{allOf}
 use Rattle.lists.proofs.Tests.{holds-or-fails, parts, whole}
 use Rattle.lists.proofs.Bytes.{bytes-take, length-bytes, little-bytes, bytes-little, little-below}
-use Rattle.formats.specs.Formats.{Out, got, bad, left, when, then, Format, readNumber, number, readBoth}
-use Rattle.formats.specs.Formats.{writeBoth, both, startAt, field, readAs, as-type, readMany, writeMany, many}
+use Rattle.formats.specs.Formats.{Out, got, bad, left, when, then, Format, readNumber, number, readWith}
+use Rattle.formats.specs.Formats.{writeWith, with, readBoth, writeBoth, both, startAt, field, readAs, as-type}
+use Rattle.formats.specs.Formats.{readMany, writeMany, many}
 use Rattle.formats.specs.Formats.{within, readCount, readHeaded, writeHeaded, headed, listed, atEnd, readFile}
 use Rattle.formats.specs.Formats.{nothing, exactly, All, InRange}
+use Rattle.formats.specs.Formats.{as-many, ListFits, AsManyFit}
 
 -- t is the end of b
 abbrev pub Part : List ℕ → List ℕ → Type 0
@@ -147,47 +149,54 @@ module _ (k : ℕ) where
   lawful-number = record { back = back-number; tight = tight-number; part = part-number; refuses = refuses-number }
 
 -- ---- one after another
-module _ {A B : Type 0} (F : Format A) (G : Format B) (P : A → Type 0) (Q : B → Type 0) (f : Lawful F P)
-    (g : Lawful G Q) where
-  back-both : (p : A × B) (t : List ℕ) → P (p .0) × Q (p .1) → readBoth F G (writeBoth F G p ++ t) ≡ got p t
-  unfolding readBoth writeBoth then
-  back-both p t h =
+module _ {A B : Type 0} (F : Format A) (G : A → Format B) (P : A → Type 0) (Q : A → B → Type 0) (f : Lawful F P)
+    (g : (x : A) → Lawful (G x) (Q x)) where
+  back-with : (p : A × B) (t : List ℕ) → P (p .0) × Q (p .0) (p .1) → readWith F G (writeWith F G p ++ t) ≡ got p t
+  unfolding readWith writeWith then
+  back-with p t h =
       rw (
-        append-assoc (F .write (p .0)) (G .write (p .1)) t,
-        f .back (p .0) (G .write (p .1) ++ t) (h .0),
-        g .back (p .1) t (h .1),
+        append-assoc (F .write (p .0)) (G (p .0) .write (p .1)) t,
+        f .back (p .0) (G (p .0) .write (p .1) ++ t) (h .0),
+        g (p .0) .back (p .1) t (h .1),
       )
 
-  tight-both : (b : List ℕ) (p : A × B) (t : List ℕ) → Bytes b → readBoth F G b ≡ got p t
-      → (b ≡ writeBoth F G p ++ t) × (P (p .0) × Q (p .1))
-  unfolding readBoth writeBoth then
-  tight-both b p t h e =
-      let (x, s, ex, e') = then-got (F .read b) (λ x s. then (G .read s) (λ y t. got (x, y) t)) p t e in
-      let (y, u, ey, ep) = then-got (G .read s) (λ y t. got (x, y) t) p t e' in
+  tight-with : (b : List ℕ) (p : A × B) (t : List ℕ) → Bytes b → readWith F G b ≡ got p t
+      → (b ≡ writeWith F G p ++ t) × (P (p .0) × Q (p .0) (p .1))
+  unfolding readWith writeWith then
+  tight-with b p t h e =
+      let (x, s, ex, e') = then-got (F .read b) (λ x s. then (G x .read s) (λ y t. got (x, y) t)) p t e in
+      let (y, u, ey, ep) = then-got (G x .read s) (λ y t. got (x, y) t) p t e' in
       let m = f .tight b x s h ex in
-      let n = g .tight s y u (left-bytes b (F .write x) s (m .0) h) ey in
+      let n = g x .tight s y u (left-bytes b (F .write x) s (m .0) h) ey in
       let q : (x, y) ≡ p = cc in
       let eu : u ≡ t = cc in
-      let w : b ≡ (F .write x ++ G .write y) ++ u =
-      m .0 ∙ ap (λ (l : List ℕ). F .write x ++ l) (n .0) ∙ sym (append-assoc (F .write x) (G .write y) u) in
-      subst (λ (r : A × B). (b ≡ (F .write (r .0) ++ G .write (r .1)) ++ t) × (P (r .0) × Q (r .1))) q
+      let w : b ≡ (F .write x ++ G x .write y) ++ u =
+      m .0 ∙ ap (λ (l : List ℕ). F .write x ++ l) (n .0) ∙ sym (append-assoc (F .write x) (G x .write y) u) in
+      subst (λ (r : A × B). (b ≡ (F .write (r .0) ++ G (r .0) .write (r .1)) ++ t) × (P (r .0) × Q (r .0) (r .1))) q
       (rw eu at w, (m .1, n .1))
 
-  part-both : (b : List ℕ) → Part (left (readBoth F G b)) b
-  unfolding readBoth left
-  part-both b =
-      then-part (F .read b) (λ x s. then (G .read s) (λ y t. got (x, y) t)) b (f .part b)
-      (λ x s. then-part (G .read s) (λ y t. got (x, y) t) s (g .part s) (λ y t. ([], refl)))
+  part-with : (b : List ℕ) → Part (left (readWith F G b)) b
+  unfolding readWith left
+  part-with b =
+      then-part (F .read b) (λ x s. then (G x .read s) (λ y t. got (x, y) t)) b (f .part b)
+      (λ x s. then-part (G x .read s) (λ y t. got (x, y) t) s (g x .part s) (λ y t. ([], refl)))
 
-  refuses-both : (b : List ℕ) (k : ℕ) (t : List ℕ) → readBoth F G b ≡ bad k t → Told k
-  unfolding readBoth
-  refuses-both b =
-      then-bad (F .read b) (λ x s. then (G .read s) (λ y t. got (x, y) t)) Told (f .refuses b)
-      (λ x s. then-bad (G .read s) (λ y t. got (x, y) t) Told (g .refuses s)
+  refuses-with : (b : List ℕ) (k : ℕ) (t : List ℕ) → readWith F G b ≡ bad k t → Told k
+  unfolding readWith
+  refuses-with b =
+      then-bad (F .read b) (λ x s. then (G x .read s) (λ y t. got (x, y) t)) Told (f .refuses b)
+      (λ x s. then-bad (G x .read s) (λ y t. got (x, y) t) Told (g x .refuses s)
       (λ y u k t e. absurd (no-refusal (x, y) u k t e)))
 
-  pub lawful-both : Lawful (both F G) (λ p. P (p .0) × Q (p .1))
-  lawful-both = record { back = back-both; tight = tight-both; part = part-both; refuses = refuses-both }
+  pub lawful-with : Lawful (with F G) (λ p. P (p .0) × Q (p .0) (p .1))
+  lawful-with = record { back = back-with; tight = tight-with; part = part-with; refuses = refuses-with }
+
+pub lawful-both : {A B : Type 0} (F : Format A) (G : Format B) (P : A → Type 0) (Q : B → Type 0) → Lawful F P
+    → Lawful G Q → Lawful (both F G) (λ p. P (p .0) × Q (p .1))
+unfolding readBoth writeBoth
+lawful-both F G P Q f g =
+    let h = lawful-with F (λ x. G) P (λ x. Q) f (λ x. g) in
+    record { back = h .back; tight = h .tight; part = h .part; refuses = h .refuses }
 
 -- ---- as one field
 module _ {A : Type 0} (F : Format A) (P : A → Type 0) (f : Lawful F P) where
@@ -442,6 +451,14 @@ module _ {A : Type 0} (w lo hi : ℕ) (F : ℕ → Format A) (size : A → ℕ) 
   pub lawful-headed : Lawful (headed w lo hi F size) (InRange w lo hi size P)
   lawful-headed = record { back = back-headed; tight = tight-headed; part = part-headed; refuses = refuses-headed }
 
+-- a list, and as many of another kind
+pub lawful-as-many : {A B : Type 0} (w : ℕ) (F : Format (List A)) (P : List A → Type 0) → Lawful F P
+    → (G : Format B) (Q : B → Type 0) → Lawful G Q → Lawful (as-many w F G) (AsManyFit w P Q)
+lawful-as-many w F P f G Q g =
+    lawful-with F (λ xs. listed w (length xs) (length xs) G) P (λ xs. ListFits w (length xs) (length xs) Q) f
+    (λ xs. lawful-headed w (length xs) (length xs) (many G) length (λ n ys. (length ys ≡ n) × All Q ys)
+    (lawful-many G Q g) (λ c ys a z h. h .0))
+
 -- ---- given numbers: each is a count that has one value
 lawful-nothing : Lawful nothing (λ u. Unit {0})
 unfolding left
@@ -505,15 +522,24 @@ module _ {A : Type 0} (F : Format A) (P : A → Type 0) (f : Lawful F P) where
       (λ x s k t e. inr (end-bad x s k t e))
 
 -- ---- what a reader that is put together went through
+module _ {A B : Type 0} (F : Format A) (G : A → Format B) where
+  pub with-got : (b : List ℕ) (x : A) (y : B) (t : List ℕ) → readWith F G b ≡ got (x, y) t
+      → (s : List ℕ) × (F .read b ≡ got x s) × (G x .read s ≡ got y t)
+  unfolding readWith
+  with-got b x y t e =
+      let (x0, s, ex, f) = then-got (F .read b) (λ x s. then (G x .read s) (λ y t. got (x, y) t)) (x, y) t e in
+      let (y0, u, ey, g) = then-got (G x0 .read s) (λ y t. got (x0, y) t) (x, y) t f in
+      let q : _≡_ {A = A × B} (x0, y0) (x, y) = cc in
+      let v : u ≡ t = cc in (
+        s,
+        ex ∙ ap (λ (z : A × B). got (z .0) s) q,
+        ap (λ (z : A × B). G (z .0) .read s) (sym q) ∙ ey ∙ ap₂ (λ (z : A × B) (w : List ℕ). got (z .1) w) q v,
+      )
+
 pub both-got : {A B : Type 0} (F : Format A) (G : Format B) (b : List ℕ) (x : A) (y : B) (t : List ℕ)
     → both F G .read b ≡ got (x, y) t → (s : List ℕ) × (F .read b ≡ got x s) × (G .read s ≡ got y t)
 unfolding readBoth
-both-got {A} {B} F G b x y t e =
-    let (x0, s, ex, f) = then-got (F .read b) (λ x s. then (G .read s) (λ y t. got (x, y) t)) (x, y) t e in
-    let (y0, u, ey, g) = then-got (G .read s) (λ y t. got (x0, y) t) (x, y) t f in
-    let q : _≡_ {A = A × B} (x0, y0) (x, y) = cc in
-    let v : u ≡ t = cc in
-    (s, ex ∙ ap (λ (z : A × B). got (z .0) s) q, ey ∙ ap₂ (λ (z : A × B) (w : List ℕ). got (z .1) w) q v)
+both-got F G b x y t e = with-got F (λ z. G) b x y t e
 
 pub as-got : {A B : Type 0} (F : Format A) (to : A → B) (from : B → A) → ((x : A) → from (to x) ≡ x)
     → (b : List ℕ) (y : B) (t : List ℕ) → as-type F to from .read b ≡ got y t → F .read b ≡ got (from y) t
@@ -528,3 +554,8 @@ as-got {A} F to from here b y t e =
 count-first : listed 4 0 1 (number 4) .read (2 ∷ 0 ∷ 0 ∷ 0 ∷ []) ≡ bad 21 (2 ∷ 0 ∷ 0 ∷ 0 ∷ [])
 unfolding readHeaded readCount readNumber within allOf when then little
 count-first = refl
+
+-- as many as the list has: here there is one fewer
+as-many-judged : as-many 1 (listed 1 0 2 (number 1)) (number 1) .read (2 ∷ 7 ∷ 8 ∷ 1 ∷ 9 ∷ []) ≡ bad 21 (1 ∷ 9 ∷ [])
+unfolding readWith readHeaded readCount readMany readNumber within allOf when then little
+as-many-judged = refl

@@ -9,7 +9,8 @@ use mathlib.Core.Path.{_≡_, refl, sym, ap, ap₂, _∙_}
 use lib.ListN.{length, take, length-append, length-drop}
 use lib.Seq.{take-append-le, drop-append-le}
 use Rattle.lists.specs.Bytes.{little}
-use Rattle.formats.specs.Formats.{Out, got, bad, when, then, Format, readNumber, number, readBoth, both, startAt}
+use Rattle.formats.specs.Formats.{Out, got, bad, when, then, Format, readNumber, number, readWith, with, startAt}
+use Rattle.formats.specs.Formats.{readBoth, both}
 use Rattle.formats.specs.Formats.{field, readAs, as-type, readMany, many, within, readCount, readHeaded, headed}
 use Rattle.formats.specs.Formats.{listed, nothing, exactly, atEnd, readFile}
 use Rattle.formats.proofs.Formats.{then-got, count-got}
@@ -57,29 +58,36 @@ module _ (k : ℕ) where
   pub most-number : Most (number k) k
   most-number = record { takes = number-takes; past = number-past }
 
--- ---- one after another
-module _ {A B : Type 0} (F : Format A) (G : Format B) (m n : ℕ) (f : Most F m) (g : Most G n) where
+-- ---- one after another: n is the most of the second, after any first that is read
+module _ {A B : Type 0} (F : Format A) (G : A → Format B) (m n : ℕ) (f : Most F m)
+    (g : (b : List ℕ) (x : A) (t : List ℕ) → F .read b ≡ got x t → Most (G x) n) where
   abbrev second : A → List ℕ → Out (A × B)
-  second x s = then (G .read s) (λ y t. got (x, y) t)
+  second x s = then (G x .read s) (λ y t. got (x, y) t)
 
-  both-takes : (b : List ℕ) (p : A × B) (t : List ℕ) → readBoth F G b ≡ got p t → length b ≤ m + n + length t
-  unfolding readBoth
-  both-takes b p t e =
+  with-takes : (b : List ℕ) (p : A × B) (t : List ℕ) → readWith F G b ≡ got p t → length b ≤ m + n + length t
+  unfolding readWith
+  with-takes b p t e =
       let (x, s, ex, e') = then-got (F .read b) second p t e in
-      let (y, r, ey, ep) = then-got (G .read s) (λ y t. got (x, y) t) p t e' in
+      let (y, r, ey, ep) = then-got (G x .read s) (λ y t. got (x, y) t) p t e' in
       let q : r ≡ t = cc in
-      omega (arith, f .takes b x s ex, g .takes s y r ey, ap length q)
+      omega (arith, f .takes b x s ex, g b x s ex .takes s y r ey, ap length q)
 
-  both-past : (u v : List ℕ) → m + n ≤ length u → readBoth F G (u ++ v) ≡ onto v (readBoth F G u)
-  unfolding readBoth onto
-  both-past u v h =
+  with-past : (u v : List ℕ) → m + n ≤ length u → readWith F G (u ++ v) ≡ onto v (readWith F G u)
+  unfolding readWith onto
+  with-past u v h =
       ap (λ (o : Out A). then o second) (f .past u v (omega arith))
       ∙ then-onto v (F .read u) second
-      (λ x s e. ap (λ (o : Out B). then o (λ y t. got (x, y) t)) (g .past s v (omega (arith, f .takes u x s e)))
-      ∙ then-onto v (G .read s) (λ y t. got (x, y) t) (λ y t d. refl))
+      (λ x s e. ap (λ (o : Out B). then o (λ y t. got (x, y) t)) (g u x s e .past s v (omega (arith, f .takes u x s e)))
+      ∙ then-onto v (G x .read s) (λ y t. got (x, y) t) (λ y t d. refl))
 
-  pub most-both : Most (both F G) (m + n)
-  most-both = record { takes = both-takes; past = both-past }
+  pub most-with : Most (with F G) (m + n)
+  most-with = record { takes = with-takes; past = with-past }
+
+pub most-both : {A B : Type 0} (F : Format A) (G : Format B) (m n : ℕ) → Most F m → Most G n → Most (both F G) (m + n)
+unfolding readBoth
+most-both F G m n f g =
+    let h = most-with F (λ x. G) m n f (λ b x t e. g) in
+    record { takes = h .takes; past = h .past }
 
 -- ---- as one field
 module _ {A : Type 0} (F : Format A) (m : ℕ) (f : Most F m) where

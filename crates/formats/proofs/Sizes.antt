@@ -8,8 +8,9 @@ use mathlib.Core.Path.{_≡_, refl, sym}
 use lib.ListN.{length, replicate, length-append}
 use Rattle.lists.specs.Bytes.{bytesOf}
 use Rattle.lists.proofs.Bytes.{length-bytes}
-use Rattle.formats.specs.Formats.{Format, number, writeBoth, both, writeMany, many, writeHeaded, headed, listed}
-use Rattle.formats.specs.Formats.{exactly, All}
+use Rattle.formats.specs.Formats.{Format, number, writeWith, with, writeBoth, both, writeMany, many}
+use Rattle.formats.specs.Formats.{writeHeaded, headed, listed, exactly}
+use Rattle.formats.specs.Formats.{All}
 use Rattle.formats.specs.Sizes.{total}
 
 -- what is written of a value has as many bytes as its size says
@@ -19,10 +20,16 @@ Sized {A} F size = (x : A) → length (F .write x) ≡ size x
 pub sized-number : (k : ℕ) → Sized (number k) (λ n. k)
 sized-number k n = length-bytes k n
 
-module _ {A B : Type 0} (F : Format A) (G : Format B) (f : A → ℕ) (g : B → ℕ) (sf : Sized F f) (sg : Sized G g) where
-  pub sized-both : Sized (both F G) (λ p. f (p .0) + g (p .1))
-  unfolding writeBoth
-  sized-both p = omega (arith, length-append (F .write (p .0)) (G .write (p .1)), sf (p .0), sg (p .1))
+module _ {A B : Type 0} (F : Format A) (G : A → Format B) (f : A → ℕ) (g : A → B → ℕ) (sf : Sized F f)
+    (sg : (x : A) → Sized (G x) (g x)) where
+  pub sized-with : Sized (with F G) (λ p. f (p .0) + g (p .0) (p .1))
+  unfolding writeWith
+  sized-with p = omega (arith, length-append (F .write (p .0)) (G (p .0) .write (p .1)), sf (p .0), sg (p .0) (p .1))
+
+pub sized-both : {A B : Type 0} (F : Format A) (G : Format B) (f : A → ℕ) (g : B → ℕ) → Sized F f → Sized G g
+    → Sized (both F G) (λ p. f (p .0) + g (p .1))
+unfolding writeBoth
+sized-both F G f g sf sg p = sized-with F (λ x. G) f (λ x. g) sf (λ x. sg) p
 
 module _ {A : Type 0} (w lo hi : ℕ) (F : ℕ → Format A) (count : A → ℕ) (f : A → ℕ) (sf : (c : ℕ) → Sized (F c) f) where
   pub sized-headed : Sized (headed w lo hi F count) (λ x. w + f x)

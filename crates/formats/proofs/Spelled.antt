@@ -3,7 +3,8 @@ use Prim.Native.Nat.{ℕ, zero, suc, _/_}
 use native.Mathlib.Omega.{arith}
 use mathlib.Core.List.{List, [], _∷_, _++_}
 use Rattle.lists.specs.Bytes.{bytesOf, Bytes}
-use Rattle.formats.specs.Formats.{number, writeBoth, both, writeMany, many, writeHeaded, headed, exactly, Format}
+use Rattle.formats.specs.Formats.{number, writeWith, with, writeBoth, both, writeMany, many, writeHeaded}
+use Rattle.formats.specs.Formats.{headed, exactly, Format}
 
 abbrev pub Spelled : {A : Type 0} → Format A → Type 0
 Spelled {A} F = (x : A) → Bytes (F .write x)
@@ -19,9 +20,14 @@ spelled-number zero n i = omega arith
 spelled-number (suc k) n zero = omega arith
 spelled-number (suc k) n (suc i) = spelled-number k (n / 256) i
 
+pub spelled-with : {A B : Type 0} (F : Format A) (G : A → Format B) → Spelled F → ((x : A) → Spelled (G x))
+    → Spelled (with F G)
+unfolding writeWith
+spelled-with F G f g p = joined (F .write (p .0)) (G (p .0) .write (p .1)) (f (p .0)) (g (p .0) (p .1))
+
 pub spelled-both : {A B : Type 0} (F : Format A) (G : Format B) → Spelled F → Spelled G → Spelled (both F G)
 unfolding writeBoth
-spelled-both F G f g p = joined (F .write (p .0)) (G .write (p .1)) (f (p .0)) (g (p .1))
+spelled-both F G f g p = spelled-with F (λ x. G) f (λ x. g) p
 
 pub spelled-many : {A : Type 0} (F : Format A) → Spelled F → (n : ℕ) → Spelled (many F n)
 unfolding writeMany

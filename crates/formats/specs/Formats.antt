@@ -38,13 +38,26 @@ readNumber k b = when (leb k (length b)) (got (little (take k b)) (drop k b)) (b
 abbrev pub number : ℕ → Format ℕ
 number k = record { read = readNumber k; write = bytesOf k }
 
--- ---- one after another
+-- ---- one after another: the first says how the second stands
+module _ {A B : Type 0} (F : Format A) (G : A → Format B) where
+  unfoldable pub readWith : List ℕ → Out (A × B)
+  readWith b = then (F .read b) (λ x s. then (G x .read s) (λ y t. got (x, y) t))
+
+  unfoldable pub writeWith : A × B → List ℕ
+  writeWith p = F .write (p .0) ++ G (p .0) .write (p .1)
+
+  abbrev pub with : Format (A × B)
+  with = record { read = readWith; write = writeWith }
+
+-- the second stands alike, whatever the first is
 module _ {A B : Type 0} (F : Format A) (G : Format B) where
   unfoldable pub readBoth : List ℕ → Out (A × B)
-  readBoth b = then (F .read b) (λ x s. then (G .read s) (λ y t. got (x, y) t))
+  unfolding readWith
+  readBoth b = readWith F (λ x. G) b
 
   unfoldable pub writeBoth : A × B → List ℕ
-  writeBoth p = F .write (p .0) ++ G .write (p .1)
+  unfolding writeWith
+  writeBoth p = writeWith F (λ x. G) p
 
   abbrev pub both : Format (A × B)
   both = record { read = readBoth; write = writeBoth }
@@ -99,6 +112,10 @@ module _ {A : Type 0} (w lo hi : ℕ) (F : ℕ → Format A) (size : A → ℕ) 
 abbrev pub listed : {A : Type 0} → ℕ → ℕ → ℕ → Format A → Format (List A)
 listed w lo hi F = headed w lo hi (many F) length
 
+-- a list, and as many of another kind after a count of their own, which must be the list's
+abbrev pub as-many : {A B : Type 0} → ℕ → Format (List A) → Format B → Format (List A × List B)
+as-many w F G = with F (λ xs. listed w (length xs) (length xs) G)
+
 -- ---- given numbers of w bytes, each judged as it is read: another is out of range
 abbrev pub nothing : Format (Unit {0})
 nothing = record { read = λ b. got tt b; write = λ u. [] }
@@ -128,3 +145,7 @@ pub record InRange {A : Type 0} (w lo hi : ℕ) (size : A → ℕ) (P : ℕ → 
 
 abbrev pub ListFits : {A : Type 0} → ℕ → ℕ → ℕ → (A → Type 0) → List A → Type 0
 ListFits w lo hi P = InRange w lo hi length (λ n xs. (length xs ≡ n) × All P xs)
+
+-- so many as there are of the first
+abbrev pub AsManyFit : {A B : Type 0} → ℕ → (List A → Type 0) → (B → Type 0) → List A × List B → Type 0
+AsManyFit w P Q p = P (p .0) × ListFits w (length (p .0)) (length (p .0)) Q (p .1)

@@ -3,8 +3,8 @@
 use Prim.Native.Nat.{ℕ, zero, suc, _+_, _≤_, _<_}
 use native.Mathlib.Decide.{decLt}
 use native.Mathlib.Omega.{arith}
-use mathlib.Core.Bool.{Bool, true, false, not}
-use mathlib.Core.List.{List, [], _∷_, map}
+use mathlib.Core.Bool.{Bool, true, false, cond, not}
+use mathlib.Core.List.{List, [], _∷_, _++_, map}
 use mathlib.Core.Path.{_≡_, refl, sym, ap, ap₂, _∙_}
 use borrow.Author.Tests.{ltb-true, eqb-true, eqb-false, not-true, not-false, lt-ltb}
 use lib.Dec.{ltb, eqb}
@@ -39,6 +39,16 @@ module _ {A : Type 0} (p : A → Bool) where
   pub keep-pass : (x : A) (xs : List A) → p x ≡ false → keep p (x ∷ xs) ≡ keep p xs
   unfolding keep
   keep-pass x xs e = rw e
+
+  pub keep-append : (xs ys : List A) → keep p (xs ++ ys) ≡ keep p xs ++ keep p ys
+  unfolding keep
+  keep-append [] ys = refl
+  keep-append (x ∷ xs) ys = by (p x) (keep-append xs ys)
+    where
+      by : (t : Bool) → keep p (xs ++ ys) ≡ keep p xs ++ keep p ys
+          → cond t (x ∷ keep p (xs ++ ys)) (keep p (xs ++ ys)) ≡ cond t (x ∷ keep p xs) (keep p xs) ++ keep p ys
+      by true e = ap (λ (l : List A). x ∷ l) e
+      by false e = e
 
 -- ---- numbers that differ
 pub low-at : (n : ℕ) (ps : List ℕ) → all (isBelow n) ps ≡ true → (a : ℕ) → a < length ps → getD ps a 0 < n

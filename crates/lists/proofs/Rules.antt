@@ -8,15 +8,16 @@ use mathlib.Core.Bool.{Bool, true, false, cond, not, true≢false}
 use mathlib.Core.List.{List, [], _∷_, _++_, map, flatMap}
 use mathlib.Core.Logic.{inl, inr, _↔_}
 use mathlib.Core.Path.{_≡_, refl, sym, ap, subst, _∙_}
-use borrow.Author.Tests.{ltb-true, eqb-false, not-true}
+use borrow.Author.Tests.{ltb-true, eqb-true, eqb-false, eq-eqb, not-true}
 use lib.Dec.{ltb, eqb}
 use lib.ListN.{length, getD, length-map, List·getD-map}
 use Rattle.lists.specs.First.{all}
+use Rattle.lists.specs.Pairs.{pairwise}
 use Rattle.lists.specs.Places.{places}
 use Rattle.lists.specs.Rules.{Rule, _when_, firstRule, Silent, Given, numbered, Applies}
 use Rattle.lists.proofs.Pairs.{pairs-at}
 use Rattle.lists.proofs.Places.{getD-any, places-step, places-end}
-use Rattle.lists.proofs.Tests.{both-true}
+use Rattle.lists.proofs.Tests.{both-true, true-both}
 
 module _ {R : Type 0} where
   -- ---- what each return of a chain of rules answers
@@ -282,3 +283,40 @@ module _ (rs : List (Rule ℕ)) (d : Rule ℕ) (apart : numbered rs ≡ true) wh
       of : Given rs 0 d 0 → Silent rs d
       of (inl (j, a, q)) = absurd (not-zero j (a .there) (sym q))
       of (inr (s, q)) = s
+
+-- ---- the answer is a number: its rule applies, and every rule before that one is silent
+-- the rules before the one with the number n
+unfoldable pub upTo : ℕ → List (Rule ℕ) → List (Rule ℕ)
+upTo n [] = []
+upTo n (r ∷ rs) = cond (eqb (r .0) n) [] (r ∷ upTo n rs)
+
+apart-from : ℕ → List (Rule ℕ) → Bool
+apart-from a rs = all (λ (n : ℕ). not (eqb a n)) (map (λ (r : Rule ℕ). r .0) rs)
+
+never-given : (a : ℕ) (rs : List (Rule ℕ)) → apart-from a rs ≡ true → (0 ≡ a → ⊥) → firstRule rs 0 ≡ a → ⊥
+unfolding apart-from all firstRule
+never-given a [] h z e = z e
+never-given a ((b, true) ∷ rs) h z e =
+    eqb-false a b (not-true _ (both-true (not (eqb a b)) (apart-from a rs) h .0)) (sym e)
+never-given a ((b, false) ∷ rs) h z e = never-given a rs (both-true (not (eqb a b)) (apart-from a rs) h .1) z e
+
+pub number-told : (rs : List (Rule ℕ)) → numbered rs ≡ true → (n : ℕ) → (0 ≡ n → ⊥) → firstRule rs 0 ≡ n
+    → (testOf (λ m. m) n rs ≡ true) × Quiet (upTo n rs)
+unfolding numbered pairwise all firstRule testOf upTo apart-from
+number-told [] h n z e = absurd (z e)
+number-told ((a, true) ∷ rs) h n z e = rw (eq-eqb a n e) (refl, tt)
+number-told ((a, false) ∷ rs) h n z e = by (λ k. number-told rs k n z e) (eqb a n) refl
+  where
+    ns : List ℕ
+    ns = map (λ (r : Rule ℕ). r .0) rs
+
+    others : (apart-from a rs ≡ true) × (numbered rs ≡ true)
+    others =
+        let zero = both-true (all (λ (m : ℕ). not (eqb 0 m)) (a ∷ ns)) _ h in
+        let here = both-true (all (λ (m : ℕ). not (eqb a m)) ns) (pairwise (λ (i j : ℕ). not (eqb i j)) ns) (zero .1) in
+        (here .0, true-both _ _ (both-true (not (eqb 0 a)) (all (λ (m : ℕ). not (eqb 0 m)) ns) (zero .0) .1) (here .1))
+
+    by : (numbered rs ≡ true → (testOf (λ m. m) n rs ≡ true) × Quiet (upTo n rs)) → (b : Bool) → eqb a n ≡ b
+        → (cond b false (testOf (λ m. m) n rs) ≡ true) × Quiet (cond b [] ((a, false) ∷ upTo n rs))
+    by f true q = absurd (never-given a rs (others .0) (λ w. z (w ∙ eqb-true _ _ q)) (e ∙ sym (eqb-true _ _ q)))
+    by f false q = let (u, v) = f (others .1) in (u, (refl, v))

@@ -1,5 +1,5 @@
 -- What each step keeps, a run keeps.
-use mathlib.Core.List.{List, [], _∷_}
+use mathlib.Core.List.{List, [], _∷_, _++_}
 use mathlib.Core.Path.{_≡_, refl, ap, ap₂, _∙_}
 use Rattle.lists.specs.Runs.{none, call, runs, told, InTurn}
 
@@ -9,6 +9,13 @@ module _ {S Q : Type 0} (step : S → Q → S) (Kept : S → Type 0)
   unfolding runs
   run-keeps s [] h = h
   run-keeps s (q ∷ qs) h = run-keeps (step s q) qs (keeps s q h)
+
+-- one list after another
+pub runs-append : {S Q : Type 0} (step : S → Q → S) (s : S) (qs us : List Q)
+    → runs step s (qs ++ us) ≡ runs step (runs step s qs) us
+unfolding runs
+runs-append step s [] us = refl
+runs-append step s (q ∷ qs) us = runs-append step (step s q) qs us
 
 -- ---- steps that, seen through `view`, are other steps: so are runs
 module _ {S T Q : Type 0} (view : S → T) (step : S → Q → S) (seen : T → Q → T)

@@ -48,7 +48,7 @@ use Rattle.rules.specs.declared.Request.{Request}
 use Rattle.rules.specs.declared.Side.{Side}
 use Rattle.rules.specs.declared.Side.the-variants.{Cpu, Iommu}
 use Rattle.rules.proofs.Addresses.{overlap-shared}
-use Rattle.rules.proofs.Applying.{same-list, list-same, same-zone, zone-same}
+use Rattle.rules.proofs.Applying.{same-list, list-same, same-zone, zone-same, outcome-by}
 use Rattle.rules.proofs.Configuration.{sound-is, sound-answer}
 use Rattle.rules.proofs.Keeps.{sound-parts, SoundTable}
 use Rattle.rules.proofs.Plan.{lawful-plan}
@@ -63,11 +63,9 @@ use Rattle.promises.specs.Answers.{twentySeven, Ends, twenty, twentyOne,
 use Rattle.promises.specs.Answers.{ApplyIsExact, Alone, AloneIsExact, NeverAlone, StandingIsInside, Stands}
 use Rattle.promises.specs.Answers.{nothing, c1, c2, c3, c4, c5, c6, Finds, CheckNumbersAreExact}
 use Rattle.promises.specs.Configuration.{Means}
-use Rattle.promises.specs.Plans.{runOf}
 use Rattle.promises.specs.Tables.{In}
 use Rattle.promises.specs.Translation.{CoversGuest}
 use Rattle.promises.proofs.Configuration.{check-is-exact}
-use Rattle.promises.proofs.Plans.{outcome-by}
 use Rattle.promises.proofs.Translation.{one-covers, set-there}
 
 -- ---- what the tests mean
@@ -209,7 +207,7 @@ tells-forbidden c k Iommu r t =
     (λ y. tells-some (clash c r) (λ x. (r ≡ gicOf c → ⊥) × ((x ≡ gicOf c → ⊥) × MeetsPhys r x)) (tells-clash c r)
     (regionsOf y)) t k
 
-tells-kind : (k : Kind) → Tells (noRequest k) (k ≡ NoRequest)
+pub tells-kind : (k : Kind) → Tells (noRequest k) (k ≡ NoRequest)
 unfolding noRequest
 tells-kind AddZone = ((λ e. absurd (true≢false (sym e))), ap noRequest)
 tells-kind RemoveZone = ((λ e. absurd (true≢false (sym e))), ap noRequest)
@@ -220,7 +218,7 @@ tells-kind NoRequest = ((λ e. refl), λ q. refl)
 -- ---- requests
 module _ (lim : Limits) where
   module _ (c : Configuration) (t : List Zone) (id : ℕ) where
-    kind-matches : (k : Kind) → Matches (kindRules lim c k id t) (kindLines lim c t id k)
+    pub kind-matches : (k : Kind) → Matches (kindRules lim c k id t) (kindLines lim c t id k)
     unfolding kindRules addRules removeZoneRules insertRules regionRules setRules removeRules holdsAny configured
     kind-matches AddZone = tells-zone id t and tells-le _ _ and all
     kind-matches RemoveZone =
@@ -486,10 +484,14 @@ module _ (lim : Limits) where
     λ e. ap (λ (x : List Zone). sameList sameZone x u) e ∙ list-same sameZone zone-same u,
   )
 
-  judged-exactly : (s : Terminal) (p : Plan) → Exactly (judged s p (runOf lim s p)) (AtTerminal lim s p)
+  -- the run of a plan's requests at the terminal's table
+  abbrev runOf : Terminal → Plan → Run
+  runOf s p = run lim (configOf (s .config)) (tableOf (s .table)) (requestsOf p)
+
+  judged-exactly : (s : Terminal) (p : Plan) → Exactly (judged s p (runOf s p)) (AtTerminal lim s p)
   unfolding judged judgedRules
   judged-exactly s p =
-      first-of (ended (runOf lim s p)) (Ends lim (configOf (s .config)) (tableOf (s .table)) (requestsOf p))
+      first-of (ended (runOf s p)) (Ends lim (configOf (s .config)) (tableOf (s .table)) (requestsOf p))
       (tells-not _ _ (tells-config (configOf (s .config)) p) and tells-not _ _ (tells-eq _ _) and tells-eq _ _
       and tells-not _ _ (tells-zones (tableOf (s .table)) (p .zones)) and all)
       (λ none. ends-exactly (configOf (s .config)) (tableOf (s .table)) (requestsOf p))
@@ -501,14 +503,14 @@ module _ (lim : Limits) where
       (standing-first (s .config) (s .table) (λ n. plain n 0) (applyRead lim s b (readPlan lim b) .outcome)
       (Reading lim b (AtTerminal lim s))
       (λ none. reading-exactly b (λ o. applyRead lim s b o .outcome) (λ k t. refl) (AtTerminal lim s)
-      (λ p e. exactly-of (outcome-by lim s (judged s p (runOf lim s p)) (runOf lim s p)) (judged-exactly s p))))
+      (λ p e. exactly-of (outcome-by lim s (judged s p (runOf s p)) (runOf s p)) (judged-exactly s p))))
 
   -- at its own base a plan is not refused with 23, 24 or 26
   module _ (b : List ℕ) (p : Plan) (e : readPlan lim b ≡ got p []) where
     own : Configuration
     own = record { regions = p .regions; gic = p .marks .gic }
 
-    own-judged : judged (baseOf lim p) p (runOf lim (baseOf lim p) p)
+    own-judged : judged (baseOf lim p) p (runOf (baseOf lim p) p)
         ≡ firstRule (plain 25 0 when eqb (p .marks .edition) lastEdition ∷ [])
         (ended (run lim own (p .zones) (requestsOf p)))
     unfolding judged judgedRules firstRule own
@@ -529,7 +531,7 @@ module _ (lim : Limits) where
     unfolding applyRead own
     alone-then =
         let s : Terminal = baseOf lim p in
-        let r : Run = runOf lim s p in
+        let r : Run = runOf s p in
         exactly-of (outcome-first s b)
         (standing-first (s .config) (s .table) (λ n. plain n 0) (applyRead lim s b (readPlan lim b) .outcome) _
         (λ none. exactly-of (ap (λ (o : Out Plan). applyRead lim s b o .outcome) e

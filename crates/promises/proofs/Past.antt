@@ -4,15 +4,17 @@ use native.Mathlib.Omega.{arith}
 use mathlib.Core.List.{[]}
 use mathlib.Core.Path.{_≡_, refl, ap}
 use Rattle.lists.specs.Runs.{runs}
-use Rattle.formats.specs.Formats.{got, bad, Out, ListFits}
+use Rattle.formats.specs.Formats.{got, bad, Out, writeWith, ListFits}
 use Rattle.rules.specs.Limits.{mostRequests, limits}
+use Rattle.rules.specs.OwnedDesk.{bankTerminal}
+use Rattle.rules.specs.OwnedPlan.{readOwned, encodeOwned, ownedSteps, OwnedPlan}
 use Rattle.rules.specs.Plan.{readPlan, AskedFits, Plan}
-use Rattle.rules.specs.Planner.{MayAsk}
+use Rattle.rules.specs.Planner.{MayAskBy, MayAsk}
 use Rattle.rules.specs.Story.{without, with5, adds, removes}
-use Rattle.rules.proofs.Computing.{readingParts, writingParts, applyingParts}
+use Rattle.rules.proofs.Computing.{readingParts, writingParts, applyingParts, ownedParts}
 use Rattle.rules.proofs.Plan.{none-fits}
 use Rattle.promises.specs.Editions.{tableAt, happens}
-use Rattle.promises.specs.Past.{numbers, PastShown}
+use Rattle.promises.specs.Past.{numbers, PastShown, bankWith5, OwnedPastShown}
 
 -- the empty file is no plan
 numberRead : Out Plan → ℕ
@@ -60,6 +62,46 @@ past-shown = (
           may-remove,
           (
             (λ x. no-bytes (x .0) (x .1 .0)),
+            ((omega arith, omega arith), ((omega arith, omega arith), (omega arith, tt))),
+          ),
+        ),
+      ),
+    ),
+  ),
+  refl,
+  refl,
+)
+
+-- ---- with owners
+ownedRead : Out OwnedPlan → ℕ
+ownedRead (got p t) = 0
+ownedRead (bad k t) = k
+
+no-owned : (p : OwnedPlan) → readOwned limits [] ≡ got p [] → ⊥
+unfolding ownedRead ownedParts
+no-owned p e = let z : _≡_ {A = ℕ} 20 0 = ap ownedRead e in omega arith
+
+owned-may-add : MayAskBy (ownedSteps limits) bankTerminal adds
+unfolding ownedParts
+owned-may-add = record { edition = omega arith; fits = adds-fit; accepted = refl }
+
+owned-may-remove : MayAskBy (ownedSteps limits) bankWith5 removes
+unfolding ownedParts
+owned-may-remove = record { edition = omega arith; fits = removes-fit; accepted = refl }
+
+pub owned-past-shown : OwnedPastShown
+unfolding numbers happens runs tableAt ownedParts writingParts encodeOwned writeWith
+owned-past-shown = (
+  (
+    owned-may-add,
+    (
+      (omega arith, omega arith),
+      (
+        (omega arith, omega arith),
+        (
+          owned-may-remove,
+          (
+            (λ x. no-owned (x .0) (x .1 .0)),
             ((omega arith, omega arith), ((omega arith, omega arith), (omega arith, tt))),
           ),
         ),

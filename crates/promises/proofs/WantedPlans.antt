@@ -4,7 +4,7 @@ use Prim.Native.Nat.{ℕ, _+_, _*_, _^_, _≤_, _<_}
 use native.Mathlib.Omega.{arith}
 use mathlib.Core.Bool.{Bool, true, false, cond, not}
 use mathlib.Core.List.{List, [], _∷_, _++_, map}
-use mathlib.Core.Path.{_≡_, refl, sym, ap, ap₂, subst, _∙_}
+use mathlib.Core.Path.{_≡_, refl, sym, ap, subst, _∙_}
 use borrow.Author.Tests.{eqb-true, eqb-false, not-true, not-false, le-ltb}
 use lib.Dec.{ltb, eqb}
 use lib.ListN.{length, take, drop, length-map}
@@ -13,22 +13,21 @@ use Rattle.lists.specs.Bytes.{bytesOf}
 use Rattle.lists.specs.Rules.{_when_, firstRule, Rule}
 use Rattle.lists.proofs.Lines.{first-of, first-map, exactly-of, all, _and_}
 use Rattle.formats.specs.Formats.{writeMany, writeHeaded}
-use Rattle.rules.specs.Applying.{lastEdition, store, plain, apply, Terminal}
+use Rattle.rules.specs.Applying.{lastEdition, store, plain, plainSteps, apply, Terminal}
 use Rattle.rules.specs.Configuration.{configOf, StoredConfig}
 use Rattle.rules.specs.Fields.{shortSize}
 use Rattle.rules.specs.Filling.{fillAnswer, fillLeaves, filling, Filled}
 use Rattle.rules.specs.Limits.{Limits, Sayable}
 use Rattle.rules.specs.Plan.{Asked}
-use Rattle.rules.specs.Planner.{planFor, planBytes, ranAt, MayAsk}
+use Rattle.rules.specs.Planner.{planBytes, ranAt, MayAsk}
 use Rattle.rules.specs.Requests.{standing}
-use Rattle.rules.specs.Run.{makeRequest, requestSize, requestsIn, run, Run}
+use Rattle.rules.specs.Run.{requestSize, requestsIn, run, Run}
 use Rattle.rules.specs.Tables.{tableOf, Zone, StoredTable}
 use Rattle.rules.specs.Wanted.{requestsFor, workRules, worked, askedAs, recordsOf, listed, Listed, Worked}
 use Rattle.rules.specs.Writer.{write, askedOf}
 use Rattle.rules.specs.declared.Outcome.{Outcome}
 use Rattle.rules.specs.declared.Request.{Request}
 use Rattle.rules.proofs.Filling.{zero-fits}
-use Rattle.rules.proofs.Planner.{plan-reads, plan-for-base}
 use Rattle.rules.proofs.Records.{asked-read, records-read}
 use Rattle.rules.proofs.Stored.{table-back, run-from-keeps}
 use Rattle.rules.proofs.WantedBytes.{requests-again, records-length, list-fits}
@@ -40,11 +39,12 @@ use Rattle.promises.specs.WantedPlans.{Led}
 use Rattle.promises.specs.Writing.{written}
 use Rattle.promises.proofs.Answers.{tells-lt}
 use Rattle.promises.proofs.Closure.{config-ok, table-ok}
-use Rattle.promises.proofs.Plans.{plan-is-accepted}
+use Rattle.promises.proofs.Steps.{asked-is-accepted-by}
+use Rattle.promises.proofs.Terminals.{plain-is-proper}
 use Rattle.promises.proofs.Wanted.{list-leads, workAs, work-matches, granted, worked-list}
 use Rattle.promises.proofs.Wanted.{granted-stands, sound-there, Granted}
 use Rattle.promises.proofs.WantedOrder.{list-orders}
-use Rattle.promises.proofs.Writing.{success-fills, writes-when-may-ask}
+use Rattle.promises.proofs.Writing.{written-plan, writes-when-may-ask}
 
 module _ (lim : Limits) where
   -- ---- in a lent buffer
@@ -198,13 +198,13 @@ module _ (lim : Limits) where
             edition = s .edition + 1;
           };
         }
+    unfolding apply
     applied =
-        plan-is-accepted lim s (planBytes lim s asked) (planFor s asked) stands
-        (plan-reads lim say s asked len stands may, plan-for-base s asked) (λ e. omega arith) (may .accepted)
-        ∙ ap₂ (λ (n : ℕ) (r : Run). record {
-          outcome = plain 0 n;
+        asked-is-accepted-by (plainSteps lim) (plain-is-proper lim) say s asked len stands may
+        ∙ ap (λ (r : Run). record {
+          outcome = plain 0 (length asked);
           state = record { config = s .config; table = store lim (r .table); edition = s .edition + 1 };
-        }) (length-map asked (λ (a : Asked). makeRequest (a .kind) (a .zone) (a .region))) ran
+        }) ran
 
     -- what is stored is the table that the run leaves
     back : tableOf (store lim (run lim (configOf (s .config)) (tableOf (s .table)) list .table))
@@ -242,15 +242,14 @@ module _ (lim : Limits) where
     abbrev q : List Asked
     q = map askedAs (requestsFor (tableOf (s .table)) (tableOf w))
 
-    written-plan : (d : List ℕ) → length (planBytes lim s q) ≤ length d
+    plan-written : (d : List ℕ) → length (planBytes lim s q) ≤ length d
         → (write lim s q d .outcome .number ≡ 0) × (written lim s q d ≡ planBytes lim s q)
-    written-plan d h =
+    plan-written d h =
         let m = may say s w len low g in
         let z = writes-when-may-ask lim say s q d
         (record { edition = omega arith; numbers = m .fits .fits .1; records = len }) .1
         (granted-stands lim (s .config) (s .table) w g, (m, h)) in
-        let f = success-fills lim s q d z in
-        (z, ap (λ (o : Outcome). take (o .place) (write lim s q d .buffer)) (f .place) ∙ f .front)
+        (z, written-plan (plainSteps lim) s q d z)
 
     listed-asked : (b : List ℕ) → listed lim (s .config) (s .table) w b ≡ allListed (list say s w len low g) b
         → (listed lim (s .config) (s .table) w b .count ≡ length q) × (askedOf (listBytes lim s w b) ≡ q)
@@ -271,7 +270,7 @@ module _ (lim : Limits) where
       ap (λ (a : Worked). map askedAs (a .requests)) (worked-list lim (s .config) (s .table) w g) in
       let room : length (planBytes lim s (q say s w len low g)) ≤ length d =
       subst (λ (x : List Asked). length (planBytes lim s x) ≤ length d) eq h in
-      let (z, p) = written-plan say s w len low g d room in (
+      let (z, p) = plan-written say s w len low g d room in (
         subst (λ (x : List Asked). write lim s x d .outcome .number ≡ 0) (sym asks) z,
         subst (λ (n : ℕ). Led s w n (apply lim s (written lim s (askedOf (listBytes lim s w b)) d))) (sym many)
             (subst (λ (x : List Asked). Led s w (length (q say s w len low g)) (apply lim s (written lim s x d))) (sym asks)

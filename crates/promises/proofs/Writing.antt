@@ -1,6 +1,6 @@
 -- The writer: 0 is answered exactly where none of its numbers applies, and then its bytes are those of the planner's
 -- plan, whose format has no slack.
-use Prim.Native.Nat.{ℕ, _+_, _^_, _≤_, _<_}
+use Prim.Native.Nat.{ℕ, _^_, _≤_, _<_}
 use native.Mathlib.Decide.{decLt}
 use native.Mathlib.Omega.{arith}
 use mathlib.Core.Bool.{Bool, true, false, cond, not}
@@ -15,68 +15,71 @@ use Rattle.lists.specs.Lines.{Exactly}
 use Rattle.lists.specs.Rules.{firstRule, _when_}
 use Rattle.lists.proofs.Lines.{exactly, exactly-of, first-of, all, _and_}
 use Rattle.lists.proofs.Tests.{holds-or-fails, not-fails, not-holds}
-use Rattle.rules.specs.Applying.{lastEdition, store, plain, apply, ForBase, Terminal}
+use Rattle.rules.specs.Applying.{lastEdition, plain, Kept, applyBy, plainSteps, apply, Terminal}
 use Rattle.rules.specs.Configuration.{configOf}
 use Rattle.rules.specs.Filling.{fillAnswer, Filled}
 use Rattle.rules.specs.Limits.{Limits, Sayable}
-use Rattle.rules.specs.Plan.{requestsFrom, encode, Asked, Plan}
-use Rattle.rules.specs.Planner.{planFor, planBytes, ranAt, MayAsk}
+use Rattle.rules.specs.Plan.{requestsFrom, Asked}
+use Rattle.rules.specs.Planner.{planBytesBy, planBytes, ranAt, MayAskBy}
 use Rattle.rules.specs.Requests.{standing}
 use Rattle.rules.specs.Run.{ended, Run}
+use Rattle.rules.specs.Steps.{StepRule}
 use Rattle.rules.specs.Tables.{tableOf}
-use Rattle.rules.specs.Writer.{writerRules, write}
+use Rattle.rules.specs.Writer.{writerRulesBy, writeBy, writerRules}
 use Rattle.rules.specs.declared.Outcome.{Outcome}
 use Rattle.rules.proofs.Filling.{leaves-all}
-use Rattle.rules.proofs.Plan.{no-slack}
-use Rattle.rules.proofs.Planner.{plan-reads, plan-for-base}
 use Rattle.rules.proofs.Writer.{Writable, zero-writable, writable-written, writer-refuses}
 use Rattle.promises.specs.Answers.{allAccepted, twentySeven as refusedAt, Ends}
-use Rattle.promises.specs.Writing.{written, WrittenIsAccepted, AcceptedIsWritten, WritesWhenMayAsk, Lendable}
-use Rattle.promises.specs.Writing.{RefusalLeavesBuffer, SuccessFills, twentySeven, twentyEight}
-use Rattle.promises.specs.Writing.{fits, Writes, WriteIsExact}
+use Rattle.promises.specs.Steps.{Proper}
+use Rattle.promises.specs.Writing.{writtenBy, WrittenIsAcceptedBy, AcceptedIsWrittenBy, WritesWhenMayAskBy}
+use Rattle.promises.specs.Writing.{RefusalLeavesBufferBy, SuccessFillsBy, LendableBy, WrittenIsAccepted}
+use Rattle.promises.specs.Writing.{AcceptedIsWritten, WritesWhenMayAsk, RefusalLeavesBuffer, SuccessFills}
+use Rattle.promises.specs.Writing.{twentySeven, twentyEight, fits, Writes, WriteIsExact}
 use Rattle.promises.proofs.Answers.{tells-lt, tells-eq, standing-exactly, ends-exactly}
 use Rattle.promises.proofs.Filling.{filled}
-use Rattle.promises.proofs.Plans.{accepted-is-plan, plan-is-accepted, accepted-stands}
+use Rattle.promises.proofs.Steps.{accepted-is-plan-by, accepted-stands-by, asked-is-accepted-by}
+use Rattle.promises.proofs.Terminals.{plain-is-proper}
 
-module _ (lim : Limits) where
-  -- ---- the buffer
-  pub refusal-leaves-buffer : RefusalLeavesBuffer lim
-  unfolding write
-  refusal-leaves-buffer s q w ne = leaves-all _ (planBytes lim s q) w ne
+-- ---- for the terminals of any step rule
+module _ (m : StepRule) where
+  -- the buffer
+  pub refusal-leaves-buffer-by : RefusalLeavesBufferBy m
+  unfolding writeBy
+  refusal-leaves-buffer-by s q w ne = leaves-all _ (planBytesBy m s q) w ne
 
-  pub success-fills : SuccessFills lim
-  unfolding write
-  success-fills s q w e = filled (writerRules lim s q) (planBytes lim s q) w (writer-refuses lim s q) e
+  pub success-fills-by : SuccessFillsBy m
+  unfolding writeBy
+  success-fills-by s q w e = filled (writerRulesBy m s q) (planBytesBy m s q) w (writer-refuses m s q) e
 
-  pub written-plan : (s : Terminal) (q : List Asked) (w : List ℕ) → write lim s q w .outcome .number ≡ 0
-      → written lim s q w ≡ planBytes lim s q
+  pub written-plan : (s : Kept m) (q : List Asked) (w : List ℕ) → writeBy m s q w .outcome .number ≡ 0
+      → writtenBy m s q w ≡ planBytesBy m s q
   written-plan s q w e =
-      let h = success-fills s q w e in
-      ap (λ (o : Outcome). take (o .place) (write lim s q w .buffer)) (h .place) ∙ h .front
+      let h = success-fills-by s q w e in
+      ap (λ (o : Outcome). take (o .place) (writeBy m s q w .buffer)) (h .place) ∙ h .front
 
-  -- ---- when it writes
-  pub may-ask : Sayable lim → (s : Terminal) (q : List Asked) → Lendable lim s q → (room : ℕ) → Writable lim s q room
-      → MayAsk lim s q
+  -- when it writes
+  pub may-ask : Sayable (m .limits) → (s : Kept m) (q : List Asked) → LendableBy m s q → (room : ℕ)
+      → Writable m s q room → MayAskBy m s q
   may-ask say s q can room h =
-      let m : s .edition ≤ lastEdition = can .edition in
-      let few : length q ≤ lim .requests = h .few in
-      let most : lim .requests < 256 ^ 4 = say .requests in
+      let most : s .edition ≤ lastEdition = can .edition in
+      let few : length q ≤ m .limits .requests = h .few in
+      let said : m .limits .requests < 256 ^ 4 = say .requests in
       record {
-        edition = below (s .edition) lastEdition (h .edition) m;
+        edition = below (s .edition) lastEdition (h .edition) most;
         fits = record { said = omega arith; least = omega arith; most = few; fits = (refl, can .numbers) };
         accepted = h .accepted;
       }
     where
       below : (a b : ℕ) → (a ≡ b → ⊥) → a ≤ b → a < b
-      below a b ne m = elim (decLt a b) [ yes h ↦ h | no h ↦ absurd (ne (omega arith)) ]
+      below a b ne k = elim (decLt a b) [ yes h ↦ h | no h ↦ absurd (ne (omega arith)) ]
 
-  pub writes-when-may-ask : WritesWhenMayAsk lim
-  writes-when-may-ask say s q w can = (
-    (λ e. let h = zero-writable lim s q w e in (h .stands, (may-ask say s q can (length w) h, h .fits))),
+  pub writes-when-may-ask-by : WritesWhenMayAskBy m
+  writes-when-may-ask-by say s q w can = (
+    (λ e. let h = zero-writable m s q w e in (h .stands, (may-ask say s q can (length w) h, h .fits))),
     (λ (st, (may, room)).
         let below : s .edition < lastEdition = may .edition in
         ap (λ (x : Filled). x .outcome .number)
-        (writable-written lim s q w
+        (writable-written m s q w
         (record {
           stands = st;
           edition = λ l. omega arith;
@@ -86,53 +89,53 @@ module _ (lim : Limits) where
         }))),
   )
 
-  -- ---- what was written, and what is accepted
-  pub written-is-accepted : WrittenIsAccepted lim
-  written-is-accepted say s q w can e =
-      let h : Writable lim s q (length w) = zero-writable lim s q w e in
-      let may : MayAsk lim s q = may-ask say s q can (length w) h in
-      let n : length (requestsFrom q) ≡ length q = length-map q _ in
-      let a = plan-is-accepted lim s (planBytes lim s q) (planFor s q) (h .stands)
-      (plan-reads lim say s q (can .records) (h .stands) may, plan-for-base s q) (h .edition) (h .accepted) in
-      ap (apply lim s) (written-plan s q w e) ∙ a
-      ∙ (λ i. record {
-        outcome = plain 0 (n i);
-        state = record {
-          config = s .config;
-          table = store lim (ranAt lim (s .config) (s .table) q .table);
-          edition = s .edition + 1;
-        };
-      })
+  -- what was written, and what is accepted
+  module _ (ok : Proper m) where
+    pub written-is-accepted-by : WrittenIsAcceptedBy m (applyBy m)
+    written-is-accepted-by say s q w can e =
+        let h : Writable m s q (length w) = zero-writable m s q w e in
+        let may : MayAskBy m s q = may-ask say s q can (length w) h in
+        ap (applyBy m s) (written-plan s q w e) ∙ asked-is-accepted-by m ok say s q (can .records) (h .stands) may
 
-  -- a plan for the base is the planner's, for what it asks
-  for-base-same : (s : Terminal) (p : Plan) → ForBase s p → p ≡ planFor s (p .asked)
-  for-base-same s p f = λ i. record {
-    marks = record { gic = sym (f .gic) i; edition = sym (f .edition) i };
-    regions = sym (f .regions) i;
-    zones = sym (f .zones) i;
-    asked = p .asked;
-  }
+    pub accepted-is-written-by : AcceptedIsWrittenBy m (applyBy m)
+    accepted-is-written-by s b bytes e =
+        let (p, (g, f), last, inner) = accepted-is-plan-by m ok s b e in
+        let (t, few) = ok .tight b p [] bytes g in
+        let same : b ≡ planBytesBy m s (m .asked p) = t ∙ ap (m .write) (ok .only s p f) in (
+          p,
+          g,
+          λ w room. writable-written m s (m .asked p) w
+              (record {
+                stands = accepted-stands-by m s b e;
+                edition = last;
+                few = few;
+                accepted = inner;
+                fits = rw (← same) room;
+              })
+              ∙ (λ i. record {
+                outcome = plain 0 (length (sym same i));
+                buffer = sym same i ++ drop (length (sym same i)) w;
+              }),
+        )
+
+-- ---- for document 01's terminals
+module _ (lim : Limits) where
+  pub refusal-leaves-buffer : RefusalLeavesBuffer lim
+  refusal-leaves-buffer = refusal-leaves-buffer-by (plainSteps lim)
+
+  pub success-fills : SuccessFills lim
+  success-fills = success-fills-by (plainSteps lim)
+
+  pub writes-when-may-ask : WritesWhenMayAsk lim
+  writes-when-may-ask = writes-when-may-ask-by (plainSteps lim)
+
+  pub written-is-accepted : WrittenIsAccepted lim
+  unfolding apply
+  written-is-accepted = written-is-accepted-by (plainSteps lim) (plain-is-proper lim)
 
   pub accepted-is-written : AcceptedIsWritten lim
-  accepted-is-written s b bytes e =
-      let (p, (g, f), last, inner) = accepted-is-plan lim s b e in
-      let (t, can) = no-slack lim b p [] bytes g in
-      let same : b ≡ planBytes lim s (p .asked) = t ∙ ap (encode lim) (for-base-same s p f) in (
-        p,
-        g,
-        λ w room. writable-written lim s (p .asked) w
-            (record {
-              stands = accepted-stands lim s b e;
-              edition = last;
-              few = can .1 .1 .1 .most;
-              accepted = inner;
-              fits = rw (← same) room;
-            })
-            ∙ (λ i. record {
-              outcome = plain 0 (length (sym same i));
-              buffer = sym same i ++ drop (length (sym same i)) w;
-            }),
-      )
+  unfolding apply
+  accepted-is-written = accepted-is-written-by (plainSteps lim) (plain-is-proper lim)
 
   -- ---- the first number that applies
   module _ (s : Terminal) (q : List Asked) (room : ℕ) where
@@ -203,7 +206,7 @@ module _ (lim : Limits) where
         (firstRule (plain 25 0 when eqb (s .edition) lastEdition ∷ plain 29 0 when ltb (lim .requests) (length q) ∷ [])
         last)
         (plain (standing lim (s .config) (s .table)) 0)
-    unfolding fillAnswer writerRules firstRule last r n
+    unfolding fillAnswer writerRulesBy firstRule last r n
     in-order = by _ _ (eqb (standing lim (s .config) (s .table)) 0)
       where
         by : (x y : Outcome) (b : Bool) → cond (not b) x y ≡ cond b y x
@@ -211,7 +214,7 @@ module _ (lim : Limits) where
         by x y false = refl
 
   pub write-is-exact : WriteIsExact lim
-  unfolding write
+  unfolding writeBy
   write-is-exact s q w =
       exactly-of (in-order s q (length w))
       (standing-exactly lim (s .config) (s .table) (λ k. plain k 0) _ _

@@ -6,11 +6,12 @@ pub mod Tables
 pub mod Requests
 pub mod Closure
 pub mod Translation
+pub mod Editions
+pub mod Steps
 pub mod Plans
 pub mod Rights
 pub mod Answers
 pub mod Stretches
-pub mod Editions
 pub mod Terminals
 pub mod Wanted
 pub mod WantedOrder
@@ -21,3 +22,9 @@ pub mod Filling
 pub mod Writing
 pub mod Differing
 pub mod Families
+pub mod OwnedConfiguration
+pub mod Owned
+pub mod Budget
+pub mod Neighbours
+pub mod OwnedNeighbours
+pub mod NeighboursShown

@@ -1,60 +1,39 @@
--- Plans: bytes that are no plan for a terminal's base change nothing,
+-- Plans of document 01's terminals: bytes that are no plan for a terminal's base change nothing,
 -- and those that are one lead exactly where the rules say.
-use Prim.Native.Nat.{ℕ, _+_, _≤_, _<_}
+use Prim.Native.Nat.{ℕ, _≤_}
 use mathlib.Core.List.{List, []}
 use mathlib.Core.Path.{_≡_}
-use lib.ListN.{length, take}
+use lib.ListN.{length}
 use Rattle.lists.specs.Bytes.{Bytes}
 use Rattle.formats.specs.Formats.{got, bad}
-use Rattle.rules.specs.Applying.{lastEdition, store, plain, apply, answerAlone, Terminal, ForBase}
-use Rattle.rules.specs.Configuration.{configOf}
+use Rattle.rules.specs.Applying.{plainSteps, apply, answerAlone, Terminal}
 use Rattle.rules.specs.Limits.{Limits, Sayable}
-use Rattle.rules.specs.Plan.{marksSection, requestsOf, readPlan, encode, PlanFits, Plan}
-use Rattle.rules.specs.Requests.{standing}
-use Rattle.rules.specs.Run.{run, Run}
+use Rattle.rules.specs.Plan.{marksSection, readPlan, encode, PlanFits, Plan}
 use Rattle.rules.specs.Sizes.{longestSize, leastSize}
-use Rattle.rules.specs.Tables.{tableOf}
+use Rattle.promises.specs.Steps.{PlanForBy, RefusalStaysBy, ConfigurationStaysBy, ApplyKeepsSoundBy}
+use Rattle.promises.specs.Steps.{AcceptedIsPlanBy, PlanIsAcceptedBy, PastTheLongestBy}
 
--- the bytes are a plan for the state's base: they read whole, with nothing
--- after the end, and give that base, whatever their requests
+-- the bytes are a plan for the state's base
 abbrev pub PlanFor : Limits → Terminal → List ℕ → Plan → Type 0
-PlanFor l s b p = (readPlan l b ≡ got p []) × ForBase s p
+PlanFor l s b p = PlanForBy (plainSteps l) s b p
 
--- the run of a plan's requests at the terminal's table
-abbrev pub runOf : Limits → Terminal → Plan → Run
-runOf l s p = run l (configOf (s .config)) (tableOf (s .table)) (requestsOf p)
-
--- a refusal leaves the state as it was
+-- a refusal leaves the state as it was; the configuration stays whatever is delivered; and so does that neither 1 nor 2
+-- is answered
 abbrev pub RefusalStays : Limits → Type 0
-RefusalStays l = (s : Terminal) (b : List ℕ) → (apply l s b .outcome .number ≡ 0 → ⊥) → apply l s b .state ≡ s
+RefusalStays l = RefusalStaysBy (plainSteps l) (apply l)
 
--- whatever is delivered, the configuration stays
 abbrev pub ConfigurationStays : Limits → Type 0
-ConfigurationStays l = (s : Terminal) (b : List ℕ) → apply l s b .state .config ≡ s .config
+ConfigurationStays l = ConfigurationStaysBy (plainSteps l) (apply l)
 
--- a state at which neither 1 nor 2 is answered is followed by one at which neither is, whatever bytes were applied
 abbrev pub ApplyKeepsSound : Limits → Type 0
-ApplyKeepsSound l =
-    (s : Terminal) (b : List ℕ) → standing l (s .config) (s .table) ≡ 0
-    → standing l (apply l s b .state .config) (apply l s b .state .table) ≡ 0
+ApplyKeepsSound l = ApplyKeepsSoundBy (plainSteps l) (apply l)
 
--- what is accepted is a plan for the base, below the last edition, with requests that are all accepted in turn
+-- what is accepted is a plan for the base, and such a plan is accepted
 abbrev pub AcceptedIsPlan : Limits → Type 0
-AcceptedIsPlan l =
-    (s : Terminal) (b : List ℕ) → apply l s b .outcome .number ≡ 0
-    → (p : Plan) × PlanFor l s b p × (s .edition ≡ lastEdition → ⊥) × (runOf l s p .inner ≡ 0)
+AcceptedIsPlan l = AcceptedIsPlanBy (plainSteps l) (apply l)
 
--- and such a plan is accepted: the place is the number of requests, the
--- edition is one higher, and the table is exactly the run's
 abbrev pub PlanIsAccepted : Limits → Type 0
-PlanIsAccepted l =
-    (s : Terminal) (b : List ℕ) (p : Plan) → standing l (s .config) (s .table) ≡ 0 → PlanFor l s b p
-    → (s .edition ≡ lastEdition → ⊥) → runOf l s p .inner ≡ 0
-    → apply l s b
-    ≡ record {
-      outcome = plain 0 (length (requestsOf p));
-      state = record { config = s .config; table = store l (runOf l s p .table); edition = s .edition + 1 };
-    }
+PlanIsAccepted l = PlanIsAcceptedBy (plainSteps l) (apply l)
 
 -- the marks section alone says which edition a plan is for
 pub record MarksTell (l : Limits) : Type 0 where
@@ -82,9 +61,6 @@ pub record PlanLengths (l : Limits) : Type 0 where
   pub least-met : 1 ≤ l .regions → Sayable l → IsMet l (leastSize l)
   pub longest-met : 1 ≤ l .regions → Sayable l → IsMet l (longestSize l)
 
--- what lies past the longest plan and one byte more changes no answer and
--- no state: so many bytes are enough, at a terminal and alone
+-- what lies past the longest plan and one byte more changes nothing
 abbrev pub PastTheLongest : Limits → Type 0
-PastTheLongest l =
-    (b : List ℕ) (n : ℕ) → longestSize l < n
-    → (answerAlone l (take n b) ≡ answerAlone l b) × ((s : Terminal) → apply l s (take n b) ≡ apply l s b)
+PastTheLongest l = PastTheLongestBy (plainSteps l) (apply l) (answerAlone l) (longestSize l)

@@ -4,15 +4,17 @@ use Prim.Native.Nat.{ℕ}
 use native.Mathlib.Omega.{arith}
 use mathlib.Core.Bool.{Bool, true, false, cond, true≢false}
 use mathlib.Core.List.{List, [], _∷_}
+use mathlib.Core.Logic.{_↔_}
 use mathlib.Core.Path.{_≡_, refl, sym, ap, ap₂, _∙_}
 use borrow.Author.Tests.{eqb-true, eqb-false, eq-eqb, ne-eqb, not-false}
 use lib.Dec.{eqb}
 use Rattle.lists.specs.Rules.{_when_, firstRule}
 use Rattle.lists.proofs.Rules.{Quiet, testOf, silent, quiet-answer}
 use Rattle.lists.proofs.Tests.{both-true, true-both, parts, whole, not-holds}
-use Rattle.rules.specs.Applying.{lastEdition, sameList, sameZone, sameConfig, plain, judgedRules, judged}
-use Rattle.rules.specs.Applying.{Terminal, ForBase}
-use Rattle.rules.specs.Configuration.{configOf}
+use Rattle.rules.specs.Applying.{lastEdition, sameList, sameZone, sameConfig, plain, baseRules, judgedRules}
+use Rattle.rules.specs.Applying.{judged, moved, settled, TerminalOf, Terminal, AppliedOf, GivesConfig}
+use Rattle.rules.specs.Configuration.{configOf, Configuration}
+use Rattle.rules.specs.Limits.{Limits}
 use Rattle.rules.specs.Plan.{Plan}
 use Rattle.rules.specs.Regions.{regionEq}
 use Rattle.rules.specs.Run.{ended, Run}
@@ -54,12 +56,32 @@ zone-same z =
       (list-same regionEq equal-refl (z .cpu), (list-same regionEq equal-refl (z .iommu), tt)),
     )
 
+-- what 23 asks of document 01's terminals
+pub same-config : (c : Configuration) (p : Plan) → (sameConfig c p ≡ true) ↔ GivesConfig c p
+unfolding sameConfig
+same-config c p = (
+  λ e. (let h = parts _ e in record { regions = same-list regionEq equal-same _ _ (h .0); gic = eqb-true _ _ (h .1 .0) }),
+  λ g. whole _ (
+    ap (λ (l : List Region). sameList regionEq l (p .regions)) (g .regions) ∙ list-same regionEq equal-refl (p .regions),
+    (eq-eqb _ _ (g .gic), tt),
+  ),
+)
+
 -- ---- 0 is answered exactly for the base, below the last edition, with requests that are all accepted
-module _ (s : Terminal) (p : Plan) (r : Run) where
+-- what a plan gives is what the terminal has
+pub record SameBase {C : Type 0} (s : TerminalOf C) (same : Bool) (e : ℕ) (zs : List Zone) : Type 0 where
+  pub config : same ≡ true
+  pub edition : s .edition ≡ e
+  pub zones : tableOf (s .table) ≡ zs
+
+module _ {C : Type 0} (s : TerminalOf C) (same : Bool) (e : ℕ) (zs : List Zone) (r : Run) where
+  abbrev answered : Outcome
+  answered = firstRule (baseRules s same e zs) (ended r)
+
   -- answered 0: no number applies, and the run has none either
-  judged-well : judged s p r .number ≡ 0 → Quiet (judgedRules s p) × (ended r .number ≡ 0)
-  unfolding judged judgedRules firstRule
-  judged-well e = by _ _ _ _ e
+  judged-well : answered .number ≡ 0 → Quiet (baseRules s same e zs) × (ended r .number ≡ 0)
+  unfolding baseRules firstRule
+  judged-well h = by _ _ _ _ h
     where
       by : (u v w x : Bool)
           → firstRule (plain 23 0 when u ∷ plain 24 0 when v ∷ plain 25 0 when w ∷ plain 26 0 when x ∷ [])
@@ -74,7 +96,7 @@ module _ (s : Terminal) (p : Plan) (r : Run) where
 
   ended-well : ended r .number ≡ 0 → r .inner ≡ 0
   unfolding ended
-  ended-well e = by (eqb (r .inner) 0) refl e
+  ended-well h = by (eqb (r .inner) 0) refl h
     where
       by : (t : Bool) → eqb (r .inner) 0 ≡ t → _≡_ {A = ℕ} (cond t 0 27) 0 → r .inner ≡ 0
       by true h g = eqb-true _ _ h
@@ -82,18 +104,16 @@ module _ (s : Terminal) (p : Plan) (r : Run) where
 
   well-ended : r .inner ≡ 0 → ended r ≡ plain 0 (r .place)
   unfolding ended
-  well-ended e = (λ i. record { number = cond (eqb (e i) 0) 0 27; place = r .place; inner = e i })
+  well-ended h = (λ i. record { number = cond (eqb (h i) 0) 0 27; place = r .place; inner = h i })
 
-  pub accepted-for-base : judged s p r .number ≡ 0 → ForBase s p × (s .edition ≡ lastEdition → ⊥) × (r .inner ≡ 0)
-  unfolding judgedRules sameConfig testOf
-  accepted-for-base e =
-      let (q, well) = judged-well e in
-      let none : (n : ℕ) → testOf (λ (o : Outcome). o .number) n (judgedRules s p) ≡ false =
-      silent (λ o. o .number) (judgedRules s p) q in
-      let c = parts _ (not-false _ (none 23)) in (
+  pub accepted-base : answered .number ≡ 0 → SameBase s same e zs × (s .edition ≡ lastEdition → ⊥) × (r .inner ≡ 0)
+  unfolding baseRules testOf
+  accepted-base h =
+      let (q, well) = judged-well h in
+      let none : (n : ℕ) → testOf (λ (o : Outcome). o .number) n (baseRules s same e zs) ≡ false =
+      silent (λ o. o .number) (baseRules s same e zs) q in (
         record {
-          regions = same-list regionEq equal-same _ _ (c .0);
-          gic = eqb-true _ _ (c .1 .0);
+          config = not-false _ (none 23);
           edition = eqb-true _ _ (not-false _ (none 24));
           zones = same-list sameZone same-zone _ _ (not-false _ (none 26));
         },
@@ -101,18 +121,54 @@ module _ (s : Terminal) (p : Plan) (r : Run) where
         ended-well well,
       )
 
-  pub for-base-accepted : ForBase s p → (s .edition ≡ lastEdition → ⊥) → r .inner ≡ 0
-      → judged s p r ≡ plain 0 (r .place)
-  unfolding judged judgedRules sameConfig
-  for-base-accepted b last inner =
-      let c : sameList regionEq (configOf (s .config) .regions) (p .regions) ≡ true =
-      ap (λ (l : List Region). sameList regionEq l (p .regions)) (b .regions)
-      ∙ list-same regionEq equal-refl (p .regions) in
-      let z : sameList sameZone (tableOf (s .table)) (p .zones) ≡ true =
-      ap (λ (l : List Zone). sameList sameZone l (p .zones)) (b .zones) ∙ list-same sameZone zone-same (p .zones) in
+  -- for the base, below the last edition, it is what the run ended with
+  pub base-judged : SameBase s same e zs → (s .edition ≡ lastEdition → ⊥) → answered ≡ ended r
+  unfolding baseRules
+  base-judged b last =
+      let z : sameList sameZone (tableOf (s .table)) zs ≡ true =
+      ap (λ (l : List Zone). sameList sameZone l zs) (b .zones) ∙ list-same sameZone zone-same zs in
       sym
-      (quiet-answer (judgedRules s p) (ended r) (
-        not-holds _ (whole _ (c, (eq-eqb _ _ (b .gic), tt))),
+      (quiet-answer (baseRules s same e zs) (ended r) (
+        not-holds _ (b .config),
         (not-holds _ (eq-eqb _ _ (b .edition)), (ne-eqb _ _ last, (not-holds _ z, tt))),
       ))
-      ∙ well-ended inner
+
+  pub base-accepted : SameBase s same e zs → (s .edition ≡ lastEdition → ⊥) → r .inner ≡ 0
+      → answered ≡ plain 0 (r .place)
+  base-accepted b last inner = base-judged b last ∙ well-ended inner
+
+-- what was settled: the answer as it is, and the state as it was or moved
+module _ {C : Type 0} (l : Limits) (s : TerminalOf C) (o : Outcome) (r : Run) where
+  either : Bool → AppliedOf C
+  either b = cond b (record { outcome = o; state = moved l s r }) (record { outcome = o; state = s })
+
+  pub outcome-by : settled l s o r .outcome ≡ o
+  unfolding settled either
+  outcome-by = by (eqb (o .number) 0)
+    where
+      by : (b : Bool) → either b .outcome ≡ o
+      by true = refl
+      by false = refl
+
+  pub stays-by : (settled l s o r .outcome .number ≡ 0 → ⊥) → settled l s o r .state ≡ s
+  unfolding settled either
+  stays-by = by (eqb (o .number) 0) refl
+    where
+      by : (b : Bool) → eqb (o .number) 0 ≡ b → (either b .outcome .number ≡ 0 → ⊥) → either b .state ≡ s
+      by true e ne = absurd (ne (eqb-true _ _ e))
+      by false e ne = refl
+
+  pub settled-keeps : (P : TerminalOf C → Type 0) → P s → P (moved l s r) → P (settled l s o r .state)
+  unfolding settled either
+  settled-keeps P stay move = by (eqb (o .number) 0)
+    where
+      by : (b : Bool) → P (either b .state)
+      by true = move
+      by false = stay
+
+-- and of document 01's terminals
+pub accepted-for-base : (s : Terminal) (p : Plan) (r : Run) → judged s p r .number ≡ 0
+    → SameBase s (sameConfig (configOf (s .config)) p) (p .marks .edition) (p .zones) × (s .edition ≡ lastEdition → ⊥)
+    × (r .inner ≡ 0)
+unfolding judged judgedRules
+accepted-for-base s p r e = accepted-base s (sameConfig (configOf (s .config)) p) (p .marks .edition) (p .zones) r e

@@ -1,22 +1,24 @@
--- A table as upstream's state: where it has a zone, and what each change does to it.
-use Prim.Native.Nat.{ℕ, suc, _<_}
+-- A table as upstream's state: where it has a zone, and what each change does to it, from what it does to the zone; and
+-- sets of regions as upstream's.
+use Prim.Native.Nat.{ℕ, _<_}
 use native.Mathlib.Decide.{decLt}
 use native.Mathlib.Omega.{arith}
 use mathlib.Core.Bool.{Bool, true, false, cond, not, _&&_, _||_, true≢false, and-true, or-false}
 use mathlib.Core.List.{List, [], _∷_, _++_}
 use mathlib.Core.Logic.{⊎-elim}
-use mathlib.Core.Option.{Option, none, some, Option·some-injective, Option·none-ne-some, Option·some-ne-none}
+use mathlib.Core.Option.{Option, none, some, Option·map, Option·some-injective, Option·none-ne-some}
+use mathlib.Core.Option.{Option·some-ne-none}
 use mathlib.Core.Path.{_≡_, refl, sym, ap, fun-ext, _∙_}
-use borrow.Author.Tests.{ltb-true, eqb-true, eqb-false, not-true}
+use borrow.Author.Tests.{ltb-true, not-true}
 use lib.Dec.{eqb}
 use lib.ListN.{length, getD, set}
-use Rattle.lists.specs.First.{firstIndex, any, all}
+use Rattle.lists.specs.First.{firstIndex, any}
 use Rattle.lists.specs.Pairs.{pairwise}
 use Rattle.lists.specs.Room.{removeAt}
-use Rattle.lists.proofs.Every.{all-at, none-make, none-others-make, any-append, any-split}
+use Rattle.lists.proofs.Every.{all-at, none-others-make, any-append, any-split}
 use Rattle.lists.proofs.First.{any-first, first-passes}
 use Rattle.lists.proofs.Pairs.{pairs-at}
-use Rattle.lists.proofs.Tests.{both-true, both-false, holds-or-fails, false-of, parts}
+use Rattle.lists.proofs.Tests.{holds-or-fails, false-of, parts}
 use Rattle.rules.specs.Limits.{Limits}
 use Rattle.rules.specs.Changes.{added, dropped}
 use Rattle.rules.specs.Closure.{insert-region, remove-region-exact, map-insert, map-remove, ghostOf, stateOf}
@@ -24,34 +26,22 @@ use Rattle.rules.specs.Closure.{GhostZone}
 use Rattle.rules.specs.Configuration.{Configuration}
 use Rattle.rules.specs.Regions.{regionEq, guestOverlap, noRegion}
 use Rattle.rules.specs.Requests.{find, present, heldIn}
-use Rattle.rules.specs.Tables.{emptyZone, noZone, hasId, configured, guestApart, soundSet, idsDiffer, Zone}
+use Rattle.rules.specs.Tables.{emptyZone, noZone, zoneIn, configured, guestApart, soundSet, idsDiffer, Zone}
 use Rattle.rules.specs.declared.Region.{Region}
 use Rattle.rules.proofs.Configuration.{SoundConfiguration}
+use Rattle.rules.proofs.OneZone.{zone-there, zone-not, zone-added, zone-dropped, zone-changed}
 use Rattle.rules.proofs.Regions.{equal-same}
 use Rattle.rules.proofs.Tables.{guest-overlaps-itself}
 
 -- ---- what a state has at an id
 module _ (id : ℕ) where
   pub state-there : (t : List Zone) → present id t ≡ true → stateOf t id ≡ some (ghostOf (getD t (find id t) noZone))
-  unfolding stateOf firstIndex any
-  state-there [] e = absurd (true≢false (sym e))
-  state-there (z ∷ t) e = by (state-there t) (eqb (z .id) id) e
-    where
-      by : (present id t ≡ true → stateOf t id ≡ some (ghostOf (getD t (find id t) noZone))) → (b : Bool)
-          → (b || present id t) ≡ true
-          → cond b (some (ghostOf z)) (stateOf t id) ≡ some (ghostOf (getD (z ∷ t) (cond b 0 (suc (find id t))) noZone))
-      by f true h = refl
-      by f false h = f h
+  unfolding stateOf
+  state-there t e = ap (Option·map ghostOf) (zone-there id t e)
 
   pub state-not : (t : List Zone) → present id t ≡ false → stateOf t id ≡ none
-  unfolding stateOf any
-  state-not [] e = refl
-  state-not (z ∷ t) e = by (state-not t) (eqb (z .id) id) e
-    where
-      by : (present id t ≡ false → stateOf t id ≡ none) → (b : Bool) → (b || present id t) ≡ false
-          → cond b (some (ghostOf z)) (stateOf t id) ≡ none
-      by f true h = absurd (true≢false h)
-      by f false h = f h
+  unfolding stateOf
+  state-not t e = ap (Option·map ghostOf) (zone-not id t e .0)
 
   pub state-some : (t : List Zone) (zone : GhostZone) → stateOf t id ≡ some zone
       → (present id t ≡ true) × (ghostOf (getD t (find id t) noZone) ≡ zone)
@@ -62,80 +52,31 @@ module _ (id : ℕ) where
   pub state-none : (t : List Zone) → stateOf t id ≡ none → present id t ≡ false
   state-none t e = false-of (present id t) (λ p. Option·some-ne-none _ (sym (state-there t p) ∙ e))
 
--- ---- what a change does to it
--- an entry that stands before another one
-under : {A : Type 0} (b d : Bool) (g e u v : A) → (b ≡ true → d ≡ true → ⊥) → v ≡ cond d e u
-    → cond b g v ≡ cond d e (cond b g u)
-under true true g e u v f h = absurd (f refl refl)
-under true false g e u v f h = refl
-under false d g e u v f h = h
-
+-- ---- what a change does to it: what it does to the zone
 module _ (id x : ℕ) where
-  -- two ids that differ are not both x
-  not-both : (n : ℕ) → eqb n id ≡ false → eqb n x ≡ true → eqb id x ≡ true → ⊥
-  not-both n h p q = eqb-false n id h (eqb-true n x p ∙ sym (eqb-true id x q))
+  either-ghost : (b : Bool) (u v : Option Zone)
+      → Option·map ghostOf (cond b u v) ≡ cond b (Option·map ghostOf u) (Option·map ghostOf v)
+  either-ghost true u v = refl
+  either-ghost false u v = refl
 
   pub state-added : (t : List Zone) → present id t ≡ false
       → stateOf (added id t) x ≡ map-insert (stateOf t) id (ghostOf (emptyZone id)) x
-  unfolding stateOf added any
-  state-added [] e = refl
-  state-added (z ∷ t) e =
-      let h = both-false (eqb (z .id) id) (present id t) e in
-      under (eqb (z .id) x) (eqb id x) _ _ _ _ (not-both (z .id) (h .0)) (state-added t (h .1))
-
-  -- an id that differs from those of all zones is not there
-  fresh : (t : List Zone) (z : Zone) → z .id ≡ x → all (idsDiffer z) t ≡ true → present x t ≡ false
-  fresh t z e h =
-      none-make (hasId x) t noZone
-      (λ i l. false-of _
-      (λ p. eqb-false _ _ (not-true _ (all-at (idsDiffer z) t noZone h i l)) (e ∙ sym (eqb-true _ _ p))))
+  unfolding stateOf
+  state-added t e = ap (Option·map ghostOf) (zone-added id x t e) ∙ either-ghost (eqb id x) _ (zoneIn t x)
 
   pub state-dropped : (t : List Zone) → pairwise idsDiffer t ≡ true
       → stateOf (dropped (find id t) t) x ≡ map-remove (stateOf t) id x
-  unfolding stateOf dropped removeAt firstIndex pairwise
-  state-dropped [] e = none-twice (eqb id x)
-    where
-      none-twice : (b : Bool) → _≡_ {A = Option GhostZone} none (cond b none none)
-      none-twice true = refl
-      none-twice false = refl
-  state-dropped (z ∷ t) e =
-      let h = both-true (all (idsDiffer z) t) (pairwise idsDiffer t) e in
-      by (h .0) (state-dropped t (h .1)) (eqb (z .id) id) refl
-    where
-      gone : all (idsDiffer z) t ≡ true → (b : Bool) → eqb id x ≡ b → z .id ≡ id
-          → stateOf t x ≡ cond b none (cond b (some (ghostOf z)) (stateOf t x))
-      gone h true q s = state-not x t (fresh t z (s ∙ eqb-true id x q) h)
-      gone h false q s = refl
-
-      by : all (idsDiffer z) t ≡ true → stateOf (removeAt (find id t) t) x ≡ map-remove (stateOf t) id x → (b : Bool)
-          → eqb (z .id) id ≡ b
-          → stateOf (removeAt (cond b 0 (suc (find id t))) (z ∷ t)) x ≡ map-remove (stateOf (z ∷ t)) id x
-      by h f true q =
-          gone h (eqb id x) refl (eqb-true _ _ q)
-          ∙ ap (λ (n : ℕ). cond (eqb id x) none (cond (eqb n x) (some (ghostOf z)) (stateOf t x)))
-          (sym (eqb-true _ _ q))
-      by h f false q = under (eqb (z .id) x) (eqb id x) _ _ _ _ (not-both (z .id) q) f
+  unfolding stateOf
+  state-dropped t e = ap (Option·map ghostOf) (zone-dropped id x t e) ∙ either-ghost (eqb id x) none (zoneIn t x)
 
   pub state-put : (t : List Zone) (new : Zone) → new .id ≡ id → present id t ≡ true
       → stateOf (set t (find id t) new) x ≡ map-insert (stateOf t) id (ghostOf new) x
-  unfolding stateOf firstIndex any
-  state-put [] new n e = absurd (true≢false (sym e))
-  state-put (z ∷ t) new n e = by (state-put t new n) (eqb (z .id) id) e refl
-    where
-      over : (b : Bool)
-          → cond b (some (ghostOf new)) (stateOf t x)
-          ≡ cond b (some (ghostOf new)) (cond b (some (ghostOf z)) (stateOf t x))
-      over true = refl
-      over false = refl
-
-      by : (present id t ≡ true → stateOf (set t (find id t) new) x ≡ map-insert (stateOf t) id (ghostOf new) x)
-          → (b : Bool) → (b || present id t) ≡ true → eqb (z .id) id ≡ b
-          → stateOf (set (z ∷ t) (cond b 0 (suc (find id t))) new) x ≡ map-insert (stateOf (z ∷ t)) id (ghostOf new) x
-      by f true a q =
-          ap (λ (m : ℕ). cond (eqb m x) (some (ghostOf new)) (stateOf t x)) n ∙ over (eqb id x)
-          ∙ ap (λ (m : ℕ). cond (eqb id x) (some (ghostOf new)) (cond (eqb m x) (some (ghostOf z)) (stateOf t x)))
-          (sym (eqb-true _ _ q))
-      by f false a q = under (eqb (z .id) x) (eqb id x) _ _ _ _ (not-both (z .id) q) (f a)
+  unfolding stateOf
+  state-put t new n e =
+      ap (Option·map ghostOf)
+      (zone-changed id x (λ z. new) (λ z h. n) t
+      ∙ ap (λ (v : Option Zone). cond (eqb id x) (Option·map (λ (z : Zone). new) v) (zoneIn t x)) (zone-there id t e))
+      ∙ either-ghost (eqb id x) (some new) (zoneIn t x)
 
 -- ---- sets
 -- one more region

@@ -9,20 +9,24 @@ use Rattle.lists.specs.Room.{room, removeAt}
 use Rattle.lists.specs.Rules.{firstRule}
 use Rattle.lists.specs.Tests.{allOf, eachTwo}
 use Rattle.formats.specs.Formats.{when, then, readNumber, readBoth, writeBoth, startAt, readAs, readMany, writeMany}
-use Rattle.formats.specs.Formats.{readHeaded, readCount, within, writeHeaded, atEnd, readFile}
+use Rattle.formats.specs.Formats.{readWith, readHeaded, readCount, within, writeHeaded, atEnd, readFile}
 use Rattle.rules.specs.Addresses.{overlaps}
 use Rattle.rules.specs.Applying.{sameList, sameZone, sameConfig, judgedRules, judged, moved, settled, applyRead}
-use Rattle.rules.specs.Applying.{apply}
+use Rattle.rules.specs.Applying.{baseRules, applyReadBy, applyBy, apply}
 use Rattle.rules.specs.Changes.{setAt, withSide, putSet, added, pushed, cut, dropped}
 use Rattle.rules.specs.Configuration.{gicOf, configOf, positionRules, checkRules, check, isSound}
 use Rattle.rules.specs.Limits.{pageOf}
 use Rattle.rules.specs.Fields.{numbersOf}
+use Rattle.rules.specs.OwnedPlan.{readOwned, sameOwned}
+use Rattle.rules.specs.Owners.{ownedOf, usedAt, rightOwner, ownedCheckRules, ownedCheck, isOwnedSound, ownerOf}
+use Rattle.rules.specs.Owners.{mayHold, holdsOwn, ownedSound, ownedCheckTable, stranger, elevenToo, ownedRules}
+use Rattle.rules.specs.Owners.{ownedRefusal, ownedNext, ownedStandingRules}
 use Rattle.rules.specs.Plan.{readPlan, encode}
 use Rattle.rules.specs.Regions.{wellFormed, inReach, regionEq}
 use Rattle.rules.specs.Requests.{holdsAny, onGic, forbidden, addRules, removeZoneRules, regionRules, setRules}
 use Rattle.rules.specs.Requests.{insertRules, removeRules, kindRules, noRequest, requestRules, refusal, after}
 use Rattle.rules.specs.Requests.{next, answers, standingRules}
-use Rattle.rules.specs.Run.{makeKind, makeRequest, runFrom, ended}
+use Rattle.rules.specs.Run.{makeKind, makeRequest, runBy, runFrom, ended}
 use Rattle.rules.specs.Tables.{sideOf, configured, excessive, clash, soundSet, soundZone, zonesApart, sound, setOf, zoneOf}
 use Rattle.rules.specs.Tables.{tableOf, restZero, zeroSet, tidyZone, zeroZone, tidy, checkTable}
 use Rattle.rules.specs.Translation.{coversGuest, coveringIn, physIn, remainingIn, translationRules, translatedAs}
@@ -71,3 +75,10 @@ unfoldable pub applyingParts : Unit {0}
 unfolding tableParts requestParts readingParts apply applyRead settled moved judged judgedRules sameConfig sameZone
     sameList runFrom ended
 applyingParts = tt
+
+-- terminals with owners
+unfoldable pub ownedParts : Unit {0}
+unfolding applyingParts readOwned readWith applyBy applyReadBy ownedOf usedAt rightOwner ownedCheckRules ownedCheck
+    isOwnedSound ownerOf mayHold holdsOwn ownedSound ownedCheckTable stranger elevenToo ownedRules ownedRefusal ownedNext
+    ownedStandingRules sameOwned baseRules runBy
+ownedParts = tt

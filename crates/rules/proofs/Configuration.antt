@@ -35,7 +35,7 @@ c1-faulty e = let z : _≡_ {A = ℕ} 1 0 = ap checkNumber e in omega arith
 pub c2-faulty : BadGic ≡ Sound → ⊥
 c2-faulty e = let z : _≡_ {A = ℕ} 2 0 = ap checkNumber e in omega arith
 
-c3-faulty : (k : ℕ) → NotZero k ≡ Sound → ⊥
+pub c3-faulty : (k : ℕ) → NotZero k ≡ Sound → ⊥
 c3-faulty k e = let z : _≡_ {A = ℕ} 3 0 = ap checkNumber e in omega arith
 
 pub c4-faulty : (i : ℕ) → Malformed i ≡ Sound → ⊥

@@ -22,10 +22,10 @@ use Rattle.rules.proofs.Addresses.{overlap-symmetric}
 use Rattle.rules.proofs.Regions.{equal-same}
 
 -- ---- what a changed map has at an id
-abbrev Entry : State → ℕ → GhostZone → ℕ → GhostZone → Type 0
+abbrev pub Entry : State → ℕ → GhostZone → ℕ → GhostZone → Type 0
 Entry zones zid new id zone = ((zid ≡ id) × (new ≡ zone)) ⊎ ((zid ≡ id → ⊥) × (zones id ≡ some zone))
 
-entry-put : (zones : State) (zid : ℕ) (new : GhostZone) (id : ℕ) (zone : GhostZone)
+pub entry-put : (zones : State) (zid : ℕ) (new : GhostZone) (id : ℕ) (zone : GhostZone)
     → map-insert zones zid new id ≡ some zone → Entry zones zid new id zone
 entry-put zones zid new id zone e = by (eqb zid id) refl e
   where
@@ -33,7 +33,7 @@ entry-put zones zid new id zone e = by (eqb zid id) refl e
     by true q h = inl (eqb-true zid id q, Option·some-injective _ _ h)
     by false q h = inr (eqb-false zid id q, h)
 
-entry-left : (zones : State) (zid id : ℕ) (zone : GhostZone) → map-remove zones zid id ≡ some zone
+pub entry-left : (zones : State) (zid id : ℕ) (zone : GhostZone) → map-remove zones zid id ≡ some zone
     → zones id ≡ some zone
 entry-left zones zid id zone e = by (eqb zid id) e
   where
@@ -42,14 +42,14 @@ entry-left zones zid id zone e = by (eqb zid id) e
     by false h = h
 
 -- ---- what a changed set contains
-grown : (set : RegionSet) (region r : Region) → insert-region set region r ≡ true → (set r ≡ true) ⊎ (r ≡ region)
+pub grown : (set : RegionSet) (region r : Region) → insert-region set region r ≡ true → (set r ≡ true) ⊎ (r ≡ region)
 grown set region r e = by (one-true (set r) (regionEq r region) e)
   where
     by : (set r ≡ true) ⊎ (regionEq r region ≡ true) → (set r ≡ true) ⊎ (r ≡ region)
     by (inl h) = inl h
     by (inr h) = inr (equal-same r region h)
 
-shrunk : (set : RegionSet) (region r : Region) → remove-region-exact set region r ≡ true → set r ≡ true
+pub shrunk : (set : RegionSet) (region r : Region) → remove-region-exact set region r ≡ true → set r ≡ true
 shrunk set region r e = both-true (set r) (not (regionEq r region)) e .0
 
 -- of a zone, on one side or the other
@@ -57,9 +57,16 @@ either : (zone : GhostZone) (r : Region) → contains-region zone r ≡ true
     → (zone .cpu-mem-set r ≡ true) ⊎ (zone .iommu-mem-set r ≡ true)
 either zone r e = one-true (zone .cpu-mem-set r) (zone .iommu-mem-set r) e
 
+-- nothing is in the empty set
+pub nothing : (r : Region) → empty-set r ≡ true → ⊥
+nothing r h = true≢false (sym h)
+
 module _ (lim : Limits) where
-  -- ---- a changed set is well formed
-  grown-wf : (s : Side) (set : RegionSet) (region : Region) → set-wf lim s set → spec-valid lim s region
+  -- ---- the empty set and a changed one are well formed
+  pub empty-wf : (s : Side) → set-wf lim s empty-set
+  empty-wf s = ((λ r h. absurd (nothing r h)), (λ a b h. absurd (nothing a h)))
+
+  pub grown-wf : (s : Side) (set : RegionSet) (region : Region) → set-wf lim s set → spec-valid lim s region
       → not-overlaps-vmem set region → set-wf lim s (insert-region set region)
   grown-wf s set region ok valid apart = (
     (λ r e. ⊎-elim (ok .0 r) (λ q. subst (spec-valid lim s) (sym q) valid) (grown set region r e)),
@@ -73,7 +80,7 @@ module _ (lim : Limits) where
       two a b ne (inr p) (inl y) = ap (λ (g : Region). guestOverlap g b) p ∙ apart b y
       two a b ne (inr p) (inr q) = absurd (ne (p ∙ sym q))
 
-  shrunk-wf : (s : Side) (set : RegionSet) (region : Region) → set-wf lim s set
+  pub shrunk-wf : (s : Side) (set : RegionSet) (region : Region) → set-wf lim s set
       → set-wf lim s (remove-region-exact set region)
   shrunk-wf s set region ok = (
     (λ r e. ok .0 r (shrunk set region r e)),
@@ -163,12 +170,6 @@ module _ (lim : Limits) where
           reached _ (x .update)
           (put-keeps _ (empty-wf Cpu, empty-wf Iommu) (λ r h. absurd (nothing r h)) (λ r h. absurd (nothing r h))
           (λ r h. absurd (nothing r h)))
-        where
-          nothing : (r : Region) → empty-set r ≡ true → ⊥
-          nothing r h = true≢false (sym h)
-
-          empty-wf : (s : Side) → set-wf lim s empty-set
-          empty-wf s = ((λ r h. absurd (nothing r h)), (λ a b h. absurd (nothing a h)))
 
       pub remove-zone-inductive : remove-zone zid pre post → Invariants lim c post
       remove-zone-inductive x = reached (map-remove pre zid) (x .update) (record {

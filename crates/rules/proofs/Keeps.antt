@@ -106,7 +106,7 @@ others-clear c k Cpu r t e j h ne =
 others-clear c k Iommu r t e j h ne = none-others (λ (y : Zone). any (clash c r) (regionsOf y)) t k noZone e j h ne
 
 -- ---- any step
-found : (id : ℕ) (t : List Zone) → present id t ≡ true → find id t < length t
+pub found : (id : ℕ) (t : List Zone) → present id t ≡ true → find id t < length t
 found id t e = ltb-true _ _ (sym (any-first (hasId id) t) ∙ e)
 
 module _ (lim : Limits) where

@@ -15,6 +15,12 @@ pub mod Sizes
 pub mod Applying
 pub mod Receiving
 pub mod Planner
+pub mod Owners
+pub mod OwnedCheck
+pub mod OwnedNever
+pub mod OwnedOver
+pub mod OwnedPlan
+pub mod OwnedSizes
 pub mod Filling
 pub mod Writer
 pub mod Differing
@@ -25,10 +31,13 @@ pub mod WantedBytes
 pub mod Computing
 pub mod Desk
 pub mod Story
+pub mod OwnedDesk
 pub mod RequestExamples
 pub mod CheckExamples
 pub mod PlanExamples
 pub mod WriterExamples
 pub mod WantedExamples
+pub mod OneZone
 pub mod Closure
 pub mod Inductive
+pub mod Budget

@@ -18,7 +18,8 @@ use Rattle.rules.specs.Fields.{regionNumbers, numbersOf, regionTo, longS
 use Rattle.rules.specs.Plan.{short, long, regionFormat, regionField, askedTo, askedFrom}
 use Rattle.rules.specs.Plan.{askedField, marksTo, marksFrom, marksFormat, marksSection, regionsSection}
 use Rattle.rules.specs.Plan.{setFormat, zoneTo}
-use Rattle.rules.specs.Plan.{zoneFrom, zoneFormat, zonesSection, requestsSection, planTo, planFrom, planFormat}
+use Rattle.rules.specs.Plan.{zoneFrom, zoneFormat, zonesSection, requestsSection, sectionsWith, planTo, planFrom}
+use Rattle.rules.specs.Plan.{planFormat}
 use Rattle.rules.specs.Plan.{readPlan, encode, Short, Long, RegionFits, AskedFits, MarksFit, SetFits, ZoneFits}
 use Rattle.rules.specs.Plan.{PlanFits, Asked, Plan}
 use Rattle.rules.specs.Regions.{noRegion}
@@ -106,15 +107,19 @@ module _ (l : Limits) where
   pub lawful-requests : Lawful (requestsSection l) Requests
   lawful-requests = lawful-list 0 (l .requests) askedField AskedFits lawful-asked
 
+  -- ---- the whole
+  module _ {A : Type 0} (R : Format A) (P : A → Type 0) (r : Lawful R P) where
+    pub lawful-sections : Lawful (sectionsWith l R)
+        (λ t. MarksFit l (t .0) × (P (t .1 .0) × (Zones (t .1 .1 .0) × Requests (t .1 .1 .1))))
+    lawful-sections =
+        lawful-both (marksSection l) (both R (both (zonesSection l) (requestsSection l))) (MarksFit l)
+        (λ t. P (t .0) × (Zones (t .1 .0) × Requests (t .1 .1))) lawful-marks
+        (lawful-both R (both (zonesSection l) (requestsSection l)) P (λ t. Zones (t .0) × Requests (t .1)) r
+        (lawful-both (zonesSection l) (requestsSection l) Zones Requests lawful-zones lawful-requests))
+
   pub lawful-plan : Lawful (planFormat l) (PlanFits l)
   lawful-plan =
-      lawful-as (both (marksSection l) (both (regionsSection l) (both (zonesSection l) (requestsSection l))))
-      (λ t. MarksFit l (t .0) × (Regions (t .1 .0) × (Zones (t .1 .1 .0) × Requests (t .1 .1 .1))))
-      (lawful-both (marksSection l) (both (regionsSection l) (both (zonesSection l) (requestsSection l))) (MarksFit l)
-      (λ t. Regions (t .0) × (Zones (t .1 .0) × Requests (t .1 .1))) lawful-marks
-      (lawful-both (regionsSection l) (both (zonesSection l) (requestsSection l)) Regions
-      (λ t. Zones (t .0) × Requests (t .1)) lawful-regions
-      (lawful-both (zonesSection l) (requestsSection l) Zones Requests lawful-zones lawful-requests)))
+      lawful-as (sectionsWith l (regionsSection l)) _ (lawful-sections (regionsSection l) Regions lawful-regions)
       planTo planFrom (λ p. refl) (λ t h. refl)
 
   -- ---- the two laws

@@ -1,5 +1,4 @@
--- The planner's plans: one that may be asked for fits into its bytes, is
--- for the terminal's base, and reads as what it says.
+-- The planner's plans: what is sound fits into a plan's bytes; so does the plan for a sound base, which is for that base.
 use Prim.Native.Nat.{ℕ, suc, _+_, _^_, _≤_, _<_}
 use native.Mathlib.Omega.{arith}
 use mathlib.Core.Bool.{Bool, true}
@@ -9,26 +8,23 @@ use borrow.Author.Tests.{leb-true}
 use lib.ListN.{length, getD}
 use Rattle.lists.specs.First.{all}
 use Rattle.lists.proofs.Tests.{both-true, parts}
-use Rattle.formats.specs.Formats.{got, All, ListFits}
-use Rattle.rules.specs.Applying.{lastEdition, Terminal, ForBase}
-use Rattle.rules.specs.Configuration.{configOf, Configuration}
+use Rattle.formats.specs.Formats.{All, ListFits}
+use Rattle.rules.specs.Applying.{lastEdition, planAt, plainSteps, Terminal, ForBaseBy}
+use Rattle.rules.specs.Configuration.{Configuration}
 use Rattle.rules.specs.Limits.{highestId, limits, Limits, Sayable}
 use Rattle.rules.specs.Fields.{numbersOf}
-use Rattle.rules.specs.Plan.{readPlan, RegionFits, MarksFit, SetFits, ZoneFits, PlanFits, Asked}
-use Rattle.rules.specs.Planner.{planFor, planBytes, MayAsk}
+use Rattle.rules.specs.Planner.{planFor}
+use Rattle.rules.specs.Plan.{RegionFits, AskedFits, MarksFit, SetFits, ZoneFits, PlanFits, Asked}
 use Rattle.rules.specs.Regions.{allRights, wellFormed, inReach, noRegion}
-use Rattle.rules.specs.Requests.{standing}
-use Rattle.rules.specs.Tables.{tableOf, configured, soundSet, soundZone, Zone}
+use Rattle.rules.specs.Tables.{configured, soundSet, soundZone, Zone}
 use Rattle.rules.specs.declared.Region.{Region}
-use Rattle.rules.proofs.Configuration.{passed, SoundConfiguration}
+use Rattle.rules.proofs.Configuration.{SoundConfiguration}
 use Rattle.rules.proofs.Keeps.{SoundTable}
-use Rattle.rules.proofs.Plan.{read-encoded}
-use Rattle.rules.proofs.Stored.{stands-well}
 use Rattle.rules.proofs.Tables.{configured-at}
 
 -- ---- every element, by its place or by a test
 module _ {A : Type 0} (P : A → Type 0) where
-  all-places : (xs : List A) (d : A) → ((i : ℕ) → i < length xs → P (getD xs i d)) → All P xs
+  pub all-places : (xs : List A) (d : A) → ((i : ℕ) → i < length xs → P (getD xs i d)) → All P xs
   all-places [] d f = tt
   all-places (x ∷ xs) d f = (f 0 (omega arith), all-places xs d (λ i h. f (suc i) (omega arith)))
 
@@ -57,7 +53,7 @@ module _ (lim : Limits) (say : Sayable lim) where
         let (i, h, q) = configured-at lim c ok r e in
         sound-fits r (ap (wellFormed (lim .page)) q ∙ ok .formed i h) (ap (inReach lim) q ∙ ok .near i h)
 
-    regions-fit : ListFits 4 1 (lim .regions) RegionFits (c .regions)
+    pub regions-fit : ListFits 4 1 (lim .regions) RegionFits (c .regions)
     regions-fit =
         let m : length (c .regions) ≤ lim .regions = ok .most in
         let s : lim .regions < 256 ^ 4 = say .regions in record {
@@ -101,18 +97,13 @@ module _ (lim : Limits) (say : Sayable lim) where
           fits = (refl, all-passing (ZoneFits lim) (soundZone lim c) zone-fits t (s .zones));
         }
 
-  -- ---- the planner's plan
-  module _ (s : Terminal) (q : List Asked) (full : length (s .config .records) ≡ lim .regions)
-      (e : standing lim (s .config) (s .table) ≡ 0) (may : MayAsk lim s q) where
-    config-ok : SoundConfiguration lim (configOf (s .config))
-    config-ok = passed lim (s .config) full (stands-well lim (s .config) (s .table) e .0)
-
-    marks-fit : MarksFit lim (planFor s q .marks)
+  -- ---- the plan for a sound base
+  module _ (c : Configuration) (ok : SoundConfiguration lim c) (e : ℕ) (low : e < lastEdition) where
+    pub marks-fit : MarksFit lim (record { gic = c .gic; edition = e })
     marks-fit =
-        let g : configOf (s .config) .gic < length (configOf (s .config) .regions) = config-ok .gic in
-        let l : length (configOf (s .config) .regions) ≤ lim .regions = config-ok .most in
+        let g : c .gic < length (c .regions) = ok .gic in
+        let l : length (c .regions) ≤ lim .regions = ok .most in
         let m : lim .regions < 256 ^ 4 = say .regions in
-        let n : s .edition < lastEdition = may .edition in
         record {
           said = say .markCount;
           least = omega arith;
@@ -120,24 +111,13 @@ module _ (lim : Limits) (say : Sayable lim) where
           fits = (omega arith, (omega arith, say .lastMarks));
         }
 
-    plan-fits : PlanFits lim (planFor s q)
-    plan-fits = (
-      marks-fit,
-      (
-        regions-fit (configOf (s .config)) config-ok,
-        (
-          zones-fit (configOf (s .config)) config-ok (tableOf (s .table))
-              (stands-well lim (s .config) (s .table) e .1),
-          may .fits,
-        ),
-      ),
-    )
+    pub plan-fits : (t : List Zone) → SoundTable lim c t → (q : List Asked) → ListFits 4 0 (lim .requests) AskedFits q
+        → PlanFits lim (planAt c e t q)
+    plan-fits t tab q fits = (marks-fit, (regions-fit c ok, (zones-fit c ok t tab, fits)))
 
-    pub plan-reads : readPlan lim (planBytes lim s q) ≡ got (planFor s q) []
-    plan-reads = read-encoded lim (planFor s q) plan-fits
-
-pub plan-for-base : (s : Terminal) (q : List Asked) → ForBase s (planFor s q)
-plan-for-base s q = record { regions = refl; gic = refl; edition = refl; zones = refl }
+-- it is for its base
+pub plan-for-base : {l : Limits} (s : Terminal) (q : List Asked) → ForBaseBy (plainSteps l) s (planFor s q)
+plan-for-base s q = record { config = record { regions = refl; gic = refl }; edition = refl; zones = refl }
 
 pub limits-sayable : Sayable limits
 limits-sayable = record {

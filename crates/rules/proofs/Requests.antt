@@ -48,7 +48,7 @@ module _ (lim : Limits) where
   request-numbered c (Remove s r) id t = refl
   request-numbered c NoRequest id t = refl
 
-  request-above : (c : Configuration) (k : Kind) (id : ℕ) (t : List Zone) → aboveZero (requestRules lim c k id t) ≡ true
+  pub request-above : (c : Configuration) (k : Kind) (id : ℕ) (t : List Zone) → aboveZero (requestRules lim c k id t) ≡ true
   unfolding aboveZero all requestRules kindRules addRules removeZoneRules insertRules regionRules setRules removeRules
   request-above c AddZone id t = refl
   request-above c RemoveZone id t = refl

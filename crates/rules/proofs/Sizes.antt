@@ -18,7 +18,8 @@ use Rattle.rules.specs.Fields.{regionNumbers, numbersOf, regionTo, short
 use Rattle.rules.specs.Plan.{short, long, regionFormat, regionField, askedTo, askedFrom}
 use Rattle.rules.specs.Plan.{askedField, marksTo, marksFrom, marksFormat, marksSection, regionsSection}
 use Rattle.rules.specs.Plan.{setFormat, zoneTo}
-use Rattle.rules.specs.Plan.{zoneFrom, zoneFormat, zonesSection, requestsSection, planTo, planFrom, planFormat}
+use Rattle.rules.specs.Plan.{zoneFrom, zoneFormat, zonesSection, requestsSection, sectionsWith, planTo, planFrom}
+use Rattle.rules.specs.Plan.{planFormat}
 use Rattle.rules.specs.Plan.{readPlan, encode, RegionFits, AskedFits, ZoneFits, PlanFits, Asked, Plan}
 use Rattle.rules.specs.Regions.{noRegion}
 use Rattle.rules.specs.Run.{requestSize}
@@ -31,7 +32,7 @@ use Rattle.rules.proofs.Fields.{numbers-many}
 use Rattle.rules.proofs.Plan.{none-fits, no-slack}
 
 -- ---- what is written
-sized-short : Sized short (λ n. shortSize)
+pub sized-short : Sized short (λ n. shortSize)
 sized-short = sized-number shortSize
 
 sized-long : Sized long (λ n. longSize)
@@ -72,7 +73,7 @@ module _ (l : Limits) where
       (marksFrom m)) m
       ∙ sum
 
-  abbrev ofRegions : List Region → ℕ
+  abbrev pub ofRegions : List Region → ℕ
   ofRegions xs = regionsSize (length xs)
 
   pub sized-set : Sized (setFormat l) ofRegions
@@ -90,20 +91,24 @@ module _ (l : Limits) where
   pub sized-regions : Sized (regionsSection l) ofRegions
   sized-regions = sized-list 1 (l .regions) regionSize regionField sized-region
 
-  abbrev ofAsked : List Asked → ℕ
+  abbrev pub ofAsked : List Asked → ℕ
   ofAsked q = requestsSize (length q)
+
+  module _ {A : Type 0} (R : Format A) (f : A → ℕ) (r : Sized R f) where
+    pub sized-sections : Sized (sectionsWith l R)
+        (λ t. marksSize l + (f (t .1 .0) + (zonesSize (t .1 .1 .0) + ofAsked (t .1 .1 .1))))
+    sized-sections =
+        sized-both (marksSection l) (both R (both (zonesSection l) (requestsSection l))) (λ m. marksSize l)
+        (λ t. f (t .0) + (zonesSize (t .1 .0) + ofAsked (t .1 .1))) sized-marks
+        (sized-both R (both (zonesSection l) (requestsSection l)) f (λ t. zonesSize (t .0) + ofAsked (t .1)) r
+        (sized-both (zonesSection l) (requestsSection l) zonesSize ofAsked sized-zones
+        (sized-list 0 (l .requests) requestSize askedField sized-asked)))
 
   -- what is written of a plan, whether it fits or not, has the size that its contents give
   pub encoded-length : (p : Plan) → length (encode l p) ≡ planSize l p
   unfolding encode planSize
   encoded-length p =
-      sized-both (marksSection l) (both (regionsSection l) (both (zonesSection l) (requestsSection l))) (λ m. marksSize l)
-      (λ t. ofRegions (t .0) + (zonesSize (t .1 .0) + ofAsked (t .1 .1))) sized-marks
-      (sized-both (regionsSection l) (both (zonesSection l) (requestsSection l)) ofRegions
-      (λ t. zonesSize (t .0) + ofAsked (t .1)) sized-regions
-      (sized-both (zonesSection l) (requestsSection l) zonesSize ofAsked sized-zones
-      (sized-list 0 (l .requests) requestSize askedField sized-asked)))
-      (p .marks, (p .regions, (p .zones, p .asked)))
+      sized-sections (regionsSection l) ofRegions sized-regions (planFrom p)
 
   -- ---- between the least and the longest
   pub least-length : (p : Plan) → PlanFits l p → leastSize l ≤ length (encode l p)
@@ -185,10 +190,10 @@ region-most =
     most-as (many long regionNumbers) regionTo numbersOf regionSize
     (most-many long longSize (most-number longSize) regionNumbers)
 
-region-field-most : Most regionField regionSize
+pub region-field-most : Most regionField regionSize
 region-field-most = most-field regionFormat regionSize region-most
 
-asked-most : Most askedField requestSize
+pub asked-most : Most askedField requestSize
 asked-most =
     most-field (as-type (both short (both short regionFormat)) askedTo askedFrom) requestSize
     (most-as (both short (both short regionFormat)) askedTo askedFrom requestSize
@@ -196,7 +201,7 @@ asked-most =
     (most-both short regionFormat 4 regionSize (most-number 4) region-most)))
 
 module _ (l : Limits) where
-  marks-most : Most (marksSection l) (marksSize l)
+  pub marks-most : Most (marksSection l) (marksSize l)
   marks-most =
       let n : ℕ = length (l .lastMarks) * 4 in
       most-wider (marksSection l) (4 + (4 + (4 + n))) (marksSize l) (omega arith)
@@ -208,25 +213,31 @@ module _ (l : Limits) where
   set-most : Most (setFormat l) (regionsSize (l .inSet))
   set-most = most-listed 4 0 (l .inSet) regionField regionSize region-field-most
 
-  zone-most : Most (zoneFormat l) (setsSize (l .inSet) (l .inSet))
+  pub zone-most : Most (zoneFormat l) (setsSize (l .inSet) (l .inSet))
   zone-most =
       most-as (both short (both (setFormat l) (setFormat l))) zoneTo zoneFrom (setsSize (l .inSet) (l .inSet))
       (most-both short (both (setFormat l) (setFormat l)) 4 (regionsSize (l .inSet) + regionsSize (l .inSet))
       (most-number 4)
       (most-both (setFormat l) (setFormat l) (regionsSize (l .inSet)) (regionsSize (l .inSet)) set-most set-most))
 
+  module _ {A : Type 0} (R : Format A) (m : ℕ) (r : Most R m) where
+    abbrev zonesMost : ℕ
+    zonesMost = shortSize + l .zones * setsSize (l .inSet) (l .inSet)
+
+    pub most-sections : Most (sectionsWith l R) (marksSize l + (m + (zonesMost + requestsSize (l .requests))))
+    most-sections =
+        most-both (marksSection l) (both R (both (zonesSection l) (requestsSection l))) (marksSize l)
+        (m + (zonesMost + requestsSize (l .requests))) marks-most
+        (most-both R (both (zonesSection l) (requestsSection l)) m (zonesMost + requestsSize (l .requests)) r
+        (most-both (zonesSection l) (requestsSection l) zonesMost (requestsSize (l .requests))
+        (most-listed 4 0 (l .zones) (zoneFormat l) (setsSize (l .inSet) (l .inSet)) zone-most)
+        (most-listed 4 0 (l .requests) askedField requestSize asked-most)))
+
   pub plan-most : Most (planFormat l) (longestSize l)
   plan-most =
-      let zones : ℕ = shortSize + l .zones * setsSize (l .inSet) (l .inSet) in
-      most-as (both (marksSection l) (both (regionsSection l) (both (zonesSection l) (requestsSection l)))) planTo planFrom
-      (longestSize l)
-      (most-both (marksSection l) (both (regionsSection l) (both (zonesSection l) (requestsSection l))) (marksSize l)
-      (regionsSize (l .regions) + (zones + requestsSize (l .requests))) marks-most
-      (most-both (regionsSection l) (both (zonesSection l) (requestsSection l)) (regionsSize (l .regions))
-      (zones + requestsSize (l .requests)) (most-listed 4 1 (l .regions) regionField regionSize region-field-most)
-      (most-both (zonesSection l) (requestsSection l) zones (requestsSize (l .requests))
-      (most-listed 4 0 (l .zones) (zoneFormat l) (setsSize (l .inSet) (l .inSet)) zone-most)
-      (most-listed 4 0 (l .requests) askedField requestSize asked-most))))
+      most-as (sectionsWith l (regionsSection l)) planTo planFrom (longestSize l)
+      (most-sections (regionsSection l) (regionsSize (l .regions))
+      (most-listed 4 1 (l .regions) regionField regionSize region-field-most))
 
   -- more than the longest plan is refused, and by the first of those bytes: what lies behind them changes nothing
   pub plan-past : (u v : List ℕ) → longestSize l < length u

@@ -2,11 +2,10 @@
 -- back, and a sound list of zones is stored as a sound table.
 use Prim.Native.Nat.{ℕ, zero, suc, _-_, _≤_, _<_}
 use native.Mathlib.Omega.{arith}
-use mathlib.Core.Bool.{Bool, true, false, cond, not, Bool·not-not}
+use mathlib.Core.Bool.{Bool, true, false, not, Bool·not-not}
 use mathlib.Core.List.{List, [], _∷_, _++_, map}
 use mathlib.Core.Path.{_≡_, refl, sym, ap, ap₂, _∙_}
 use borrow.Author.Tests.{leb-true, not-false}
-use lib.Dec.{eqb}
 use lib.ListN.{length, getD, take, drop, replicate, length-map, length-take, length-drop, take-append-drop}
 use lib.ListN.{List·getD-map}
 use Rattle.lists.specs.First.{any, all}
@@ -33,6 +32,7 @@ use Rattle.rules.specs.declared.Region.{Region}
 use Rattle.rules.specs.declared.Request.{Request}
 use Rattle.rules.proofs.Configuration.{sound-is, sound-answer, few-counted, rest-unused}
 use Rattle.rules.proofs.Regions.{equal-same}
+use Rattle.rules.proofs.Run.{run-by-keeps}
 use Rattle.rules.proofs.Keeps.{sound-parts, parts-sound, next-keeps, SoundTable}
 
 -- ---- what was stored is read back
@@ -164,7 +164,7 @@ module _ (lim : Limits) where
     table-back =
         stored-zones t (ok .few) ∙ map-back (soundZone lim c) (storeZone lim) zoneOf (zone-back c) t (ok .zones)
 
-    store-tidy : tidy (store lim t) ≡ true
+    pub store-tidy : tidy (store lim t) ≡ true
     unfolding tidy
     store-tidy =
         whole _ (
@@ -224,13 +224,4 @@ module _ (lim : Limits) where
   pub run-from-keeps : (c : Configuration) (i : ℕ) (t : List Zone) (qs : List Request) → SoundTable lim c t
       → SoundTable lim c (runFrom lim c i t qs .table)
   unfolding runFrom
-  run-from-keeps c i t [] ok = ok
-  run-from-keeps c i t (q ∷ qs) ok =
-      by (run-from-keeps c (suc i) (next lim c t q) qs (next-keeps lim c t q ok)) (eqb (refusal lim c t q) 0)
-    where
-      by : SoundTable lim c (runFrom lim c (suc i) (next lim c t q) qs .table) → (b : Bool)
-          → SoundTable lim c
-          (cond b (runFrom lim c (suc i) (next lim c t q) qs)
-          (record { place = i; inner = refusal lim c t q; table = t }) .table)
-      by f true = f
-      by f false = ok
+  run-from-keeps c i t qs ok = run-by-keeps (refusal lim c) (next lim c) (SoundTable lim c) (next-keeps lim c) i t qs ok

@@ -11,19 +11,23 @@ use Rattle.lists.specs.Tests.{allOf}
 use Rattle.formats.specs.Formats.{Out, got, bad}
 use Rattle.rules.specs.Configuration.{configOf, Configuration, StoredConfig}
 use Rattle.rules.specs.Limits.{Limits}
-use Rattle.rules.specs.Plan.{requestsOf, readPlan, Plan}
+use Rattle.rules.specs.Plan.{readPlan, encode, Asked, Plan}
 use Rattle.rules.specs.Regions.{regionEq, noRegion}
-use Rattle.rules.specs.Requests.{standing}
+use Rattle.rules.specs.Requests.{refusal, next, standing}
 use Rattle.rules.specs.Run.{run, ended, Run}
+use Rattle.rules.specs.Steps.{ranBy, StepRule}
 use Rattle.rules.specs.Tables.{tableOf, unusedZone, Zone, StoredSet, StoredZone, StoredTable}
 use Rattle.rules.specs.declared.Outcome.{Outcome}
 use Rattle.rules.specs.declared.Region.{Region}
 
--- the terminal's state
-pub record Terminal : Type 0 where
-  pub config : StoredConfig
+-- the terminal's state, whatever its configuration is
+pub record TerminalOf (C : Type 0) : Type 0 where
+  pub config : C
   pub table : StoredTable
   pub edition : ℕ
+
+abbrev pub Terminal : Type 0
+Terminal = TerminalOf StoredConfig
 
 -- the highest edition
 abbrev pub lastEdition : ℕ
@@ -59,59 +63,130 @@ sameConfig c p = allOf (sameList regionEq (c .regions) (p .regions) ∷ eqb (c .
 abbrev pub plain : ℕ → ℕ → Outcome
 plain number place = record { number = number; place = place; inner = 0 }
 
--- 23 to 26 of a plan that reads whole
-unfoldable pub judgedRules : Terminal → Plan → List (Rule Outcome)
-judgedRules s p =
-    plain 23 0 when not (sameConfig (configOf (s .config)) p)
-    ∷ plain 24 0 when not (eqb (s .edition) (p .marks .edition))
+-- 23 to 26 of a plan that reads whole: whether it gives the terminal's configuration, its edition and its zones
+unfoldable pub baseRules : {C : Type 0} → TerminalOf C → Bool → ℕ → List Zone → List (Rule Outcome)
+baseRules s same edition zones =
+    plain 23 0 when not same
+    ∷ plain 24 0 when not (eqb (s .edition) edition)
     ∷ plain 25 0 when eqb (s .edition) lastEdition
-    ∷ plain 26 0 when not (sameList sameZone (tableOf (s .table)) (p .zones))
+    ∷ plain 26 0 when not (sameList sameZone (tableOf (s .table)) zones)
     ∷ []
+
+unfoldable pub judgedRules : Terminal → Plan → List (Rule Outcome)
+unfolding baseRules
+judgedRules s p = baseRules s (sameConfig (configOf (s .config)) p) (p .marks .edition) (p .zones)
 
 -- then 27 or 0, as the run of its requests at the terminal's table ended
 unfoldable pub judged : Terminal → Plan → Run → Outcome
 judged s p r = firstRule (judgedRules s p) (ended r)
 
 -- what a terminal answers, and its state afterwards: a refusal leaves it as it was
-pub record Applied : Type 0 where
+pub record AppliedOf (C : Type 0) : Type 0 where
   pub outcome : Outcome
-  pub state : Terminal
+  pub state : TerminalOf C
 
-unfoldable pub moved : Limits → Terminal → Run → Terminal
+abbrev pub Applied : Type 0
+Applied = AppliedOf StoredConfig
+
+unfoldable pub moved : {C : Type 0} → Limits → TerminalOf C → Run → TerminalOf C
 moved l s r = record { config = s .config; table = store l (r .table); edition = s .edition + 1 }
 
-unfoldable pub settled : Limits → Terminal → Outcome → Run → Applied
+unfoldable pub settled : {C : Type 0} → Limits → TerminalOf C → Outcome → Run → AppliedOf C
 settled l s o r = cond (eqb (o .number) 0) (record { outcome = o; state = moved l s r }) (record { outcome = o; state = s })
 
-unfoldable pub applyRead : Limits → Terminal → List ℕ → Out Plan → Applied
-applyRead l s b (bad k left) = record { outcome = plain k (length b - length left); state = s }
-applyRead l s b (got p left) = let r : Run = run l (configOf (s .config)) (tableOf (s .table)) (requestsOf p) in settled l s (judged s p r) r
+-- ---- applying a plan, by a step rule
+module _ (m : StepRule) where
+  abbrev pub Kept : Type 0
+  Kept = TerminalOf (m .Config)
 
--- 1 and 2 speak of the terminal's own state, before any byte is read
-unfoldable pub apply : Limits → Terminal → List ℕ → Applied
-apply l s b =
-    cond (eqb (standing l (s .config) (s .table)) 0) (applyRead l s b (readPlan l b))
-    (record { outcome = plain (standing l (s .config) (s .table)) 0; state = s })
+  abbrev pub judgedBy : Kept → m .Said → Run → Outcome
+  judgedBy s p r = firstRule (baseRules s (m .same (s .config) p) (m .edition p) (m .zones p)) (ended r)
 
--- ---- the plan's own base: a state with its configuration, edition and zones
+  unfoldable pub applyReadBy : Kept → List ℕ → Out (m .Said) → AppliedOf (m .Config)
+  applyReadBy s b (bad k left) = record { outcome = plain k (length b - length left); state = s }
+  applyReadBy s b (got p left) =
+      let r : Run = ranBy m (s .config) (tableOf (s .table)) (m .asked p) in
+      settled (m .limits) s (judgedBy s p r) r
+
+  -- 1 and 2 speak of the terminal's own state, before any byte is read
+  unfoldable pub applyBy : Kept → List ℕ → AppliedOf (m .Config)
+  applyBy s b =
+      cond (eqb (m .standing (s .config) (s .table)) 0) (applyReadBy s b (m .read b))
+      (record { outcome = plain (m .standing (s .config) (s .table)) 0; state = s })
+
+  -- the plan's own base: a state with its configuration, edition and zones
+  abbrev pub baseBy : m .Said → Kept
+  baseBy p = record { config = m .given p; table = store (m .limits) (m .zones p); edition = m .edition p }
+
+  -- what is answered where there is no terminal: 20, 21 or 22; then the plan applied to its own base
+  unfoldable pub answerReadBy : List ℕ → Out (m .Said) → Outcome
+  answerReadBy b (bad k left) = plain k (length b - length left)
+  answerReadBy b (got p left) = applyBy (baseBy p) b .outcome
+
+  unfoldable pub answerAloneBy : List ℕ → Outcome
+  answerAloneBy b = answerReadBy b (m .read b)
+
+  -- a plan for the terminal's base: it gives that state's configuration, edition and zones, order included, whatever
+  -- its requests
+  pub record ForBaseBy (s : Kept) (p : m .Said) : Type 0 where
+    pub config : m .Gives (s .config) p
+    pub edition : s .edition ≡ m .edition p
+    pub zones : tableOf (s .table) ≡ m .zones p
+
+-- ---- document 01's terminals
+-- the plan that gives a configuration, an edition and zones and asks for requests; and that it gives the configuration
+abbrev pub planAt : Configuration → ℕ → List Zone → List Asked → Plan
+planAt c e t q = record { marks = record { gic = c .gic; edition = e }; regions = c .regions; zones = t; asked = q }
+
+pub record GivesConfig (c : Configuration) (p : Plan) : Type 0 where
+  pub regions : c .regions ≡ p .regions
+  pub gic : c .gic ≡ p .marks .gic
+
+-- the configuration of a plan
+abbrev pub planConfig : Plan → Configuration
+planConfig p = record { regions = p .regions; gic = p .marks .gic }
+
 abbrev pub storeConfig : Limits → Configuration → StoredConfig
 storeConfig l c = record { count = length (c .regions); gic = c .gic; records = room (l .regions) noRegion (c .regions) }
 
-abbrev pub baseOf : Limits → Plan → Terminal
-baseOf l p = record { config = storeConfig l (record { regions = p .regions; gic = p .marks .gic }); table = store l (p .zones); edition = p .marks .edition }
+-- their step rule
+abbrev pub plainSteps : Limits → StepRule
+plainSteps l = record {
+  limits = l;
+  Config = StoredConfig;
+  Whole = λ c. length (c .records) ≡ l .regions;
+  standing = λ c t. standing l c t;
+  refusal = λ c t q. refusal l (configOf c) t q;
+  next = λ c t q. next l (configOf c) t q;
+  run = λ c t qs. run l (configOf c) t qs;
+  Said = Plan;
+  read = λ b. readPlan l b;
+  write = λ p. encode l p;
+  edition = λ p. p .marks .edition;
+  zones = λ p. p .zones;
+  asked = λ p. p .asked;
+  Gives = λ c p. GivesConfig (configOf c) p;
+  same = λ c p. sameConfig (configOf c) p;
+  given = λ p. storeConfig l (planConfig p);
+  planAt = λ c e t q. planAt (configOf c) e t q;
+}
 
--- what is answered where there is no terminal: 20, 21 or 22; then the plan applied to its own base
+-- applying a plan to one (to unfold a name is to unfold what it is made of)
+unfoldable pub applyRead : Limits → Terminal → List ℕ → Out Plan → Applied
+unfolding applyReadBy judged judgedRules
+applyRead l s b o = applyReadBy (plainSteps l) s b o
+
+unfoldable pub apply : Limits → Terminal → List ℕ → Applied
+unfolding applyBy applyRead
+apply l s b = applyBy (plainSteps l) s b
+
+abbrev pub baseOf : Limits → Plan → Terminal
+baseOf l p = baseBy (plainSteps l) p
+
 unfoldable pub answerRead : Limits → List ℕ → Out Plan → Outcome
-answerRead l b (bad k left) = plain k (length b - length left)
-answerRead l b (got p left) = apply l (baseOf l p) b .outcome
+unfolding answerReadBy apply
+answerRead l b o = answerReadBy (plainSteps l) b o
 
 unfoldable pub answerAlone : Limits → List ℕ → Outcome
-answerAlone l b = answerRead l b (readPlan l b)
-
--- ---- a plan for the terminal's base: it gives that state's configuration, GIC position, edition and zones, order
--- included, whatever its requests
-pub record ForBase (s : Terminal) (p : Plan) : Type 0 where
-  pub regions : configOf (s .config) .regions ≡ p .regions
-  pub gic : configOf (s .config) .gic ≡ p .marks .gic
-  pub edition : s .edition ≡ p .marks .edition
-  pub zones : tableOf (s .table) ≡ p .zones
+unfolding answerAloneBy answerRead
+answerAlone l b = answerAloneBy (plainSteps l) b

@@ -2,16 +2,16 @@
 -- order of its clauses, and a table read as its state.
 use Prim.Native.Nat.{ℕ}
 use mathlib.Core.Bool.{Bool, true, false, cond, not, _&&_, _||_}
-use mathlib.Core.List.{List, [], _∷_}
+use mathlib.Core.List.{List}
 use mathlib.Core.Logic.{_⊎_}
-use mathlib.Core.Option.{Option, none, some}
+use mathlib.Core.Option.{Option, none, some, Option·map}
 use mathlib.Core.Path.{_≡_}
 use lib.Dec.{eqb}
 use Rattle.rules.specs.Limits.{Limits, pageOf}
 use Rattle.rules.specs.Configuration.{gicOf, Configuration}
 use Rattle.rules.specs.Regions.{wellFormed, inReach, regionEq, physOverlap, guestOverlap}
 use Rattle.rules.specs.Requests.{heldIn}
-use Rattle.rules.specs.Tables.{configured, Zone}
+use Rattle.rules.specs.Tables.{zoneIn, configured, Zone}
 use Rattle.rules.specs.Translation.{coversGuest}
 use Rattle.rules.specs.declared.Kind.{Kind}
 use Rattle.rules.specs.declared.Kind.the-variants.{AddZone, RemoveZone, Insert, Remove, NoRequest}
@@ -158,8 +158,8 @@ abbrev pub ghostOf : Zone → GhostZone
 ghostOf z = record { cpu-mem-set = λ r. heldIn r (z .cpu); iommu-mem-set = λ r. heldIn r (z .iommu) }
 
 unfoldable pub stateOf : List Zone → State
-stateOf [] id = none
-stateOf (z ∷ t) id = cond (eqb (z .id) id) (some (ghostOf z)) (stateOf t id)
+unfolding zoneIn
+stateOf t id = Option·map ghostOf (zoneIn t id)
 
 abbrev pub Transition : Limits → Configuration → Kind → ℕ → State → State → Type 0
 Transition l c AddZone zid pre post = add-zone zid pre post

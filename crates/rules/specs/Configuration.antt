@@ -44,14 +44,24 @@ positionRules l records i =
     ∷ Overlap i (firstIndex (physOverlap r) earlier) when any (physOverlap r) earlier
     ∷ []
 
--- C1 count 0 or above the limit; C2 GIC position not below the count; C3 a
--- record past the count not all zero; then the positions upward
+-- C1 count 0 or above the limit; C2 GIC position not below the count
+abbrev pub wrongCount : Limits → StoredConfig → Bool
+wrongCount l s = eqb (s .count) 0 || ltb (l .regions) (s .count)
+
+abbrev pub wrongGic : StoredConfig → Bool
+wrongGic s = leb (s .count) (s .gic)
+
+-- the positions upward
+abbrev pub faultRules : Limits → StoredConfig → List (Rule Checked)
+faultRules l s = flatMap (positionRules l (s .records)) (places 0 (s .count))
+
+-- C1, C2; C3 a record past the count not all zero; then the positions
 unfoldable pub checkRules : Limits → StoredConfig → List (Rule Checked)
 checkRules l s =
-    BadCount when (eqb (s .count) 0 || ltb (l .regions) (s .count))
-    ∷ BadGic when leb (s .count) (s .gic)
+    BadCount when wrongCount l s
+    ∷ BadGic when wrongGic s
     ∷ NotZero (firstFrom used (s .records) (s .count)) when any used (drop (s .count) (s .records))
-    ∷ flatMap (positionRules l (s .records)) (places 0 (s .count))
+    ∷ faultRules l s
 
 -- the first that applies
 unfoldable pub check : Limits → StoredConfig → Checked

@@ -12,9 +12,12 @@ use Rattle.rules.specs.Requests.{standing}
 use Rattle.rules.specs.Tables.{StoredTable}
 use Rattle.rules.specs.declared.Outcome.{Outcome}
 
--- 1 or 2 of the state that is lent, before all else
+-- 1 or 2 of the state that is lent, before all else: the number that tells them, or 0
+abbrev pub standingRule : ℕ → Rule Outcome
+standingRule n = plain n 0 when not (eqb n 0)
+
 abbrev pub ownRule : Limits → StoredConfig → StoredTable → Rule Outcome
-ownRule l c t = plain (standing l c t) 0 when not (eqb (standing l c t) 0)
+ownRule l c t = standingRule (standing l c t)
 
 pub record Filled : Type 0 where
   pub outcome : Outcome

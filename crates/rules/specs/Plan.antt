@@ -98,7 +98,10 @@ zonesSection l = listed 4 0 (l .zones) (zoneFormat l)
 abbrev pub requestsSection : Limits → Format (List Asked)
 requestsSection l = listed 4 0 (l .requests) askedField
 
--- ---- the whole
+-- ---- the whole: in the regions' place may stand more than regions
+abbrev pub sectionsWith : {A : Type 0} → Limits → Format A → Format (Marks × (A × (List Zone × List Asked)))
+sectionsWith l R = both (marksSection l) (both R (both (zonesSection l) (requestsSection l)))
+
 abbrev pub planTo : Marks × (List Region × (List Zone × List Asked)) → Plan
 planTo t = record { marks = t .0; regions = t .1 .0; zones = t .1 .1 .0; asked = t .1 .1 .1 }
 
@@ -106,8 +109,7 @@ abbrev pub planFrom : Plan → Marks × (List Region × (List Zone × List Asked
 planFrom p = (p .marks, (p .regions, (p .zones, p .asked)))
 
 abbrev pub planFormat : Limits → Format Plan
-planFormat l =
-    as-type (both (marksSection l) (both (regionsSection l) (both (zonesSection l) (requestsSection l)))) planTo planFrom
+planFormat l = as-type (sectionsWith l (regionsSection l)) planTo planFrom
 
 -- the reader and the encoder
 unfoldable pub readPlan : Limits → List ℕ → Out Plan

@@ -121,9 +121,13 @@ after (Insert s r) id t = pushed (find id t) s r t
 after (Remove s r) id t = cut (find id t) s (firstIndex (regionEq r) (setAt t (find id t) s)) t
 after NoRequest id t = t
 
--- the next table: a refusal returns the table that it was given
+-- the next table, by the number that a request gets: a refusal returns the table that it was given
+unfoldable pub nextBy : ℕ → List Zone → Request → List Zone
+nextBy number t q = cond (eqb number 0) (after (q .kind) (q .zone) t) t
+
 unfoldable pub next : Limits → Configuration → List Zone → Request → List Zone
-next l c t q = cond (eqb (refusal l c t q) 0) (after (q .kind) (q .zone) t) t
+unfolding nextBy
+next l c t q = nextBy (refusal l c t q) t q
 
 -- the numbers of requests one after another
 unfoldable pub answers : Limits → Configuration → List Zone → List Request → List ℕ

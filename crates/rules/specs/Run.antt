@@ -67,9 +67,16 @@ pub record Run : Type 0 where
   pub inner : ℕ
   pub table : List Zone
 
+-- by what a request is answered at a table, and the table after it
+module _ (number : List Zone → Request → ℕ) (after : List Zone → Request → List Zone) where
+  unfoldable pub runBy : ℕ → List Zone → List Request → Run
+  runBy i t [] = record { place = i; inner = 0; table = t }
+  runBy i t (q ∷ qs) =
+      cond (eqb (number t q) 0) (runBy (suc i) (after t q) qs) (record { place = i; inner = number t q; table = t })
+
 unfoldable pub runFrom : Limits → Configuration → ℕ → List Zone → List Request → Run
-runFrom l c i t [] = record { place = i; inner = 0; table = t }
-runFrom l c i t (q ∷ qs) = cond (eqb (refusal l c t q) 0) (runFrom l c (suc i) (next l c t q) qs) (record { place = i; inner = refusal l c t q; table = t })
+unfolding runBy
+runFrom l c i t qs = runBy (refusal l c) (next l c) i t qs
 
 abbrev pub run : Limits → Configuration → List Zone → List Request → Run
 run l c t qs = runFrom l c 0 t qs
@@ -78,7 +85,8 @@ run l c t qs = runFrom l c 0 t qs
 unfoldable pub ended : Run → Outcome
 ended r = record { number = cond (eqb (r .inner) 0) 0 27; place = r .place; inner = r .inner }
 
+abbrev pub endedAfter : ℕ → Run → Outcome
+endedAfter n r = cond (eqb n 0) (ended r) (record { number = n; place = 0; inner = 0 })
+
 unfoldable pub runAnswer : Limits → StoredConfig → StoredTable → List Request → Outcome
-runAnswer l c t qs =
-    cond (eqb (standing l c t) 0) (ended (run l (configOf c) (tableOf t) qs))
-    (record { number = standing l c t; place = 0; inner = 0 })
+runAnswer l c t qs = endedAfter (standing l c t) (run l (configOf c) (tableOf t) qs)

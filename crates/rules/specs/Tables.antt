@@ -1,7 +1,8 @@
 -- Zones and the table of them; and when a table is sound.
 use Prim.Native.Nat.{ℕ}
-use mathlib.Core.Bool.{Bool, not, _&&_}
+use mathlib.Core.Bool.{Bool, cond, not, _&&_}
 use mathlib.Core.List.{List, [], _∷_, _++_, map}
+use mathlib.Core.Option.{Option, none, some}
 use lib.Dec.{leb, eqb}
 use lib.ListN.{length, drop, take, replicate}
 use Rattle.lists.specs.First.{any, all}
@@ -37,6 +38,11 @@ sideOf Iommu z = z .iommu
 -- the zone has that id
 abbrev pub hasId : ℕ → Zone → Bool
 hasId n z = eqb (z .id) n
+
+-- the zone of a table with that id, or none
+unfoldable pub zoneIn : List Zone → ℕ → Option Zone
+zoneIn [] id = none
+zoneIn (z ∷ t) id = cond (hasId id z) (some z) (zoneIn t id)
 
 -- what a zone holds on either side
 abbrev pub regionsOf : Zone → List Region

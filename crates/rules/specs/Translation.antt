@@ -54,8 +54,10 @@ translatedAs n a r = record {
 unfoldable pub translation : List Zone → ℕ → Side → ℕ → Translated
 translation t id s a = translatedAs (firstRule (translationRules t id s a) 0) a (coveringIn a (setAt t (find id t) s))
 
--- from outside: 1 and 2 come first
+-- from outside: 1 and 2, which these rules tell, come first
+abbrev pub translatedAfter : List (Rule ℕ) → List Zone → ℕ → Side → ℕ → Translated
+translatedAfter rules t id s a =
+    translatedAs (firstRule (rules ++ translationRules t id s a) 0) a (coveringIn a (setAt t (find id t) s))
+
 unfoldable pub translated : Limits → StoredConfig → StoredTable → ℕ → Side → Guest → Translated
-translated l c t id s a =
-    translatedAs (firstRule (standingRules l c t ++ translationRules (tableOf t) id s (a .0)) 0) (a .0)
-    (coveringIn (a .0) (setAt (tableOf t) (find id (tableOf t)) s))
+translated l c t id s a = translatedAfter (standingRules l c t) (tableOf t) id s (a .0)

@@ -68,6 +68,12 @@ pub struct Translated {
     pub remaining: u64,
 }
 
+// The same of a configuration with owners: what the plain check finds, or a wrong owner and its place.
+pub enum OwnedChecked {
+    Plain(Checked),
+    WrongOwner(usize),
+}
+
 // What takes a plan in pieces: how many bytes are stored, and 0 unless more came than the longest plan has.
 pub struct Receiver {
     pub stored: usize,

@@ -21,7 +21,7 @@ use Rattle.rules.specs.Planner.{ranAt}
 use Rattle.rules.specs.Requests.{standing}
 use Rattle.rules.specs.Run.{requestSize, requestsIn, run, ended, Run}
 use Rattle.rules.specs.Tables.{tableOf}
-use Rattle.rules.specs.Writer.{writerRules, write, askedOf}
+use Rattle.rules.specs.Writer.{writerRulesBy, writeBy, writerRules, askedOf}
 use Rattle.rules.specs.declared.Outcome.{Outcome}
 use Rattle.rules.proofs.Filling.{leaves-all, leaves-filled}
 use Rattle.zones.specs.Kept.{Stands}
@@ -170,7 +170,7 @@ module _ (c t : List ℕ) (e : ℕ) (r w : List ℕ) where
 
   -- a refusal is an answer that leaves the buffer
   as-refused : (o : Outcome) (u : List ℕ) → o ≡ Answer → (o .number ≡ 0 → ⊥) → u ≡ t → WritesIn c t e r w o u w
-  unfolding write Answer b
+  unfolding writeBy Answer b
   as-refused o u f ne eu = record {
     answer = f;
     buffer = sym (leaves-all _ b w (λ z. ne (ap (λ (x : Outcome). x .number) f ∙ z)));
@@ -179,7 +179,7 @@ module _ (c t : List ℕ) (e : ℕ) (r w : List ℕ) where
 
   -- no next edition
   pub writes-none : (o : Outcome) → o ≡ noNext c t → e ≡ lastEdition → WritesIn c t e r w o t w
-  unfolding noNext Answer fillAnswer writerRules firstRule st
+  unfolding noNext Answer fillAnswer writerRulesBy firstRule st
   writes-none o f last =
       let same : noNext c t ≡ Answer =
       by (eqb st 0)
@@ -217,7 +217,7 @@ module _ (c t : List ℕ) (e : ℕ) (r w : List ℕ) where
       ≡ cond (not (eqb st 0)) (plain st 0)
       (cond (ltb mostRequests (length (askedOf r))) (plain 29 0)
       (cond (not (eqb (R .inner) 0)) (ended R) behind))
-  unfolding Answer fillAnswer writerRules firstRule st R behind b
+  unfolding Answer fillAnswer writerRulesBy firstRule st R behind b
   answer-as ne = rw (ne-eqb e lastEdition ne)
 
   module _ (o : Outcome) (f : o ≡ trialAnswer limits (storedConfig c) (storedTable t) (requestsIn r))
@@ -254,7 +254,7 @@ module _ (c t : List ℕ) (e : ℕ) (r w : List ℕ) where
           ∙ rw (zeros .0, zeros .1 .0, not-holds _ (ended-zero R (zeros .1 .1)))
 
       pub writes-filled : (p : Outcome) (v : List ℕ) → FilledIn (planIn c u e r) w p v → WritesIn c t e r w p u v
-      unfolding write Answer behind b
+      unfolding writeBy Answer behind b
       writes-filled p v g =
           let h : FilledIn (planIn c t e r) w p v = subst (λ (x : List ℕ). FilledIn (planIn c x e r) w p v) eu g in record {
             answer = h .answer ∙ sym answer-behind;

@@ -52,7 +52,8 @@ enum {
     PEATMITTEN_MOST_IN_SET = 16,    /* regions of one set of a zone */
     PEATMITTEN_MOST_REQUESTS = 512, /* requests of a plan */
     PEATMITTEN_HIGHEST_ID = 255,    /* the highest zone id */
-    PEATMITTEN_LONGEST_PLAN = 61852 /* bytes; a longer file is no plan */
+    PEATMITTEN_LONGEST_PLAN = 61852, /* bytes; a longer file is no plan */
+    PEATMITTEN_LONGEST_LISTING = 81920 /* bytes; no listing is longer */
 };
 
 /* Bytes of stack that are enough for every function. */
@@ -158,7 +159,8 @@ enum peatmitten_layout_number {
     PEATMITTEN_LAYOUT_IN_SET = 2,
     PEATMITTEN_LAYOUT_REQUESTS = 3,
     PEATMITTEN_LAYOUT_REGION_WORDS = 4,
-    PEATMITTEN_LAYOUT_LONGEST_PLAN = 5
+    PEATMITTEN_LAYOUT_LONGEST_PLAN = 5,
+    PEATMITTEN_LAYOUT_LONGEST_LISTING = 6
 };
 
 static uint64_t (*const peatmitten_layout_needed)(uint32_t) __attribute__((used)) = peatmitten_layout;
@@ -468,6 +470,20 @@ static inline uint32_t peatmitten_wanted(const peatmitten_state *state, const ui
     *count = (size_t)listed[0];
     return number;
 }
+
+/*
+ * Writes the map listing of a table into a buffer: a line for each region, zones in table order, CPU then IOMMU, as text. Answers a
+ * peatmitten_answer: 0, 1, 2 or 28. length[0] is on 0 how many bytes the listing has, else 0.
+ * On 0 so many bytes from the buffer's start are the listing, and those behind them are what they were; no 0 byte ends it. Else no byte of
+ * the buffer is changed. A buffer of PEATMITTEN_LONGEST_LISTING bytes is never too short.
+ * A line is the zone's id, CPU or IOMMU, guest start, physical start, size, rights, and how many pages of 4,096 bytes the physical start lies
+ * above the guest start: with one space between, and a line feed last. The three in the middle are 0x and 16 lower-case digits, the others
+ * decimal, with a minus below 0. A zone without regions has no line. For example:
+ *     5 CPU 0x0000000040000000 0x0000000080000000 0x0000000000200000 3 262144
+ * `buffer` is not null even where its length is 0.
+ */
+uint32_t peatmitten_list(const uint64_t config[PEATMITTEN_CONFIG_WORDS], const uint64_t table[PEATMITTEN_TABLE_WORDS], uint8_t *buffer,
+                         size_t buffer_length, uint64_t length[1]);
 
 #ifdef __cplusplus
 }

@@ -44,7 +44,7 @@ known_lines() {
         "  store $handed, ptr $local_name, align [0-9]+" \
         "${to}getelementptr ((inbounds|nuw|nusw) )*i8, ptr $local_name, i64 $value"
     printf '%s\n' "$to(add|sub|mul|udiv|urem|and|or|xor|shl|lshr) $flags$number $value, $value" \
-        "${to}icmp $flags(eq|ne|ult|ule|ugt|uge) $one $value, $value" \
+        "${to}icmp $flags(eq|ne|ult|ule|ugt|uge|slt) $one $value, $value" \
         "$to(zext|trunc) $flags$number $value to $number"
     printf '%s\n' "($to|  )call (void|$one) $function\(($handed(, $handed)*)?\)" \
         "  call void @llvm\.memmove\.p0\.p0\.i64\(ptr $local_name, ptr $local_name, i64 $value, i1 false\)" \

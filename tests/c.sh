@@ -13,7 +13,7 @@ build() {
     local folder=$1 example
     shift
     mkdir "$folder"
-    for example in apply_plan copy_stretch receive_plan differ_plan; do
+    for example in apply_plan copy_stretch receive_plan differ_plan list_zones; do
         "$CC" -std=c11 -Wall -Wextra -Wpedantic -Werror -O1 -g -I"$root/include" "$@" \
             "$root/examples/c/$example.c" "$ARCHIVE" -o "$folder/$example" || say_failed "$example does not build"
     done
@@ -82,6 +82,9 @@ run_cases() {
     expect 1 'the terminal has no zones to compare: 1' "$program" "$work/no_state" "$plans/first.plan"
     expect_error "differ_plan: $plans/first.plan is no state file: a state has $(stat -c %s "$state") bytes" "$program" "$plans/first.plan" "$plans/first.plan"
     expect_error 'usage: differ_plan STATE PLAN' "$program" "$state"
+
+    expect 0 $'5 CPU 0x0000000040000000 0x0000000080000000 0x0000000000200000 3 262144
+5 IOMMU 0x0000000008000000 0x0000000008000000 0x0000000000010000 3 0' "$1/list_zones"
 }
 
 # The header's limits are the library's, and its layout function's name says them.
@@ -112,7 +115,8 @@ int main(void)
            differs("regions of a set", PEATMITTEN_MOST_IN_SET, PEATMITTEN_LAYOUT_IN_SET) |
            differs("requests", PEATMITTEN_MOST_REQUESTS, PEATMITTEN_LAYOUT_REQUESTS) |
            differs("words of a region", PEATMITTEN_REGION_WORDS, PEATMITTEN_LAYOUT_REGION_WORDS) |
-           differs("longest plan", PEATMITTEN_LONGEST_PLAN, PEATMITTEN_LAYOUT_LONGEST_PLAN) | (peatmitten_layout(6) != 0);
+           differs("longest plan", PEATMITTEN_LONGEST_PLAN, PEATMITTEN_LAYOUT_LONGEST_PLAN) |
+           differs("longest listing", PEATMITTEN_LONGEST_LISTING, PEATMITTEN_LAYOUT_LONGEST_LISTING) | (peatmitten_layout(7) != 0);
 }
 TEXT
     "$CC" -std=c11 -Wall -Wextra -Wpedantic -Werror -I"$root/include" "$work/layout.c" "$ARCHIVE" -o "$work/layout" ||

@@ -1,6 +1,6 @@
 #!/usr/bin/env bash
 # What ./peatmitten prints and says, and with which status: its commands for the shell, by a symbolic link too, with two commands that
-# build at once, and where the answer cannot be written. It proves and builds `apply` if that was not done.
+# build at once, and where the answer cannot be written. It proves and builds `apply` and `list` if that was not done.
 set -euo pipefail
 test_name=launcher
 . "$(dirname "$0")/host.sh"
@@ -27,6 +27,20 @@ check_apply() {
     expect 2 '' "apply: cannot open $work/none: No such file or directory" apply "$work/none"
     expect 2 '' 'peatmitten: apply takes one file: *' apply
     [ "$("$launcher" apply - </dev/null)" = '20 0 0' ] || say_failed "no bytes on standard input"
+}
+
+# Of an accepted plan the map and nothing else, which may be empty; of a refused one what apply prints.
+check_list() {
+    expect 0 "$(cat "$root/crates/list/stdout")" '' list "$plans/map.plan"
+    grep -qxF '5 CPU 0x0000000040000000 0x0000000080000000 0x0000000000200000 3 262144' "$root/crates/list/stdout" ||
+        say_failed "the document's line is not in the listing of map.plan"
+    expect 0 '' '' list "$plans/first.plan"
+    expect 0 '' '' list -
+    expect 1 '27 2 14' '' list "$plans/refused.plan"
+    expect 1 '20 60 0' '' list "$plans/cut.plan"
+    expect 2 '' "peatmitten: cannot read $plans: Is a directory" list "$plans"
+    expect 2 '' "list: cannot open $work/none: No such file or directory" list "$work/none"
+    expect 2 '' 'peatmitten: list takes one file: *' list
 }
 
 # What docs/RULES.md says of first.plan with a byte changed, or with one more.
@@ -82,7 +96,7 @@ check_rest() {
 # What cannot be written is told, for an answer and for a text.
 check_full_output() {
     local arguments
-    for arguments in "apply $plans/first.plan" 'explain 0' help --version; do
+    for arguments in "apply $plans/first.plan" "list $plans/map.plan" 'explain 0' help --version; do
         # shellcheck disable=SC2086 # the arguments are words
         if "$launcher" $arguments >/dev/full 2>"$work/errors"; then
             say_failed "peatmitten $arguments: status 0 where standard output is full"
@@ -119,7 +133,9 @@ check_two_at_once() {
 }
 
 "$launcher" apply "$plans/first.plan" >/dev/null
+"$launcher" list "$plans/map.plan" >/dev/null
 check_apply
+check_list
 check_explain
 check_rest
 check_changed_plans

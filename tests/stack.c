@@ -21,7 +21,8 @@
 #define PATTERN 0xa5
 #define PATTERN_WORD (UINT64_MAX / 0xff * PATTERN)
 
-enum { CHECK_CONFIG, CHECK_TABLE, REQUEST, TRANSLATE, EDITION, READ, APPLY, TAKE, END, WRITE, LIST, ZONES, BASE, LACKING, LAYOUT, FUNCTIONS };
+enum { CHECK_CONFIG, CHECK_TABLE, REQUEST, TRANSLATE, EDITION, READ, APPLY, TAKE, END, WRITE, LIST, ZONES, BASE, LACKING, LISTING, LAYOUT,
+       FUNCTIONS };
 
 #define NAME_OF(symbol) #symbol
 #define TEXT_OF(symbol) NAME_OF(symbol)
@@ -30,7 +31,7 @@ static const char *const names[FUNCTIONS] = {
     "peatmitten_check_config", "peatmitten_check_table", "peatmitten_request",     "peatmitten_translate_words",
     "peatmitten_edition",      "peatmitten_read",        "peatmitten_apply_words", "peatmitten_take_piece",
     "peatmitten_end_words",    "peatmitten_write_words", "peatmitten_wanted_words", "peatmitten_zones_words",
-    "peatmitten_base_zones",   "peatmitten_lacking",     TEXT_OF(peatmitten_layout)};
+    "peatmitten_base_zones",   "peatmitten_lacking",     "peatmitten_list",        TEXT_OF(peatmitten_layout)};
 
 static uint64_t stack[STACK_WORDS] __attribute__((aligned(64)));
 static ucontext_t here, there;
@@ -135,6 +136,13 @@ static void list_words(void)
     peatmitten_wanted_words(state.config, no_zones, state.table, buffer, sizeof buffer, answers);
 }
 
+static void map_listing(void)
+{
+    static uint8_t text[PEATMITTEN_LONGEST_LISTING];
+
+    peatmitten_list(state.config, state.table, text, sizeof text, answers);
+}
+
 static void layout(void)
 {
     answers[0] = peatmitten_layout(kind);
@@ -196,6 +204,7 @@ static void measure(size_t most[FUNCTIONS], const char *state_path, const char *
     for (kind = 0; kind <= PEATMITTEN_IOMMU_REMOVE; kind++) {
         keep_most(most, REQUEST, request);
         keep_most(most, TRANSLATE, translate);
+        keep_most(most, LISTING, map_listing);
         keep_most(most, LAYOUT, layout);
     }
     state = before;

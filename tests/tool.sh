@@ -1,7 +1,7 @@
 #!/usr/bin/env bash
-# The tool for plans and state files, by ./peatmitten base, run, show, write, plan and differ: what it prints, says and keeps, and with which status. Each
-# stored plan is run at its own base, and shown, and must be answered as it is stored; one that is accepted is written back, byte for byte, from
-# what show prints. A state file is the same from C.
+# The tool for plans and state files, by ./peatmitten base, run, show, write, plan, differ and map: what it prints, says and keeps, and with which
+# status. Each stored plan is run at its own base, and shown, and must be answered as it is stored; one that is accepted is written back, byte for byte,
+# from what show prints, and drawn. A state file is the same from C.
 set -euo pipefail
 test_name=tool
 . "$(dirname "$0")/host.sh"
@@ -229,6 +229,21 @@ check_plan() {
     expect 1 '' "peatmitten: $work/text: 25 0 0: *" plan "$work/text" "$plans/wanted.txt"
 }
 
+# The stored picture is what is drawn, and every line of the listing is in it. Of a refused plan nothing is drawn.
+check_map() {
+    local line
+    "$launcher" map "$plans/map.plan" >"$work/map.svg" || say_failed "map map.plan: status $?"
+    cmp "$work/map.svg" "$root/docs/map.svg" || say_failed "docs/map.svg is not what map draws of map.plan"
+    while read -r line; do
+        grep -qF "<title>$line</title>" "$work/map.svg" || say_failed "the picture of map.plan does not have: $line"
+    done <"$root/crates/list/stdout"
+    expect 0 '<svg *No zone holds a region.*</svg>' '' map "$plans/first.plan"
+    expect 1 '' "peatmitten: $plans/refused.plan has no map: 27 2 14: request 2 is refused: *" map "$plans/refused.plan"
+    expect 1 '' "peatmitten: $plans/unsound.plan has no map: 2 0 0: *" map "$plans/unsound.plan"
+    expect 1 '' "peatmitten: $plans/cut.plan has no map: 20 60 0: *" map "$plans/cut.plan"
+    expect 2 '' "peatmitten: cannot open $work/none: No such file *" map "$work/none"
+}
+
 # Each stored plan at its own base: what it answers, or why it has none; and where it stops reading. One that is accepted is written back from
 # what show prints of it.
 check_stored_plans() {
@@ -248,7 +263,11 @@ check_stored_plans() {
         *) [[ $last =~ end:\ the\ plan\ reads\ whole$ ]] || say_failed "$name is $answer; show ended '$last'" ;;
         esac
         case $number in
-        0) "${TOOL[@]}" show "$plan" | "${TOOL[@]}" write - | cmp - "$plan" || say_failed "$name is not written back from what show prints" ;;
+        0)
+            "${TOOL[@]}" show "$plan" | "${TOOL[@]}" write - | cmp - "$plan" || say_failed "$name is not written back from what show prints"
+            "${TOOL[@]}" map "$plan" >"$work/map.svg" || say_failed "$name is accepted, and not drawn"
+            [ "$(tail -n 1 "$work/map.svg")" = '</svg>' ] || say_failed "the picture of $name does not end"
+            ;;
         25 | 27)
             if "${TOOL[@]}" show "$plan" | "${TOOL[@]}" write - >"$work/written" 2>"$work/errors"; then
                 say_failed "$name is $answer, and is written all the same"
@@ -290,6 +309,7 @@ check_faults
 check_show
 check_write
 check_plan
+check_map
 check_stored_plans
 check_same_from_c
 check_isolation

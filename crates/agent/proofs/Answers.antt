@@ -40,14 +40,15 @@ use Rattle.agent.specs.Agent.{readingPlace, editionNumber, editionValue,
 
 -- what stands past the last number of the layout
 pub past-layout : (n : ℕ) → (n ≡ 0 → ⊥) → (n ≡ 1 → ⊥) → (n ≡ 2 → ⊥) → (n ≡ 3 → ⊥) → (n ≡ 4 → ⊥) → (n ≡ 5 → ⊥)
-    → 0 ≡ getD layout n 0
-past-layout zero a b c d e f = absurd (a refl)
-past-layout (suc zero) a b c d e f = absurd (b refl)
-past-layout (suc (suc zero)) a b c d e f = absurd (c refl)
-past-layout (suc (suc (suc zero))) a b c d e f = absurd (d refl)
-past-layout (suc (suc (suc (suc zero)))) a b c d e f = absurd (e refl)
-past-layout (suc (suc (suc (suc (suc zero))))) a b c d e f = absurd (f refl)
-past-layout (suc (suc (suc (suc (suc (suc n)))))) a b c d e f = refl
+    → (n ≡ 6 → ⊥) → 0 ≡ getD layout n 0
+past-layout zero a b c d e f g = absurd (a refl)
+past-layout (suc zero) a b c d e f g = absurd (b refl)
+past-layout (suc (suc zero)) a b c d e f g = absurd (c refl)
+past-layout (suc (suc (suc zero))) a b c d e f g = absurd (d refl)
+past-layout (suc (suc (suc (suc zero)))) a b c d e f g = absurd (e refl)
+past-layout (suc (suc (suc (suc (suc zero))))) a b c d e f g = absurd (f refl)
+past-layout (suc (suc (suc (suc (suc (suc zero)))))) a b c d e f g = absurd (g refl)
+past-layout (suc (suc (suc (suc (suc (suc (suc n))))))) a b c d e f g = refl
 
 -- one word, and two
 pub one-word : (w : List ℕ) (x : ℕ) → length w ≡ 1 → set w 0 x ≡ x ∷ []

@@ -4,3 +4,4 @@ pub mod Pieces
 pub mod Writing
 pub mod Differing
 pub mod Listing
+pub mod MapListing

@@ -8,7 +8,9 @@ use lib.ListN.{length, getD}
 use Rattle.formats.specs.Formats.{Out, got, bad}
 use Rattle.rules.specs.Configuration.{checkPlace, checkEarlier}
 use Rattle.rules.specs.Differing.{zonesOf}
+use Rattle.rules.specs.Filling.{Filled}
 use Rattle.rules.specs.Limits.{mostRegions, mostZones, mostInSet, mostRequests, limits}
+use Rattle.rules.specs.Listing.{list, longestListing}
 use Rattle.rules.specs.Plan.{readPlan, Plan}
 use Rattle.rules.specs.Receiving.{takePiece}
 use Rattle.rules.specs.Sizes.{longestSize, zonesAt}
@@ -18,6 +20,7 @@ use Rattle.rules.specs.declared.Side.{Side}
 use Rattle.rules.specs.declared.Side.the-variants.{Cpu, Iommu}
 use Rattle.rules.specs.declared.Translated.{Translated}
 use Rattle.zones.specs.Layout.{regionWords}
+use Rattle.zones.specs.View.{storedConfig, storedTable}
 use Rattle.plan.specs.Applying.{applied, stateIn}
 use Rattle.plan.specs.Into.{sectionPlace}
 use Rattle.plan.specs.Read.{readAnswer}
@@ -31,9 +34,10 @@ use Rattle.wanted.specs.Wanted.{listedIn, ListsIn}
 use Rattle.writer.specs.Writer.{writesIn, WritesIn, writesZonesIn, WritesZonesIn}
 
 -- what a header must have for the library: the most regions, zones, regions in a set and requests, the words of a
--- region, the longest plan
+-- region, the longest plan, the longest listing
 abbrev pub layout : List ℕ
-layout = mostRegions ∷ mostZones ∷ mostInSet ∷ mostRequests ∷ regionWords ∷ longestSize limits ∷ []
+layout =
+    mostRegions ∷ mostZones ∷ mostInSet ∷ mostRequests ∷ regionWords ∷ longestSize limits ∷ longestListing limits ∷ []
 
 -- the two places of a configuration's check
 unfoldable pub placesOf : Checked → List ℕ
@@ -177,3 +181,12 @@ abbrev pub WordsAreAList : Type 0
 WordsAreAList =
     (c t w b : List ℕ) (n : ℕ) (v a : List ℕ) → ListsWords c t w b n v a
     → ListsIn c t w b (record { number = n; count = getD a 0 0 }) v
+
+-- ---- the listing: the number, what then lies in the buffer, and the place
+abbrev pub listingIn : List ℕ → List ℕ → List ℕ → Filled
+listingIn c t w = list limits (storedConfig c) (storedTable t) w
+
+pub record ListingWords (c t w : List ℕ) (n : ℕ) (v a : List ℕ) : Type 0 where
+  pub number : n ≡ listingIn c t w .outcome .number
+  pub buffer : v ≡ listingIn c t w .buffer
+  pub place : a ≡ listingIn c t w .outcome .place ∷ []

@@ -1,6 +1,8 @@
 // The library for an update agent, for C and Rust to link: include/peatmitten.h has the same functions and layouts. Each function
 // answers on every argument; nothing is asked of the caller beyond pointers and lengths that are valid.
 use differing::lacking_part;
+use listing::LONGEST_LISTING;
+use listing::list_table;
 use plan::Found;
 use plan::LONGEST_PLAN;
 use plan::apply_words;
@@ -48,7 +50,7 @@ ghost use Rattle.zones.specs.Step.{Stepped};
 ghost use Rattle.zones.specs.View.{storedConfig, storedTable};
 ghost use Rattle.walker.specs.Edition.{editionOf};
 ghost use Rattle.agent.specs.Agent.{layout, placesOf, yesOrNo, sideAsked, stretchOf, readingNumber, readingPlace, editionNumber, editionValue, receiverIn, AppliesWords, TakesWords, EndsWords, WritesWords, WritesZonesWords};
-ghost use Rattle.agent.specs.Agent.{baseStretch, noByte, ListsWords};
+ghost use Rattle.agent.specs.Agent.{baseStretch, noByte, ListsWords, ListingWords};
 
 // What is said of a place that has no byte.
 const NO_BYTE: u64 = 256;
@@ -76,6 +78,9 @@ pub extern "C" fn peatmitten_layout_256_32_16_512_4(which: u32) -> u64
     }
     if which == 5 {
         return LONGEST_PLAN as u64;
+    }
+    if which == 6 {
+        return LONGEST_LISTING as u64;
     }
     0
 }
@@ -321,6 +326,21 @@ pub extern "C" fn peatmitten_wanted_words(
     let listing = list_words(config, from, to, buffer);
     put_one(count, listing.count as u64);
     listing.number
+}
+
+// Writes the map listing of a table: the number, and on 0 how many bytes it has, else 0. Only on 0 is the buffer changed.
+#[no_mangle]
+pub extern "C" fn peatmitten_list(
+    config: &[u64; CONFIG_WORDS],
+    table: &[u64; TABLE_WORDS],
+    buffer: &mut [u8],
+    length: &mut [u64; 1],
+) -> u32
+    ensures { λ n. ⌜ ListingWords (now (config .entry)) (now (table .entry)) (now (buffer .entry)) n (now (buffer .exit)) (now (length .exit)) ⌝ }
+{
+    let outcome = list_table(config, table, buffer);
+    put_one(length, outcome.place as u64);
+    outcome.number
 }
 
 fn receiver_in(words: &[u64; 2]) -> Receiver

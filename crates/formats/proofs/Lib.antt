@@ -6,3 +6,4 @@ pub mod Spelled
 pub mod Bounds
 pub mod Most
 pub mod Differing
+pub mod Texts

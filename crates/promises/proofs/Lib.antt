@@ -20,6 +20,7 @@ pub mod Differing
 pub mod Wanted
 pub mod WantedOrder
 pub mod WantedPlans
+pub mod Listing
 pub mod Families
 pub mod OwnedConfiguration
 pub mod Owned

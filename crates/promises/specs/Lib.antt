@@ -21,6 +21,7 @@ pub mod Receiving
 pub mod Filling
 pub mod Writing
 pub mod Differing
+pub mod Listing
 pub mod Families
 pub mod OwnedConfiguration
 pub mod Owned

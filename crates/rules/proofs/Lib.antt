@@ -28,6 +28,7 @@ pub mod Wanted
 pub mod WantedOrder
 pub mod Records
 pub mod WantedBytes
+pub mod Listing
 pub mod Computing
 pub mod Desk
 pub mod Story
@@ -38,6 +39,7 @@ pub mod PlanExamples
 pub mod WriterExamples
 pub mod WantedExamples
 pub mod OneZone
+pub mod ListingExamples
 pub mod Closure
 pub mod Inductive
 pub mod Budget

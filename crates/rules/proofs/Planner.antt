@@ -28,7 +28,7 @@ module _ {A : Type 0} (P : A → Type 0) where
   all-places [] d f = tt
   all-places (x ∷ xs) d f = (f 0 (omega arith), all-places xs d (λ i h. f (suc i) (omega arith)))
 
-  all-passing : (p : A → Bool) → ((x : A) → p x ≡ true → P x) → (xs : List A) → all p xs ≡ true → All P xs
+  pub all-passing : (p : A → Bool) → ((x : A) → p x ≡ true → P x) → (xs : List A) → all p xs ≡ true → All P xs
   unfolding all
   all-passing p f [] e = tt
   all-passing p f (x ∷ xs) e = let h = both-true (p x) (all p xs) e in (f x (h .0), all-passing p f xs (h .1))
@@ -36,7 +36,7 @@ module _ {A : Type 0} (P : A → Type 0) where
 module _ (lim : Limits) (say : Sayable lim) where
   -- ---- what is sound fits
   -- v, p and size because they are in reach, rights because they are well formed
-  sound-fits : (r : Region) → wellFormed (lim .page) r ≡ true → inReach lim r ≡ true → RegionFits r
+  pub sound-fits : (r : Region) → wellFormed (lim .page) r ≡ true → inReach lim r ≡ true → RegionFits r
   unfolding wellFormed inReach numbersOf
   sound-fits r f e =
       let h = parts _ e in

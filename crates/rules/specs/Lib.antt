@@ -22,6 +22,7 @@ pub mod Filling
 pub mod Writer
 pub mod Differing
 pub mod Wanted
+pub mod Listing
 pub mod Desk
 pub mod Story
 pub mod OwnedDesk
@@ -30,5 +31,6 @@ pub mod CheckExamples
 pub mod PlanExamples
 pub mod WriterExamples
 pub mod WantedExamples
+pub mod ListingExamples
 pub mod Closure
 pub mod Budget

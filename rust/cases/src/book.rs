@@ -41,6 +41,7 @@ impl Named {
             Question::Zones => format!("{number} {place} {}", mixed(&after.left[0].buffer)),
             Question::Lacking => format!("{place} {:?}", after.left[0].words),
             Question::List => format!("{number} {place} {}", mixed(&after.left[0].buffer)),
+            Question::Listing => format!("{number} {place} {}", mixed(&after.left[0].buffer)),
         };
         format!("{}: {answer}", self.name)
     }
@@ -121,6 +122,11 @@ impl Book {
     ) -> &mut Named {
         let whole = Case::apply(self.config, self.table, self.edition, plan);
         self.deliver(name.into(), Case::pieces(whole, receiver, lengths.to_vec(), vec![0xa5; room]))
+    }
+
+    /// The listing into a buffer of so many bytes.
+    pub fn ask_listing(&mut self, name: impl Into<String>, room: usize) -> &mut Named {
+        self.ask(name.into(), Case::listing(self.config, self.table, vec![0xa5; room]))
     }
 
     /// The writer with these requests' records, into a buffer of so many bytes.

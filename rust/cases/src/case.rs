@@ -25,6 +25,7 @@ pub enum Question {
     Base,
     Lacking,
     List,
+    Listing,
 }
 
 /// How many numbers a question can take: a request has its kind, its zone and those of its region.
@@ -181,6 +182,11 @@ impl Case {
         self.wanted[..].try_into().expect("a table's words")
     }
 
+    /// The listing of a table into a buffer.
+    pub fn listing(config: ConfigWords, table: TableWords, buffer: Vec<u8>) -> Case {
+        Case { buffer, ..Case::new(Question::Listing, config, table, &[], Vec::new()) }
+    }
+
     /// The pieces, which together are the plan.
     pub fn cut(&self) -> Vec<&[u8]> {
         let mut rest = &self.plan[..];
@@ -243,13 +249,16 @@ impl Case {
             },
             Question::Pieces => self.pieces_ordinary(),
             Question::Write => self.write_ordinary(),
-            Question::Zones => self.zones_ordinary(),
+            Question::Zones => self.written_ordinary(|state, buffer| state.write_zones(buffer).map_err(|refusal| refusal.number())),
             Question::Base => match Plan::read(&self.plan) {
                 Ok(plan) => self.unchanged(0, [plan.zones.start as u64, base_zones(&self.plan).len() as u64]),
                 Err(fault) => self.unchanged(fault.number(), [fault.offset() as u64, base_zones(&self.plan).len() as u64]),
             },
             Question::Lacking => self.lacking_ordinary(),
             Question::List => self.list_ordinary(),
+            Question::Listing => {
+                self.written_ordinary(|state, buffer| state.table.list(&state.config, buffer).map_err(|refusal| refusal.number()))
+            }
         }
     }
 
@@ -288,15 +297,12 @@ impl Case {
         Answer { left, ..answer }
     }
 
-    /// The zones written into the buffer.
-    fn zones_ordinary(&self) -> Answer {
+    /// What is written of a state into the buffer, the zones or the listing, and how long it is.
+    fn written_ordinary(&self, write: impl FnOnce(&State, &mut [u8]) -> Result<usize, u32>) -> Answer {
         let mut buffer = self.buffer.clone();
-        let answer = match self.base_state() {
+        let answer = match self.base_state().and_then(|state| write(&state, &mut buffer)) {
+            Ok(length) => self.unchanged(0, [length as u64, 0]),
             Err(number) => self.unchanged(number, [0, 0]),
-            Ok(state) => match state.write_zones(&mut buffer) {
-                Ok(length) => self.unchanged(0, [length as u64, 0]),
-                Err(refusal) => self.unchanged(refusal.number(), [0, 0]),
-            },
         };
         let left = vec![Left { number: answer.number, words: [0, 0], buffer }];
         Answer { left, ..answer }
@@ -388,7 +394,7 @@ impl fmt::Display for Case {
             writeln!(f, "  as requests, into a buffer of {}: {}", self.buffer.len(), hex(&self.buffer))?;
         }
         match self.question {
-            Question::Zones => writeln!(f, "  into a buffer of {}: {}", self.buffer.len(), hex(&self.buffer))?,
+            Question::Zones | Question::Listing => writeln!(f, "  into a buffer of {}: {}", self.buffer.len(), hex(&self.buffer))?,
             Question::Lacking => writeln!(f, "  beside a stretch of {}: {}", self.buffer.len(), hex(&self.buffer))?,
             _ => {}
         }

@@ -17,6 +17,7 @@ mod examples;
 mod fields;
 mod files;
 mod given;
+mod listings;
 mod requests;
 pub mod rng;
 mod tables;
@@ -43,6 +44,7 @@ pub fn named() -> Vec<Named> {
     requests::add(&mut book, &mut Rng::new(SEED));
     translations::add(&mut book, &mut Rng::new(SEED));
     terminals::add(&mut book, &mut Rng::new(SEED));
+    listings::add(&mut book);
     book.named
 }
 

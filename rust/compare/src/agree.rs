@@ -128,6 +128,12 @@ fn ask_library(case: &Case, state: &mut Lent, left: &mut Vec<Left>) -> (u32, [u6
             left.push(Left { number, words: [0, 0], buffer });
             (number, [count, 0])
         }
+        Question::Listing => {
+            let mut buffer = case.buffer.clone();
+            let (number, length) = raw::list(&state.config, &state.table, black_box(&mut buffer));
+            left.push(Left { number, words: [0, 0], buffer });
+            (number, [length, 0])
+        }
     }
 }
 

@@ -2,7 +2,8 @@
 
 use cases::Case;
 use ordinary::layout::{
-    config_record, set_count, set_record, zone_id, CONFIG_COUNT, CONFIG_GIC, LONGEST_PLAN, REQUEST_BYTES, TABLE_COUNT,
+    config_record, set_count, set_record, zone_id, CONFIG_COUNT, CONFIG_GIC, LONGEST_LISTING, LONGEST_PLAN, REQUEST_BYTES,
+    TABLE_COUNT,
 };
 use ordinary::limits::{GUEST_REACH, MAX_IN_SET, MAX_REGIONS, MAX_REQUESTS, MAX_ZONES, PAGE, PHYS_REACH};
 use ordinary::{
@@ -18,7 +19,7 @@ const C: Region = Region::new(0x4010_0000, 0x9000_0000, 0x20_0000, 3);
 const G: Region = Region::new(0x0800_0000, 0x0800_0000, 0x1_0000, 3);
 
 /// All cases, in parts: of all at once the words would take a gigabyte.
-pub const PARTS: [fn() -> Vec<Case>; 17] = [
+pub const PARTS: [fn() -> Vec<Case>; 18] = [
     config_cases,
     table_cases,
     request_cases,
@@ -36,6 +37,7 @@ pub const PARTS: [fn() -> Vec<Case>; 17] = [
     bases_found,
     stretches,
     lists_between_tables,
+    tables_listed,
 ];
 
 fn zone(id: u32, cpu: &[Region], iommu: &[Region]) -> Zone {
@@ -684,6 +686,57 @@ fn so_far_apart(requests: usize) -> (Config, Table, Table) {
     }
     assert_eq!(left, 0, "there are zones enough");
     (full.config, full.table, to)
+}
+
+/// The listing at every state, into buffers on every side of its length; at shifts of every length, either sign and each edge; at tables that
+/// are broken, with and without room.
+fn tables_listed() -> Vec<Case> {
+    let mut cases = Vec::new();
+    let mut add = |config: ConfigWords, table: TableWords| {
+        let most = Case::listing(config, table, vec![0xa5; LONGEST_LISTING + 9]);
+        let length = most.ordinary().places[0] as usize;
+        for room in [0, 1, length.saturating_sub(1), length, length + 1, length + 40, LONGEST_LISTING] {
+            cases.push(Case { buffer: vec![0xa5; room], ..most.clone() });
+        }
+        cases.push(most);
+    };
+    for state in states() {
+        add(state.config.to_words(), state.table.to_words());
+    }
+    for shifted in shifts() {
+        add(shifted.config.to_words(), shifted.table.to_words());
+    }
+    let state = desk(&[zone(5, &[A], &[A, G])]);
+    let (config, table) = (state.config.to_words(), state.table.to_words());
+    for table in broken_tables() {
+        add(config, table);
+        add([0; CONFIG_WORDS], table);
+    }
+    add([0; CONFIG_WORDS], [u64::MAX; TABLE_WORDS]);
+    let length = state.table.listing().len();
+    cases.extend((0..length + 3).map(|room| Case::listing(config, table, vec![0x5a; room])));
+    cases
+}
+
+/// Zones with ids of every width, each with one region whose physical start lies so many pages above or below its guest start: each power of
+/// ten and each edge, with a page on either side.
+fn shifts() -> Vec<State> {
+    let highest = PHYS_REACH / PAGE - 1;
+    let lowest = GUEST_REACH / PAGE - 1;
+    let tens = (0..=10).map(|power| 10u64.pow(power));
+    let edges: Vec<u64> = tens.chain([0, lowest, highest]).flat_map(|pages| [pages.saturating_sub(1), pages, pages + 1]).collect();
+    let above = edges.iter().filter(|&&pages| pages <= highest).map(|&pages| Region::new(0, pages * PAGE, PAGE, 1));
+    let below = edges.iter().filter(|&&pages| pages <= lowest).map(|&pages| Region::new(pages * PAGE, 0, PAGE, 5));
+    let gic = Region::new(0, 4096 * PAGE, PAGE, 2);
+    let states = above.chain(below).zip([0, 9, 10, 99, 100, 255].into_iter().cycle());
+    let states = states.filter(|(region, _)| region.p != gic.p);
+    states
+        .map(|(region, id)| State {
+            config: Config { regions: vec![region, gic], gic: 1 },
+            table: Table { zones: vec![zone(id, &[region], &[gic])] },
+            edition: 0,
+        })
+        .collect()
 }
 
 /// A plan with as many of everything as there can be.

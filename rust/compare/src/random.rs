@@ -2,7 +2,7 @@
 
 use cases::rng::Rng;
 use cases::Case;
-use ordinary::layout::{LONGEST_PLAN, REQUEST_BYTES};
+use ordinary::layout::{LONGEST_LISTING, LONGEST_PLAN, REQUEST_BYTES};
 use ordinary::limits::{GUEST_REACH, MAX_IN_SET, MAX_REGIONS, MAX_REQUESTS, MAX_ZONES, PAGE, PHYS_REACH};
 use ordinary::{
     base_zones, encode, encode_zones, Config, ConfigWords, Plan, Record, Region, Rights, State, Table, TableWords, Zone,
@@ -361,7 +361,7 @@ impl World {
     pub fn case(&mut self, rng: &mut Rng) -> Case {
         self.change(rng, 3);
         self.state.edition = edition(rng);
-        match rng.below(26) {
+        match rng.below(27) {
             0..=2 => self.config_case(rng),
             3..=5 => self.table_case(rng),
             6..=10 => self.request_case(rng),
@@ -374,6 +374,7 @@ impl World {
             18 => Case::base(self.plan(rng)),
             19 => self.lacking_case(rng),
             20 => self.list_case(rng),
+            21 => self.listing_case(rng),
             _ => self.apply_case(rng),
         }
     }
@@ -497,6 +498,14 @@ impl World {
         };
         let lengths = cutting(rng, apply.plan.len());
         Case::pieces(apply, receiver, lengths, vec![rng.word() as u8; room])
+    }
+
+    /// The listing into a buffer on either side of its length.
+    fn listing_case(&self, rng: &mut Rng) -> Case {
+        let (config, table) = self.base(rng);
+        let case = Case::listing(config, table, vec![0; LONGEST_LISTING]);
+        let length = case.ordinary().places[0] as usize;
+        Case { buffer: buffer_about(rng, length), ..case }
     }
 
     /// The requests of a plan, now and then cut or with bytes behind them or too many; and a buffer on either side of the plan's length.

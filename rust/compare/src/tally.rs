@@ -9,7 +9,7 @@ use crate::agree::Trouble;
 use crate::event::Event;
 
 /// What every run must answer at least once, by question.
-const ALL_NUMBERS: [(Question, &[u32]); 13] = [
+const ALL_NUMBERS: [(Question, &[u32]); 14] = [
     (Question::Config, &[0, 1, 2, 3, 4, 5, 6]),
     (Question::Table, &[0, 1]),
     (Question::Request, &[0, 1, 2, 3, 4, 5, 6, 7, 8, 9, 10, 11, 12, 13, 14, 15, 16, 17, 19]),
@@ -24,6 +24,7 @@ const ALL_NUMBERS: [(Question, &[u32]); 13] = [
     // These are no numbers of the document, but the ways in which two stretches can go.
     (Question::Lacking, &[0, 1, 2]),
     (Question::List, &[0, 1, 2, 28, 29]),
+    (Question::Listing, &[0, 1, 2, 28]),
 ];
 
 const REQUEST_REFUSED: u32 = 27;

@@ -26,6 +26,16 @@ pub const LONGEST_PLAN: usize = {
     4 * 4 + (4 + MAX_REGIONS * REGION_BYTES) + zones + (4 + MAX_REQUESTS * REQUEST_BYTES)
 };
 
+/// How many bytes a listing can have: two full sets in as many zones as there can be, and each line the longest of its side.
+pub const LONGEST_LISTING: usize = {
+    let id = "255 ".len();
+    let numbers = 3 * "0x0000000000000000 ".len();
+    let rights = "7 ".len();
+    let shift = "68719476735\n".len();
+    let line = id + numbers + rights + shift;
+    MAX_ZONES * MAX_IN_SET * ((line + "CPU ".len()) + (line + "IOMMU ".len()))
+};
+
 /// Where a configuration has its count.
 pub const CONFIG_COUNT: usize = 0;
 /// Where a configuration has the GIC's position.

@@ -11,6 +11,7 @@
 mod config;
 mod differing;
 pub mod layout;
+mod listing;
 mod plan;
 mod receiver;
 mod region;
@@ -23,6 +24,7 @@ mod writer;
 
 pub use config::{Config, ConfigFault};
 pub use differing::{base_zones, lacking_part};
+pub use listing::ListingRefusal;
 pub use plan::{base_edition, encode, encode_zones, Plan, ReadFault, Requests};
 pub use receiver::{BufferShort, Receiver};
 pub use region::{Guest, Phys, Region, Rights};

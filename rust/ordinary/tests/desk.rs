@@ -1,5 +1,6 @@
 //! The desk examples of document 01 and its whole plan.
 
+use ordinary::layout::LONGEST_LISTING;
 use ordinary::limits::{GUEST_REACH, MAX_IN_SET, MAX_REGIONS, MAX_REQUESTS, MAX_ZONES, PAGE, PHYS_REACH};
 use ordinary::{
     encode, Config, Guest, Phys, Plan, PlanRefusal, ReadFault, Record, Refusal, Region, Rights, Side, State, Table, Translated,
@@ -389,4 +390,18 @@ fn a_repeat_that_fits_the_base_table_is_stopped_by_the_edition() {
     assert_eq!(state.apply(&back), Ok(1));
     assert_eq!(state.table, Table::default());
     assert_eq!(state.apply(&add), Err(PlanRefusal::OtherEdition));
+}
+
+#[test]
+fn the_listing_has_the_documents_line() {
+    let low = Region::new(GUEST_REACH - PAGE, 0, PAGE, 5);
+    let zone = |id, cpu: &[Region], iommu: &[Region]| Zone { id, cpu: cpu.to_vec(), iommu: iommu.to_vec() };
+    let table = Table { zones: vec![zone(5, &[A], &[G]), Zone::empty(6), zone(255, &[low], &[])] };
+    let lines = [
+        "5 CPU 0x0000000040000000 0x0000000080000000 0x0000000000200000 3 262144",
+        "5 IOMMU 0x0000000008000000 0x0000000008000000 0x0000000000010000 3 0",
+        "255 CPU 0x000000fffffff000 0x0000000000000000 0x0000000000001000 5 -268435455",
+    ];
+    assert_eq!(table.listing().lines().collect::<Vec<_>>(), lines);
+    assert_eq!(LONGEST_LISTING, 81920);
 }

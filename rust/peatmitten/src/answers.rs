@@ -480,6 +480,50 @@ impl fmt::Display for ListRefusal {
 
 impl Error for ListRefusal {}
 
+/// Why no listing is written: 1, 2 and 28, in this order.
+#[derive(Clone, Copy, Debug, PartialEq, Eq, Hash)]
+pub enum ListingRefusal {
+    /// 1: the configuration is unsound.
+    UnsoundConfig,
+    /// 2: the table is unsound.
+    UnsoundTable,
+    /// 28: the buffer is shorter than the listing.
+    BufferShort,
+}
+
+impl ListingRefusal {
+    pub(crate) fn from_library(number: u32) -> Result<(), ListingRefusal> {
+        Err(match number {
+            0 => return Ok(()),
+            1 => ListingRefusal::UnsoundConfig,
+            2 => ListingRefusal::UnsoundTable,
+            28 => ListingRefusal::BufferShort,
+            _ => not_an_answer(number),
+        })
+    }
+
+    /// The document's number.
+    pub fn number(&self) -> u32 {
+        match self {
+            ListingRefusal::UnsoundConfig => 1,
+            ListingRefusal::UnsoundTable => 2,
+            ListingRefusal::BufferShort => BufferShort.number(),
+        }
+    }
+}
+
+impl fmt::Display for ListingRefusal {
+    fn fmt(&self, f: &mut fmt::Formatter) -> fmt::Result {
+        match self {
+            ListingRefusal::UnsoundConfig => write!(f, "the configuration is unsound"),
+            ListingRefusal::UnsoundTable => write!(f, "the table is unsound"),
+            ListingRefusal::BufferShort => BufferShort.fmt(f),
+        }
+    }
+}
+
+impl Error for ListingRefusal {}
+
 /// 28: a buffer that was lent is too short.
 #[derive(Clone, Copy, Debug, PartialEq, Eq, Hash)]
 pub struct BufferShort;

@@ -39,6 +39,7 @@ mod answers;
 mod config;
 mod differing;
 pub mod limits;
+mod listing;
 mod plan;
 pub mod raw;
 mod reading;
@@ -50,7 +51,7 @@ mod table;
 mod wanted;
 mod writer;
 
-pub use answers::{BufferShort, ConfigFault, ListRefusal, PlanRefusal, ReadFault, Refusal, WriteRefusal};
+pub use answers::{BufferShort, ConfigFault, ListRefusal, ListingRefusal, PlanRefusal, ReadFault, Refusal, WriteRefusal};
 pub use config::{Config, CONFIG_WORDS};
 pub use differing::{base_zones, first_difference, lacking_part, Difference};
 pub use plan::{base_edition, read_plan, State};

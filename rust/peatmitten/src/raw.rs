@@ -91,6 +91,13 @@ mod library {
             buffer_length: usize,
             count: *mut [u64; 1],
         ) -> u32;
+        pub fn peatmitten_list(
+            config: *const Config,
+            table: *const Table,
+            buffer: *mut u8,
+            buffer_length: usize,
+            length: *mut [u64; 1],
+        ) -> u32;
     }
 }
 
@@ -230,4 +237,11 @@ pub fn list_words(config: &Config, from: &Table, to: &Table, buffer: &mut [u8]) 
     let mut count = [UNWRITTEN];
     let number = unsafe { library::peatmitten_wanted_words(config, from, to, buffer.as_mut_ptr(), buffer.len(), &mut count) };
     (number, count[0])
+}
+
+/// The number for which no listing is written, or 0, and how many bytes it has, or 0. The buffer changes only where the number is 0.
+pub fn list(config: &Config, table: &Table, buffer: &mut [u8]) -> (u32, u64) {
+    let mut length = [UNWRITTEN];
+    let number = unsafe { library::peatmitten_list(config, table, buffer.as_mut_ptr(), buffer.len(), &mut length) };
+    (number, length[0])
 }

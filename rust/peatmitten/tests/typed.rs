@@ -179,8 +179,15 @@ fn where_bases_differ() {
 
 #[test]
 fn limits_are_the_librarys() {
-    let shared =
-        [limits::MOST_REGIONS, limits::MOST_ZONES, limits::MOST_IN_SET, limits::MOST_REQUESTS, Region::WORDS, limits::LONGEST_PLAN];
+    let shared = [
+        limits::MOST_REGIONS,
+        limits::MOST_ZONES,
+        limits::MOST_IN_SET,
+        limits::MOST_REQUESTS,
+        Region::WORDS,
+        limits::LONGEST_PLAN,
+        limits::LONGEST_LISTING,
+    ];
     for (which, limit) in (0..).zip(shared) {
         assert_eq!(raw::layout(which), limit as u64, "number {which} of the layout");
     }

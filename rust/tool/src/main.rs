@@ -1,10 +1,12 @@
 //! Plans and state files at a shell, for people who test an agent, make plans or stand at a service desk: `./peatmitten run`, `base`, `show`,
-//! `write`, `plan` and `differ`. Every number, place and byte is the library's; this program reads arguments and files, and prints.
+//! `write`, `plan`, `differ` and `map`. Every number, place and byte is the library's; this program reads arguments and files, prints, and draws
+//! the map from the library's listing.
 //!
 //! The exit status is 0 for a plan that is accepted (`show`: that reads whole; `differ`: that is for the terminal's base), 1 for one that is
 //! refused, and 2 where an argument or a file is not as it should be, or what is printed cannot be written.
 
 mod differ;
+mod map;
 mod show;
 mod text;
 
@@ -16,10 +18,11 @@ use std::path::Path;
 use std::process::ExitCode;
 
 use peatmitten::limits::LONGEST_PLAN;
-use peatmitten::{base_edition, first_difference, PlanRefusal, Reading, Request, State};
+use peatmitten::{base_edition, first_difference, PlanRefusal, Reading, Region, Request, State};
 
 const USAGE: &str =
-    "usage: peatmitten run [--words] STATE PLAN... | base PLAN >STATE | show PLAN | write TEXT >PLAN | plan FROM WANTED >PLAN | differ STATE PLAN";
+    "usage: peatmitten run [--words] STATE PLAN... | base PLAN >STATE | show PLAN | write TEXT >PLAN | plan FROM WANTED >PLAN | \
+    differ STATE PLAN | map PLAN >SVG";
 
 /// More bytes than the text of the longest plan has.
 const LONGEST_TEXT: u64 = 1 << 24;
@@ -49,6 +52,7 @@ fn answer(arguments: &[OsString]) -> Answer {
         (Some("write"), [text]) => write(text),
         (Some("differ"), [state, plan]) => differ(state, plan),
         (Some("plan"), [from, wanted]) => plan(from, wanted),
+        (Some("map"), [plan]) => map(plan),
         _ => Err(USAGE.to_string()),
     }
 }
@@ -179,6 +183,31 @@ fn differ(state_path: &OsStr, plan_path: &OsStr) -> Answer {
     print(text.as_bytes())?;
     let other_base = matches!(answer, Err(PlanRefusal::OtherConfig | PlanRefusal::OtherEdition));
     Ok(difference.is_none() && !other_base)
+}
+
+/// Draws the table that a plan leaves, applied to the state that it is for.
+fn map(plan: &OsStr) -> Answer {
+    if io::stdout().is_terminal() {
+        return Err("map draws a picture, not text: ./peatmitten map PLAN >map.svg".to_string());
+    }
+    let bytes = bytes_of(plan)?;
+    let applied = State::base_of(&bytes).and_then(|mut state| state.apply(&bytes).map(|_| state));
+    match applied {
+        Ok(State { config, table, .. }) => {
+            let listing = table.listing(&config).map_err(|refusal| refusal.to_string())?;
+            let gic = config.regions().nth(config.gic() as usize).ok_or("a sound configuration has its GIC")?;
+            print(map::svg(&listing, stretch(&gic)).as_bytes()).map(|()| true)
+        }
+        Err(refusal) => {
+            complain(&format!("{} has no map: {}: {refusal}", Path::new(plan).display(), numbers(&Err(refusal))));
+            Ok(false)
+        }
+    }
+}
+
+/// Where a region lies in physical memory.
+fn stretch(region: &Region) -> (u64, u64) {
+    (region.p.0, region.p.0 + region.size)
 }
 
 /// Number, place and inner number, as `./peatmitten apply` prints them.

@@ -1,4 +1,4 @@
-// What the program writes: an answer to standard output, anything else to standard error.
+// What the programs write: an answer to standard output, anything else to standard error.
 use libc::STDERR_FILENO;
 use libc::STDOUT_FILENO;
 use rules::Outcome;
@@ -12,18 +12,30 @@ pub fn print(outcome: Outcome) {
     io::write_all(STDOUT_FILENO, b"\n");
 }
 
-pub fn complain(text: &[u8]) {
+fn complain(text: &[u8]) {
     io::write_all(STDERR_FILENO, text);
 }
 
+pub fn say(program: &[u8], text: &[u8]) {
+    complain(program);
+    complain(b": ");
+    complain(text);
+}
+
+pub fn usage(program: &[u8]) {
+    complain(b"usage: ");
+    complain(program);
+    complain(b" FILE\n");
+}
+
 // With the system's reason.
-pub fn cannot_open(name: &[u8]) {
-    complain(b"apply: cannot open ");
+pub fn cannot_open(program: &[u8], name: &[u8]) {
+    say(program, b"cannot open ");
     os::fail(name);
 }
 
-pub fn cannot_read(name: &[u8]) {
-    complain(b"apply: cannot read ");
+pub fn cannot_read(program: &[u8], name: &[u8]) {
+    say(program, b"cannot read ");
     complain(name);
     complain(b"\n");
 }

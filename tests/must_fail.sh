@@ -23,7 +23,8 @@ done
 
 logs=target/must-fail
 room=$(mktemp -d)
-trap 'jobs -p | xargs -r kill 2>/dev/null; wait; rm -rf "$room"' EXIT
+# A job that is just ending may be gone before it is told to end: no failure.
+trap 'kill $(jobs -pr) 2>/dev/null || true; wait; rm -rf "$room"' EXIT
 
 # The crates of the repository that $1 stands on, one to a line.
 below() {

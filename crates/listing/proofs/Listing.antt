@@ -1,20 +1,15 @@
 -- The library's answer is 1 or 2, or what filling gives; the program's is the plan's, or the library's at what it
 -- leaves.
-use Prim.Native.Nat.{ℕ, _+_, _-_, _*_, _≤_, _<_}
+use Prim.Native.Nat.{ℕ, _+_, _-_, _*_}
 use native.Mathlib.Omega.{arith}
-use mathlib.Core.Bool.{Bool, true, false, cond, not}
-use mathlib.Core.List.{List, [], _++_}
+use mathlib.Core.Bool.{Bool, cond}
+use mathlib.Core.List.{List, []}
 use mathlib.Core.Path.{_≡_, refl, sym, ap, ap₂, _∙_}
-use borrow.Author.Tests.{lt-ltb, le-ltb, eq-eqb, ne-eqb}
-use lib.Dec.{ltb, eqb}
-use lib.ListN.{length, drop}
-use Rattle.lists.specs.Rules.{firstRule}
-use Rattle.lists.proofs.Tests.{not-fails, not-holds}
+use borrow.Author.Tests.{eq-eqb, ne-eqb}
+use lib.ListN.{length}
 use Rattle.formats.specs.Formats.{Out, got, bad}
-use Rattle.puts.specs.Puts.{Put}
-use Rattle.puts.proofs.Puts.{put-fits}
 use Rattle.rules.specs.Applying.{plain, apply, baseOf, Terminal, Applied}
-use Rattle.rules.specs.Filling.{fillAnswer, fillLeaves, filling, Filled}
+use Rattle.rules.specs.Filling.{filling, Filled}
 use Rattle.rules.specs.Limits.{limits}
 use Rattle.rules.specs.Listing.{listing, list, listAfter, listRead, listAlone}
 use Rattle.rules.specs.Plan.{readPlan, Plan}
@@ -22,7 +17,6 @@ use Rattle.rules.specs.Requests.{standing}
 use Rattle.rules.specs.Run.{requestSize}
 use Rattle.rules.specs.Tables.{tableOf, Zone}
 use Rattle.rules.specs.declared.Outcome.{Outcome}
-use Rattle.rules.proofs.Filling.{leaves-all}
 use Rattle.zones.specs.Kept.{Stands}
 use Rattle.zones.specs.View.{storedConfig, storedTable, zonesIn}
 use Rattle.zones.proofs.Spelling.{config-view, table-view}
@@ -34,65 +28,30 @@ use Rattle.plan.specs.declared.applying.State.{State}
 use Rattle.plan.specs.declared.read.Read.{Read}
 use Rattle.plan.specs.declared.words.Section.the-variants.{End, Bad}
 use Rattle.plan.proofs.Outcomes.{value-accepted, next-terminal}
-
-abbrev pub filledWith : Outcome → List ℕ → Filled
-filledWith o v = record { outcome = o; buffer = v }
-
--- ---- into a buffer
-module _ (b w : List ℕ) (n : ℕ) (e : n ≡ 0 + length b) where
-  same : n ≡ length b
-  same = omega arith
-
-  pub fill-short : length w < n → filledWith (record { number = 28; place = 0; inner = 0 }) w ≡ filling [] b w
-  unfolding fillAnswer fillLeaves firstRule
-  fill-short h =
-      sym (ap (λ (x : Bool). let o : Outcome = cond x (plain 28 0) (plain 0 (length b)) in
-      filledWith o (fillLeaves o b w)) (lt-ltb (length w) (length b) (omega (arith, same))))
-
-  pub fill-done : n ≤ length w → (v : List ℕ) (k : ℕ) → Put w 0 b v k
-      → filledWith (record { number = 0; place = n; inner = 0 }) v ≡ filling [] b w
-  unfolding fillAnswer fillLeaves firstRule
-  fill-done h v k p =
-      let z : 0 + length b ≡ length b = omega arith in
-      ap₂ filledWith (ap (plain 0) same)
-      (p .bytes ∙ put-fits 0 b w (omega arith) ∙ ap (λ (j : ℕ). b ++ drop j w) z)
-      ∙ sym (ap (λ (x : Bool). let o : Outcome = cond x (plain 28 0) (plain 0 (length b)) in
-      filledWith o (fillLeaves o b w)) (le-ltb (length w) (length b) (omega (arith, same))))
+use Rattle.writer.proofs.Filling.{filledWith, own-refused, own-passed}
 
 -- ---- 1 and 2 before it
 pub list-stands : (c t : List ℕ) (n : ℕ) → n ≡ standing limits (storedConfig c) (storedTable t) → n ≡ 0 → Stands c t
 list-stands c t n e z = sym e ∙ z
 
 module _ (c t w : List ℕ) (n : ℕ) (e : n ≡ standing limits (storedConfig c) (storedTable t)) where
-  b : List ℕ
-  b = listing limits (tableOf (storedTable t))
+  abbrev own : ℕ
+  own = standing limits (storedConfig c) (storedTable t)
 
-  answers : Bool → Outcome
-  answers x =
-      cond x (plain (standing limits (storedConfig c) (storedTable t)) 0)
-      (cond (ltb (length w) (length b)) (plain 28 0) (plain 0 (length b)))
-
-  by-own : (x : Bool) → not (eqb (standing limits (storedConfig c) (storedTable t)) 0) ≡ x
-      → list limits (storedConfig c) (storedTable t) w ≡ filledWith (answers x) (fillLeaves (answers x) b w)
-  unfolding list fillAnswer firstRule answers b
-  by-own x h =
-      ap (λ (y : Bool). let o : Outcome = cond y (plain (standing limits (storedConfig c) (storedTable t)) 0)
-      (cond (ltb (length w) (length b)) (plain 28 0) (plain 0 (length b))) in filledWith o (fillLeaves o b w)) h
+  abbrev lines : List ℕ
+  lines = listing limits (tableOf (storedTable t))
 
   pub list-own : (n ≡ 0 → ⊥)
       → filledWith (record { number = n; place = 0; inner = 0 }) w ≡ list limits (storedConfig c) (storedTable t) w
-  unfolding answers
-  list-own ne =
-      let st : standing limits (storedConfig c) (storedTable t) ≡ 0 → ⊥ = λ z. ne (e ∙ z) in
-      ap₂ filledWith (ap (λ (k : ℕ). plain k 0) e) (sym (leaves-all _ b w st))
-      ∙ sym (by-own true (not-fails _ (ne-eqb _ 0 st)))
+  unfolding list
+  list-own ne = ap (λ (k : ℕ). filledWith (plain k 0) w) e ∙ own-refused lines w own (λ z. ne (e ∙ z))
 
   pub list-filled : n ≡ 0 → (o : Outcome) (v : List ℕ) → filledWith o v ≡ filling [] (listing limits (zonesIn t)) w
       → filledWith o v ≡ list limits (storedConfig c) (storedTable t) w
-  unfolding fillAnswer firstRule answers b
+  unfolding list
   list-filled z o v f =
       f ∙ ap (λ (m : List Zone). filling [] (listing limits m) w) (stands-same c t _ refl (list-stands c t n e z))
-      ∙ sym (by-own false (not-holds _ (eq-eqb _ 0 (sym e ∙ z))))
+      ∙ own-passed lines w own (sym e ∙ z)
 
 -- ---- the plan at a state, and the listing of what it leaves
 module _ (c t : List ℕ) (e : ℕ) (b w : List ℕ) (o : Outcome) (u : List ℕ) (done : AppliedIn c t e b o u) where

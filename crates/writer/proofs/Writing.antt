@@ -1,20 +1,19 @@
 -- The writer's answer is the first of its numbers: 25 is asked of the edition alone, a run that is tried gives the others
 -- but 28, and that is left to the plan's length.
-use Prim.Native.Nat.{ℕ, _+_, _/_, _≤_, _<_}
+use Prim.Native.Nat.{ℕ, _/_, _≤_, _<_}
 use native.Mathlib.Omega.{arith}
 use mathlib.Core.Bool.{Bool, true, false, cond, not, true≢false}
-use mathlib.Core.List.{List, _++_}
+use mathlib.Core.List.{List, [], _∷_}
 use mathlib.Core.Path.{_≡_, refl, sym, ap, subst, _∙_}
-use borrow.Author.Tests.{ltb-false, eqb-true, eqb-false, not-true, not-false, lt-ltb, le-ltb, eq-eqb, ne-eqb}
+use borrow.Author.Tests.{ltb-false, eqb-true, eqb-false, not-true, not-false, eq-eqb, ne-eqb}
 use lib.Dec.{ltb, eqb}
-use lib.ListN.{length, drop, length-map}
+use lib.ListN.{length, length-map}
 use Rattle.lists.specs.Rules.{firstRule}
 use Rattle.lists.proofs.Tests.{not-holds}
 use Rattle.puts.specs.Puts.{Put}
-use Rattle.puts.proofs.Puts.{put-fits}
 use Rattle.rules.specs.Applying.{lastEdition, plain}
 use Rattle.rules.specs.Differing.{zonesBytes, writeZones}
-use Rattle.rules.specs.Filling.{fillAnswer, fillLeaves}
+use Rattle.rules.specs.Filling.{standingRule, fillAnswer, fillLeaves, filling, Filled}
 use Rattle.rules.specs.Limits.{mostRequests, limits}
 use Rattle.rules.specs.Plan.{requestsFrom, zonesSection}
 use Rattle.rules.specs.Planner.{ranAt}
@@ -23,11 +22,12 @@ use Rattle.rules.specs.Run.{requestSize, requestsIn, run, ended, Run}
 use Rattle.rules.specs.Tables.{tableOf}
 use Rattle.rules.specs.Writer.{writerRulesBy, writeBy, writerRules, askedOf}
 use Rattle.rules.specs.declared.Outcome.{Outcome}
-use Rattle.rules.proofs.Filling.{leaves-all, leaves-filled}
+use Rattle.rules.proofs.Filling.{leaves-all}
 use Rattle.zones.specs.Kept.{Stands}
 use Rattle.zones.specs.Trial.{trialAnswer}
 use Rattle.zones.specs.View.{storedConfig, storedTable, configIn, zonesIn}
-use Rattle.writer.specs.Writer.{lentIn, planIn, noNext, FilledIn, WritesIn, WritesZonesIn}
+use Rattle.writer.specs.Writer.{lentIn, planIn, noNext, WritesIn, WritesZonesIn}
+use Rattle.writer.proofs.Filling.{filledWith, fill-short, fill-done, own-refused, own-passed}
 use Rattle.writer.proofs.Bytes.{asked-many, asked-requests}
 use Rattle.writer.proofs.Putting.{zones-whole}
 
@@ -46,54 +46,19 @@ module _ (c t : List ℕ) (n : ℕ) (e : n ≡ standing limits (storedConfig c) 
       sym (ap (λ (b : Bool). cond b (plain 25 0) (plain (standing limits (storedConfig c) (storedTable t)) 0))
       (eq-eqb _ 0 (sym e ∙ z)))
 
--- ---- 28
-module _ (b w : List ℕ) (n : ℕ) (e : n ≡ 0 + length b) where
-  pub fill-short : length w < n → FilledIn b w (record { number = 28; place = 0; inner = 0 }) w
-  fill-short h =
-      let l : length w < length b = omega arith in
-      let s : ltb (length w) (length b) ≡ true = lt-ltb _ _ l in
-      record {
-        answer = sym (ap (λ (x : Bool). cond x (plain 28 0) (plain 0 (length b))) s);
-        buffer = sym (ap (λ (x : Bool). cond x w (b ++ drop (length b) w)) s);
-      }
-
-  pub fill-done : n ≤ length w → (v : List ℕ) (k : ℕ) → Put w 0 b v k
-      → FilledIn b w (record { number = 0; place = n; inner = 0 }) v
-  fill-done h v k p =
-      let l : length b ≤ length w = omega arith in
-      let s : ltb (length w) (length b) ≡ false = le-ltb _ _ l in
-      let m : n ≡ length b = omega arith in
-      let z : 0 + length b ≡ length b = omega arith in
-      record {
-        answer = ap (plain 0) m ∙ sym (ap (λ (x : Bool). cond x (plain 28 0) (plain 0 (length b))) s);
-        buffer =
-            p .bytes ∙ put-fits 0 b w (omega arith) ∙ ap (λ (j : ℕ). b ++ drop j w) z
-            ∙ sym (ap (λ (x : Bool). cond x w (b ++ drop (length b) w)) s);
-      }
-
--- what a filler leaves that nothing but 28 refuses
-filled-leaves : (b w : List ℕ)
-    → cond (ltb (length w) (length b)) w (b ++ drop (length b) w)
-    ≡ fillLeaves (cond (ltb (length w) (length b)) (plain 28 0) (plain 0 (length b))) b w
-filled-leaves b w = by (ltb (length w) (length b))
-  where
-    by : (x : Bool) → cond x w (b ++ drop (length b) w) ≡ fillLeaves (cond x (plain 28 0) (plain 0 (length b))) b w
-    by true = sym (leaves-all (plain 28 0) b w (λ y. omega arith))
-    by false = sym (leaves-filled (plain 0 (length b)) b w refl)
-
 -- ---- the zones alone
 -- measured, and put: s and v are the bytes that they were measured in, and n is where they ended there
 module _ (c t : List ℕ) (ok : Stands c t) (s v : List ℕ) (n : ℕ) (p : Put s 0 (zonesSection limits .write (zonesIn t)) v n)
     (w : List ℕ) where
-  pub zones-short : length w < n
-      → FilledIn (zonesBytes limits (storedTable t)) w (record { number = 28; place = 0; inner = 0 }) w
-  zones-short h = fill-short (zonesBytes limits (storedTable t)) w n (zones-whole c t ok s v 0 n p .end) h
+  abbrev bytes : List ℕ
+  bytes = zonesBytes limits (storedTable t)
+
+  pub zones-short : length w < n → filledWith (record { number = 28; place = 0; inner = 0 }) w ≡ filling [] bytes w
+  zones-short h = fill-short bytes w n (zones-whole c t ok s v 0 n p .end) h
 
   pub zones-done : n ≤ length w → (x : List ℕ) (k : ℕ) → Put w 0 (zonesSection limits .write (zonesIn t)) x k
-      → FilledIn (zonesBytes limits (storedTable t)) w (record { number = 0; place = n; inner = 0 }) x
-  zones-done h x k q =
-      fill-done (zonesBytes limits (storedTable t)) w n (zones-whole c t ok s v 0 n p .end) h x k
-      (zones-whole c t ok w x 0 k q)
+      → filledWith (record { number = 0; place = n; inner = 0 }) x ≡ filling [] bytes w
+  zones-done h x k q = fill-done bytes w n (zones-whole c t ok s v 0 n p .end) h x k (zones-whole c t ok w x 0 k q)
 
 -- 1 or 2 before that
 module _ (c t w : List ℕ) (n : ℕ) (e : n ≡ standing limits (storedConfig c) (storedTable t)) where
@@ -103,26 +68,20 @@ module _ (c t w : List ℕ) (n : ℕ) (e : n ≡ standing limits (storedConfig c
   abbrev zones : List ℕ
   zones = zonesBytes limits (storedTable t)
 
-  -- 1 or 2, or what is answered behind them
-  abbrev either : Bool → Outcome
-  either x =
-      cond (not x) (plain own 0) (cond (ltb (length w) (length zones)) (plain 28 0) (plain 0 (length zones)))
+  writes-zones : (o : Outcome) (v : List ℕ) → filledWith o v ≡ filling (standingRule own ∷ []) zones w
+      → WritesZonesIn c t w o v
+  unfolding writeZones
+  writes-zones o v q = record {
+    answer = ap (λ (f : Filled). f .outcome) q;
+    buffer = ap (λ (f : Filled). f .buffer) q;
+  }
 
   pub zones-refused : (n ≡ 0 → ⊥) → WritesZonesIn c t w (record { number = n; place = 0; inner = 0 }) w
-  unfolding writeZones fillAnswer firstRule
   zones-refused ne =
-      let q : eqb own 0 ≡ false = ne-eqb own 0 (λ z. ne (e ∙ z)) in record {
-        answer = (λ i. plain (e i) 0) ∙ sym (ap either q);
-        buffer = sym (leaves-all _ zones w (λ z. ne (e ∙ sym (ap (λ (x : Bool). either x .number) q) ∙ z)));
-      }
+      writes-zones _ w (ap (λ (k : ℕ). filledWith (plain k 0) w) e ∙ own-refused zones w own (λ z. ne (e ∙ z)))
 
-  pub zones-filled : n ≡ 0 → (o : Outcome) (v : List ℕ) → FilledIn zones w o v → WritesZonesIn c t w o v
-  unfolding writeZones fillAnswer firstRule
-  zones-filled z o v f =
-      let q : eqb own 0 ≡ true = eq-eqb own 0 (sym e ∙ z) in record {
-        answer = f .answer ∙ sym (ap either q);
-        buffer = f .buffer ∙ filled-leaves zones w ∙ sym (ap (λ (x : Bool). fillLeaves (either x) zones w) q);
-      }
+  pub zones-filled : n ≡ 0 → (o : Outcome) (v : List ℕ) → filledWith o v ≡ filling [] zones w → WritesZonesIn c t w o v
+  zones-filled z o v f = writes-zones o v (f ∙ own-passed zones w own (sym e ∙ z))
 
 -- ---- the whole
 -- the first of three, with more behind the third where it is a refusal
@@ -253,11 +212,13 @@ module _ (c t : List ℕ) (e : ℕ) (r w : List ℕ) where
           answer-as ne
           ∙ rw (zeros .0, zeros .1 .0, not-holds _ (ended-zero R (zeros .1 .1)))
 
-      pub writes-filled : (p : Outcome) (v : List ℕ) → FilledIn (planIn c u e r) w p v → WritesIn c t e r w p u v
-      unfolding writeBy Answer behind b
+      pub writes-filled : (p : Outcome) (v : List ℕ) → filledWith p v ≡ filling [] (planIn c u e r) w
+          → WritesIn c t e r w p u v
+      unfolding writeBy fillAnswer firstRule Answer behind b
       writes-filled p v g =
-          let h : FilledIn (planIn c t e r) w p v = subst (λ (x : List ℕ). FilledIn (planIn c x e r) w p v) eu g in record {
-            answer = h .answer ∙ sym answer-behind;
-            buffer = h .buffer ∙ filled-leaves b w ∙ ap (λ (x : Outcome). fillLeaves x b w) (sym answer-behind);
+          let h : filledWith p v ≡ filling [] (planIn c t e r) w =
+          g ∙ ap (λ (x : List ℕ). filling [] (planIn c x e r) w) eu in record {
+            answer = ap (λ (f : Filled). f .outcome) h ∙ sym answer-behind;
+            buffer = ap (λ (f : Filled). f .buffer) h ∙ ap (λ (x : Outcome). fillLeaves x b w) (sym answer-behind);
             table = eu;
           }

@@ -3,8 +3,8 @@ use Prim.Native.Nat.{ℕ, _+_, _*_, _^_, _≤_, _<_}
 use mathlib.Core.Bool.{cond}
 use mathlib.Core.List.{List, _++_}
 use mathlib.Core.Path.{_≡_}
-use lib.Dec.{ltb, eqb}
-use lib.ListN.{length, getD, drop}
+use lib.Dec.{eqb}
+use lib.ListN.{length, getD}
 use Rattle.lists.specs.Bytes.{bytesOf}
 use Rattle.formats.specs.Formats.{writeMany}
 use Rattle.rules.specs.Applying.{plain, Terminal}
@@ -54,11 +54,6 @@ unfoldable pub noNext : List ℕ → List ℕ → Outcome
 noNext c t =
     cond (eqb (standing limits (storedConfig c) (storedTable t)) 0) (plain 25 0)
     (plain (standing limits (storedConfig c) (storedTable t)) 0)
-
--- the bytes b into the buffer w, which is then v: nothing but 28 refuses
-pub record FilledIn (b w : List ℕ) (o : Outcome) (v : List ℕ) : Type 0 where
-  pub answer : o ≡ cond (ltb (length w) (length b)) (plain 28 0) (plain 0 (length b))
-  pub buffer : v ≡ cond (ltb (length w) (length b)) w (b ++ drop (length b) w)
 
 -- a count in word k and as many regions from word a on, as bytes
 unfoldable pub setBytes : List ℕ → ℕ → ℕ → List ℕ

@@ -5,12 +5,14 @@ use rules::numbers::BUFFER_SHORT;
 use zones::CONFIG_WORDS;
 use zones::TABLE_WORDS;
 use zones::standing;
+ghost use mathlib.Core.List.{[]};
 ghost use mathlib.Core.Path.{_≡_};
 ghost use Rattle.rules.specs.Differing.{zonesBytes};
+ghost use Rattle.rules.specs.Filling.{filling};
 ghost use Rattle.rules.specs.Limits.{limits};
 ghost use Rattle.zones.specs.Kept.{Stands};
 ghost use Rattle.zones.specs.View.{storedTable};
-ghost use Rattle.writer.specs.Writer.{FilledIn, WritesZonesIn};
+ghost use Rattle.writer.specs.Writer.{WritesZonesIn};
 
 // 1, 2, 28, or 0 with how many bytes the section has. A refusal changes no byte of the buffer.
 pub fn write_zones(
@@ -38,7 +40,7 @@ fn fill_zones(
     buffer: &mut [u8],
 ) -> Outcome
     requires { ⌜ Stands (now config) (now table) ⌝ }
-    ensures { λ r. ⌜ FilledIn (zonesBytes limits (storedTable (now (table .entry)))) (now (buffer .entry)) r (now (buffer .exit)) ⌝ }
+    ensures { λ r. ⌜ record { outcome = r; buffer = now (buffer .exit) } ≡ filling [] (zonesBytes limits (storedTable (now (table .entry)))) (now (buffer .entry)) ⌝ }
 {
     let mut nowhere = [0u8; 0];
     let length = put_zones(&mut nowhere, 0, table);

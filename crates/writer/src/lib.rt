@@ -14,12 +14,14 @@ use zones::count_words;
 use zones::standing;
 use zones::try_in;
 ghost use Prim.Native.Nat.{_/_, _≤_};
+ghost use mathlib.Core.List.{[]};
 ghost use mathlib.Core.Path.{_≡_};
 ghost use lib.ListN.{length};
+ghost use Rattle.rules.specs.Filling.{filling};
 ghost use Rattle.rules.specs.Limits.{mostRequests};
 ghost use Rattle.rules.specs.Run.{requestSize};
 ghost use Rattle.zones.specs.Kept.{Stands};
-ghost use Rattle.writer.specs.Writer.{planIn, noNext, FilledIn, WritesIn};
+ghost use Rattle.writer.specs.Writer.{planIn, noNext, WritesIn};
 
 const LAST_EDITION: u32 = u32::MAX;
 
@@ -72,7 +74,7 @@ fn fill(
     buffer: &mut [u8],
 ) -> Outcome
     requires { ⌜ Stands (now config) (now table) × (length (now requests) / requestSize ≤ mostRequests) ⌝ }
-    ensures { λ r. ⌜ FilledIn (planIn (now (config .entry)) (now (table .entry)) edition (now (requests .entry))) (now (buffer .entry)) r (now (buffer .exit)) ⌝ }
+    ensures { λ r. ⌜ record { outcome = r; buffer = now (buffer .exit) } ≡ filling [] (planIn (now (config .entry)) (now (table .entry)) edition (now (requests .entry))) (now (buffer .entry)) ⌝ }
 {
     let mut nowhere = [0u8; 0];
     let length = put_plan(config, table, edition, requests, &mut nowhere);

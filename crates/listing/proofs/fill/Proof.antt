@@ -1,6 +1,6 @@
 -- The length comes from where the listing ends in no bytes; then it is put, or 28.
 use borrow.Author.Needs.{needs}
-use Rattle.listing.proofs.Listing.{fill-short, fill-done}
+use Rattle.writer.proofs.Filling.{fill-short, fill-done}
 use Rattle.listing.proofs.fill.Statement.{statement}
 use Rattle.listing.proofs.fill.Tie as tie
 

@@ -1,6 +1,6 @@
 -- The length comes from where the plan ends in no bytes; then it is put, or 28.
 use borrow.Author.Needs.{needs}
-use Rattle.writer.proofs.Writing.{fill-short, fill-done}
+use Rattle.writer.proofs.Filling.{fill-short, fill-done}
 use Rattle.writer.proofs.fill.Statement.{statement}
 use Rattle.writer.proofs.fill.Tie as tie
 

@@ -1,30 +1,22 @@
 -- A delivery in pieces is a delivery of the whole: piece calls in turn leave what the rules' piece calls leave, and
 -- however they were cut the end call answers for the whole bytes.
-use Prim.Native.Nat.{ℕ, _≤_}
+use Prim.Native.Nat.{ℕ}
 use mathlib.Core.List.{List, [], _∷_}
-use mathlib.Core.Logic.{inl, inr}
-use mathlib.Core.Path.{_≡_, refl, sym, ap, subst, _∙_}
-use native.Mathlib.Omega.{arith}
-use lib.ListN.{length}
+use mathlib.Core.Path.{_≡_, refl, ap, _∙_}
 use Rattle.lists.specs.Runs.{none, call, runs, InTurn}
-use Rattle.lists.proofs.Runs.{in-turn}
 use Rattle.rules.specs.Applying as rules
-use Rattle.rules.specs.Applying.{apply}
 use Rattle.rules.specs.Limits.{limits}
 use Rattle.rules.specs.Receiving.{noBytes, received, takePiece}
-use Rattle.rules.specs.Sizes.{longestSize}
 use Rattle.rules.specs.declared.Outcome.{Outcome}
-use Rattle.rules.specs.declared.Receiver.{Receiver}
-use Rattle.promises.specs.Receiving.{took, tookAll, joined, Receipt}
+use Rattle.promises.specs.Receiving.{took, tookAll, Receipt}
 use Rattle.promises.proofs.Receiving.{came-whole, still-long}
 use Rattle.plan.specs.Applying.{terminalIn, inWords, applied}
 use Rattle.plan.specs.Deliveries.{Called}
 use Rattle.plan.specs.declared.applying.Applied.{Applied}
 use Rattle.plan.specs.declared.applying.State.{State}
 use Rattle.plan.proofs.Deliveries.{faithful}
-use Rattle.receiver.specs.Words.{endedIn, TakesIn, EndedWords}
+use Rattle.receiver.specs.Words.{endedIn, EndedWords}
 use Rattle.receiver.proofs.Calls.{ended-enough}
-use Rattle.demands.specs.Following.{Code, Meets}
 use Rattle.demands.specs.Pieces.{PieceCall, PiecesAreFaithful, ReceiverIsEmptied, PiecesMeet, PiecesFollow}
 use Rattle.demands.specs.Pieces.{PiecesDeliver, InPieces}
 use Rattle.demands.proofs.Following.{code-follows}

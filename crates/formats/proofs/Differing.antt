@@ -9,7 +9,7 @@ use lib.ListN.{length, getD, drop}
 use Rattle.lists.specs.Alike.{alike, SameAt, FirstLack}
 use Rattle.lists.specs.Bytes.{Bytes}
 use Rattle.lists.proofs.Alike.{alike-is, alike-out, one-lack}
-use Rattle.formats.specs.Formats.{Out, got, left, Format}
+use Rattle.formats.specs.Formats.{got, left, Format}
 use Rattle.formats.proofs.Formats.{Lawful}
 
 module _ {A : Type 0} (F : Format A) (Fits : A → Type 0) (law : Lawful F Fits) where

@@ -121,25 +121,6 @@ width-most (suc m) n (suc k) s h =
     positive zero h a = absurd (omega arith)
     positive (suc j) h a = omega arith
 
-width-full : (m n : ℕ) → 1 < widthWithin m n → 10 ^ (widthWithin m n - 1) ≤ n
-width-full zero n h = absurd (omega (arith, width-none n))
-width-full (suc m) n h =
-    elim (decLt n 10) [
-      | yes a ↦ absurd (omega (arith, width-one m n a))
-      | no a ↦
-          rw (width-more m n (omega arith))
-          (step (widthWithin m (n / 10)) (width-some m (n / 10)) (width-full m (n / 10)) (omega arith))
-    ]
-  where
-    step : (w : ℕ) → 1 ≤ w → (1 < w → 10 ^ (w - 1) ≤ n / 10) → 10 ≤ n → 10 ^ (suc w - 1) ≤ n
-    step zero s f a = absurd (omega arith)
-    step (suc zero) s f a = omega arith
-    step (suc (suc w)) s f a =
-        let d : suc (suc w) - 1 ≡ suc w = omega arith in
-        let g : 10 ^ suc w ≤ n / 10 = rw d at (f (omega arith)) in
-        let e : suc (suc (suc w)) - 1 ≡ suc (suc w) = omega arith in
-        rw e (omega arith)
-
 -- the width is the fewest digits that hold the number, and the only such
 pub width-fits : (n : ℕ) → n < 10 ^ width n
 unfolding width
@@ -192,14 +173,7 @@ unfolding digits
 digits-front b zero n = omega (arith, glyph-least (n % b))
 digits-front b (suc k) n = front-join 48 (digits b (suc k) (n / b)) (glyph (n % b) ∷ []) (digits-front b k (n / b))
 
-digits-lead : (k n : ℕ) → 10 ^ k ≤ n → n < 10 ^ suc k → Front 49 (digits 10 (suc k) n)
-unfolding digits
-digits-lead zero n h l = omega (arith, glyph-least (n % 10))
-digits-lead (suc k) n h l =
-    front-join 49 (digits 10 (suc k) (n / 10)) (glyph (n % 10) ∷ [])
-    (digits-lead k (n / 10) (omega arith) (omega arith))
-
--- it begins with a digit, and with no zero unless the number is 0
+-- it begins with a digit
 pub decimal-front : (n : ℕ) → Front 48 (decimal n)
 unfolding decimal width
 decimal-front n = at (widthWithin n n) (width-some n n)
@@ -207,16 +181,6 @@ decimal-front n = at (widthWithin n n) (width-some n n)
     at : (w : ℕ) → 1 ≤ w → Front 48 (digits 10 w n)
     at zero h = absurd (omega arith)
     at (suc w) h = digits-front 10 w n
-
-pub decimal-lead : (n : ℕ) → 0 < n → Front 49 (decimal n)
-unfolding decimal width
-decimal-lead n s = at (widthWithin n n) (width-some n n) (width-holds n n (omega arith)) (width-full n n)
-  where
-    at : (w : ℕ) → 1 ≤ w → n < 10 ^ w → (1 < w → 10 ^ (w - 1) ≤ n) → Front 49 (digits 10 w n)
-    at zero h l f = absurd (omega arith)
-    at (suc zero) h l f = digits-lead 0 n (omega arith) l
-    at (suc (suc w)) h l f =
-        let d : suc (suc w) - 1 ≡ suc w = omega arith in digits-lead (suc w) n (rw d at (f (omega arith))) l
 
 read-positive : (cs : List ℕ) → Front 48 cs → readSigned cs ≡ pos (readDecimal cs)
 unfolding readSigned

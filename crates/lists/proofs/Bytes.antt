@@ -2,7 +2,7 @@
 use Prim.Native.Nat.{ℕ, zero, suc, _+_, _*_, _/_, _%_, _^_, _<_}
 use native.Mathlib.Decide.{decLt}
 use native.Mathlib.Omega.{arith}
-use mathlib.Core.List.{List, [], _∷_, _++_}
+use mathlib.Core.List.{List, [], _∷_}
 use mathlib.Core.Path.{_≡_, refl, sym, ap, ap₂, _∙_}
 use lib.ListN.{length, getD, take, List·getD-eq-default}
 use Rattle.lists.specs.Bytes.{little, bytesOf, Bytes}
@@ -49,11 +49,6 @@ little-below (x ∷ xs) h =
     let b : x < 256 = h 0 in
     let r : little xs < 256 ^ length xs = little-below xs (λ i. h (suc i)) in
     omega (arith, one-more (length xs))
-
-pub little-append : (xs ys : List ℕ) → little (xs ++ ys) ≡ little xs + 256 ^ length xs * little ys
-unfolding little
-little-append [] ys = omega arith
-little-append (x ∷ xs) ys = rw (one-more (length xs)) (omega (arith, little-append xs ys))
 
 -- the number that stands among bytes, its lowest byte first; past the end bytes count as 0
 pub little-part : (k n : ℕ) (b : List ℕ) → little (part k (suc n) b) ≡ getD b k 0 + 256 * little (part (k + 1) n b)

@@ -5,7 +5,7 @@ use mathlib.Core.List.{List, [], _∷_}
 use mathlib.Core.Path.{_≡_, refl, sym, ap, subst, _∙_}
 use lib.ListN.{length, set}
 use lib.Seq.{sets}
-use Rattle.formats.specs.Formats.{Out, got, bad, then, Format, readNumber, readBoth, readAs, both, readMany, readCount}
+use Rattle.formats.specs.Formats.{Out, got, bad, then, Format, readNumber, readBoth, readAs, readMany, readCount}
 use Rattle.formats.specs.Formats.{readHeaded, listed, number}
 use Rattle.formats.proofs.Formats.{many-got}
 use Rattle.rules.specs.Limits.{mostInSet, mostZones, limits}

@@ -1,6 +1,6 @@
 -- Where bases differ: the part begins where the two stretches stop being alike; two sections that are not equal do so at a byte of
 -- both, by the format's laws; and 26 is answered only where zones, and so their sections, are not equal.
-use Prim.Native.Nat.{ℕ, _-_, _≤_, _<_}
+use Prim.Native.Nat.{ℕ, _-_, _≤_}
 use native.Mathlib.Omega.{arith}
 use mathlib.Core.Bool.{Bool, true, false, cond, not}
 use mathlib.Core.List.{List, [], _∷_, _++_}
@@ -10,7 +10,6 @@ use borrow.Author.Tests.{ltb-true, ltb-false, lt-ltb, le-ltb, eqb-true, eqb-fals
 use lib.Dec.{ltb, eqb}
 use lib.ListN.{length, getD, drop, length-drop, drop-of-length-le}
 use Rattle.lists.specs.Alike.{alike, FirstLack}
-use Rattle.lists.specs.Bytes.{Bytes}
 use Rattle.lists.specs.Lines.{FirstOf, Exactly}
 use Rattle.lists.specs.Rules.{_when_, firstRule, Rule}
 use Rattle.lists.proofs.Alike.{alike-is, one-lack, alike-out, alike-begun}
@@ -22,7 +21,7 @@ use Rattle.rules.specs.Configuration.{configOf, check, isSound, StoredConfig}
 use Rattle.rules.specs.Differing.{zonesBytes, writeZones, zonesOf, lackingPart}
 use Rattle.rules.specs.Filling.{fillAnswer}
 use Rattle.rules.specs.Limits.{Limits}
-use Rattle.rules.specs.Plan.{requestsOf, zonesSection, planFormat, readPlan, Plan}
+use Rattle.rules.specs.Plan.{requestsOf, zonesSection, readPlan, Plan}
 use Rattle.rules.specs.Requests.{standingRules, standing}
 use Rattle.rules.specs.Tables.{checkTable, tableOf, Zone, StoredTable}
 use Rattle.rules.specs.declared.Outcome.{Outcome}
@@ -32,7 +31,7 @@ use Rattle.rules.proofs.Plan.{lawful-zones}
 use Rattle.promises.specs.Answers.{standingLines, AtTerminal, twenty, twentyOne, twentyTwo, reads, Reading}
 use Rattle.promises.specs.Answers.{allAccepted, twentySeven, Ends}
 use Rattle.promises.specs.Differing.{TwentySixIsShown, short, fits, Told, ZonesAreWritten}
-use Rattle.promises.specs.Differing.{partAt, PartsAre, PartIs, IsSection, BothHave, SectionsDiffer, SectionsOf}
+use Rattle.promises.specs.Differing.{partAt, PartsAre, SectionsDiffer, SectionsOf}
 use Rattle.promises.proofs.Answers.{apply-is-exact, standing-exactly}
 use Rattle.promises.proofs.Filling.{filled}
 

@@ -20,7 +20,7 @@ use Rattle.formats.proofs.Bounds.{stopped, judged-back, judged-both, judged-as,
 use Rattle.formats.proofs.Formats.{only-one, count-refused, lawful-number}
 use Rattle.formats.proofs.Sizes.{sized-listed}
 use Rattle.rules.specs.Applying.{plain, applyRead, apply, Terminal}
-use Rattle.rules.specs.Limits.{firstFormat, secondFormat, markCount, limits, Limits, Sayable}
+use Rattle.rules.specs.Limits.{markCount, limits, Limits, Sayable}
 use Rattle.rules.specs.Plan.{short, regionField, askedField, marksTo, marksFrom, marksSection, regionsSection, setFormat, zoneTo, zoneFrom, zoneFormat, zonesSection, requestsSection, planTo, planFrom, planFormat, readPlan, encode, Short, RegionFits, AskedFits, MarksFit, SetFits, ZoneFits, PlanFits, Asked, Marks, Plan}
 use Rattle.rules.specs.Requests.{after, standing}
 use Rattle.rules.specs.Regions.{noRegion}
@@ -32,7 +32,7 @@ use Rattle.rules.proofs.Computing.{listParts, checkParts, tableParts, requestPa
 use Rattle.rules.proofs.Plan.{lawful-region-field, lawful-asked, lawful-marks, read-encoded, no-slack, encoded-bytes}
 use Rattle.rules.proofs.Planner.{limits-sayable}
 use Rattle.rules.proofs.Sizes.{sized-region, sized-list, sized-marks, sized-set, sized-zone, encoded-length, counts-fit}
-use Rattle.promises.specs.Families.{Refuses21, setsAbove, countsAbove, AboveIsRefused, WithinIsRead, gicOnly, MetWith, oneMore, AboveIsMet, WithinIsMet, oldLimits, ManyRegions, ManyZones, AsBefore, OldTerminalsRefuse, OldTerminalsMeet, OtherCountRefused, OtherFormatRefused, FormatsAreApart, FormatsShown, WidePagesShown, Meets}
+use Rattle.promises.specs.Families.{Refuses21, setsAbove, countsAbove, AboveIsRefused, WithinIsRead, gicOnly, MetWith, oneMore, AboveIsMet, WithinIsMet, oldLimits, ManyRegions, ManyZones, AsBefore, OldTerminalsRefuse, OldTerminalsMeet, OtherCountRefused, OtherFormatRefused, FormatsAreApart, FormatsShown, WidePagesShown}
 
 -- a terminal that stands well answers what its reader refuses, at its place
 refuses : (l : Limits) (s : Terminal) (b t : List ℕ) (place : ℕ) → standing l (s .config) (s .table) ≡ 0

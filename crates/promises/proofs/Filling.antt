@@ -1,5 +1,5 @@
 -- A filler that answers 0 has filled the buffer: none of its refusals applied and its bytes fit, so they stand at the start.
-use Prim.Native.Nat.{ℕ, _≤_}
+use Prim.Native.Nat.{ℕ}
 use native.Mathlib.Omega.{arith}
 use mathlib.Core.List.{List, _++_}
 use mathlib.Core.Path.{_≡_, refl, ap, _∙_}

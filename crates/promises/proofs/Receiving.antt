@@ -3,12 +3,12 @@
 use Prim.Native.Nat.{ℕ, _+_, _-_, _≤_, _<_, min}
 use native.Mathlib.Decide.{decLt}
 use native.Mathlib.Omega.{arith}
-use mathlib.Core.Bool.{Bool, true, false, cond, not, _||_}
+use mathlib.Core.Bool.{Bool, true, false, cond}
 use mathlib.Core.List.{List, [], _∷_, _++_, flatMap, append-assoc, append-nil}
 use mathlib.Core.Path.{_≡_, refl, sym, ap, subst, _∙_}
 use borrow.Author.Tests.{ltb-false, eqb-false, lt-ltb, le-ltb}
 use lib.Dec.{ltb, eqb}
-use lib.ListN.{length, take, drop, length-append, length-take, length-drop, take-append-drop}
+use lib.ListN.{length, take, drop, length-append, length-drop, take-append-drop}
 use lib.Seq.{length-take-le, take-append-le, take-append-add, take-length, paste, paste-zero, length-paste, take-paste}
 use lib.Seq.{drop-paste, take-at}
 use Rattle.lists.specs.Rules.{firstRule}
@@ -21,7 +21,6 @@ use Rattle.rules.specs.Receiving.{noBytes, full, isOver, storedIn, isShort, fit
 use Rattle.rules.specs.Receiving.{endPieces, Taken, Ended}
 use Rattle.rules.specs.Requests.{standing}
 use Rattle.rules.specs.Sizes.{longestSize}
-use Rattle.rules.specs.declared.Outcome.{Outcome}
 use Rattle.rules.specs.declared.Receiver.{Receiver}
 use Rattle.rules.proofs.Plan.{plan-refuses, plan-ends}
 use Rattle.rules.proofs.Receiving.{followed, read-followed, stored-most, fitting-room, fitting-part}

@@ -1,5 +1,4 @@
 -- Rights: a sound table has none in excess, and requests and plans leave sound tables.
-use Prim.Native.Nat.{ℕ}
 use mathlib.Core.Bool.{true, true≢false}
 use mathlib.Core.List.{List}
 use mathlib.Core.Path.{_≡_, sym, _∙_}

@@ -19,12 +19,11 @@ use Rattle.lists.proofs.Every.{all-at, all-make, all-below, all-below-make, all
 use Rattle.lists.proofs.Every.{any-at, any-make, any-append, none-at, none-make, none-all}
 use Rattle.lists.proofs.Pairs.{pairs-at, pairs-make}
 use Rattle.lists.proofs.Room.{length-room, room-read}
-use Rattle.lists.proofs.Tests.{true-both, false-both, holds-or-fails, false-of, not-fails, parts, whole, Holds}
+use Rattle.lists.proofs.Tests.{false-both, holds-or-fails, false-of, not-fails, parts, whole, Holds}
 use Rattle.rules.specs.Limits.{highestId, Limits, pageOf}
 use Rattle.rules.specs.Configuration.{gicOf, configOf, check, isSound, Configuration, StoredConfig}
-use Rattle.rules.specs.Regions.{wellFormed, mayWrite, mayExecute, inReach, regionEq, physOverlap, guestOverlap}
+use Rattle.rules.specs.Regions.{wellFormed, inReach, regionEq, physOverlap, guestOverlap}
 use Rattle.rules.specs.Regions.{noRegion, used}
-use Rattle.rules.specs.Requests.{next}
 use Rattle.rules.specs.Tables.{noZone, noStored, sideOf, regionsOf, setOf, zoneOf, tableOf, restZero, zeroSet, tidyZone}
 use Rattle.rules.specs.Tables.{zeroZone, tidy, configured, guestApart, offGic, clash, soundSet, soundZone, idsDiffer}
 use Rattle.rules.specs.Tables.{excessive, modest, zonesApart, sound, checkTable, Zone, StoredSet, StoredTable}
@@ -35,7 +34,7 @@ use Rattle.rules.specs.declared.Side.the-variants.{Cpu, Iommu}
 use Rattle.rules.proofs.Addresses.{overlap-shared, overlap-symmetric}
 use Rattle.rules.proofs.Configuration.{c1-faulty, c2-faulty, sound-is, sound-answer, gives-c1, gives-c2, passed}
 use Rattle.rules.proofs.Configuration.{SoundConfiguration}
-use Rattle.rules.proofs.Keeps.{clash-symmetric, sound-parts, parts-sound, next-keeps}
+use Rattle.rules.proofs.Keeps.{clash-symmetric, parts-sound}
 use Rattle.rules.proofs.Regions.{equal-same, equal-refl}
 use Rattle.rules.proofs.Stored.{length-table, zone-read}
 use Rattle.rules.proofs.Tables.{configured-at}

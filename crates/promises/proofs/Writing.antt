@@ -9,8 +9,7 @@ use mathlib.Core.Logic.{⊎-elim}
 use mathlib.Core.Path.{_≡_, refl, sym, ap, _∙_}
 use borrow.Author.Tests.{ltb-true, ltb-false, lt-ltb, le-ltb, eq-eqb, ne-eqb}
 use lib.Dec.{ltb, eqb}
-use lib.ListN.{length, take, drop, length-append, length-drop, length-map}
-use lib.Seq.{take-at, drop-at}
+use lib.ListN.{length, take, drop, length-map}
 use Rattle.lists.specs.Lines.{Exactly}
 use Rattle.lists.specs.Rules.{firstRule, _when_}
 use Rattle.lists.proofs.Lines.{exactly, exactly-of, first-of, all, _and_}

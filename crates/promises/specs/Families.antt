@@ -10,7 +10,7 @@ use Rattle.lists.specs.Bytes.{bytesOf, Bytes}
 use Rattle.lists.specs.Room.{room}
 use Rattle.lists.specs.Rules.{_when_, Silent, Rule, Applies}
 use Rattle.formats.specs.Formats.{got}
-use Rattle.formats.specs.Sizes.{total, along}
+use Rattle.formats.specs.Sizes.{along}
 use Rattle.rules.specs.Applying.{store, plain, apply, storeConfig, Applied, Terminal}
 use Rattle.rules.specs.Configuration.{configOf, check, StoredConfig}
 use Rattle.rules.specs.Desk.{usual, A, G, wholePlan, deskTerminal}

@@ -9,7 +9,7 @@ use borrow.Author.Tests.{lt-ltb, le-ltb, eq-eqb, ne-eqb}
 use lib.Dec.{ltb, eqb}
 use lib.ListN.{length, getD, take, drop, set, length-set}
 use lib.Seq.{paste, paste-zero, paste-suc, length-take-le}
-use Rattle.lists.specs.Rules.{_when_, firstRule}
+use Rattle.lists.specs.Rules.{firstRule}
 use Rattle.formats.specs.Formats.{Out, got, bad}
 use Rattle.rules.specs.Applying.{plain}
 use Rattle.rules.specs.Limits.{limits}
@@ -30,9 +30,7 @@ use Rattle.rules.specs.Receiving.{full, noBytes, isOver, storedIn, isShort, fit
 use Rattle.rules.specs.Receiving.{Taken}
 use Rattle.rules.specs.Sizes.{longestSize}
 use Rattle.receiver.specs.Words.{overNumber, overPlace, overAway, endedIn, TakesIn, EndedWords, EndsIn}
-use Rattle.receiver.specs.declared.Ending.{Ending}
 use Rattle.rules.specs.declared.Receiver.{Receiver}
-use Rattle.receiver.specs.declared.Taking.{Taking}
 use Rattle.receiver.proofs.Reading.{over-read}
 
 -- the longest plan

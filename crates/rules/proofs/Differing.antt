@@ -1,21 +1,19 @@
 -- Sections of zones: a plan's is what the format writes of its zones, since the plan is what the format writes of all it says; and
 -- the zones of a state that stands can be written.
 use Prim.Native.Nat.{ℕ, _+_}
-use native.Mathlib.Omega.{arith}
 use mathlib.Core.List.{List, [], _++_, append-nil}
-use mathlib.Core.Path.{_≡_, refl, sym, ap, _∙_}
+use mathlib.Core.Path.{_≡_, sym, ap, _∙_}
 use lib.ListN.{length, take, drop}
 use lib.Seq.{take-at, drop-at, drop-drop}
 use Rattle.lists.specs.Bytes.{Bytes}
-use Rattle.formats.specs.Formats.{Out, got, Format, readBoth, writeBoth, both}
-use Rattle.rules.specs.Applying.{Terminal}
+use Rattle.formats.specs.Formats.{got, writeBoth}
 use Rattle.rules.specs.Configuration.{configOf, StoredConfig}
 use Rattle.rules.specs.Differing.{zonesBytes, zonesPart, zonesOf}
 use Rattle.rules.specs.Limits.{Limits, Sayable}
-use Rattle.rules.specs.Plan.{marksSection, regionsSection, zonesSection, requestsSection, encode, readPlan, ZoneFits, Plan}
+use Rattle.rules.specs.Plan.{marksSection, regionsSection, zonesSection, requestsSection, encode, readPlan, Plan}
 use Rattle.rules.specs.Requests.{standing}
 use Rattle.rules.specs.Sizes.{marksSize, regionsSize, zonesSize, zonesAt}
-use Rattle.rules.specs.Tables.{tableOf, Zone, StoredTable}
+use Rattle.rules.specs.Tables.{tableOf, StoredTable}
 use Rattle.rules.proofs.Plan.{no-slack, lawful-zones, spelled-zones}
 use Rattle.rules.proofs.Planner.{zones-fit}
 use Rattle.rules.proofs.Sizes.{sized-marks, sized-regions, sized-zones}

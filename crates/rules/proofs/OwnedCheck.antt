@@ -243,14 +243,6 @@ module _ (lim : Limits) where
         (gic-position lim (o .config) (ok .config) (place r) (place-within r e) (sym (place-holds r e) ∙ g))
         ∙ ok .gic
 
-    -- every other's is one
-    pub other-owned : (r : Region) → configured (o .config) r ≡ true → (r ≡ gicOf (o .config) → ⊥)
-        → ownerOf o r ≤ highestId
-    unfolding ownerOf gicOf
-    other-owned r e ne =
-        ok .ids (place r) (place-within r e)
-        (λ q. ne (place-holds r e ∙ ap (λ (i : ℕ). getD (o .config .regions) i noRegion) q))
-
   -- and so as it is stored
   pub owner-stored : (s : StoredOwned) (full : length (s .config .records) ≡ lim .regions)
       (e : ownedCheck lim s ≡ Plain Sound) (i : ℕ) → i < s .config .count

@@ -10,13 +10,10 @@ use lib.ListN.{length, getD, drop, length-drop}
 use lib.Seq.{drop-cons}
 use Rattle.lists.proofs.Tests.{false-of}
 use Rattle.rules.specs.Applying.{sameList}
-use Rattle.rules.proofs.Applying.{same-list, list-same}
+use Rattle.rules.proofs.Applying.{same-list}
 
 pub same-words : (a b : List ℕ) → sameList eqb a b ≡ true → a ≡ b
 same-words = same-list eqb (λ x y. eqb-true x y)
-
-pub words-same : (a : List ℕ) → sameList eqb a a ≡ true
-words-same = list-same eqb (λ x. eq-eqb x x refl)
 
 -- not as many
 pub not-as-many : (a b : List ℕ) → (length a ≡ length b → ⊥) → false ≡ sameList eqb a b

@@ -1,6 +1,6 @@
 -- The words of a configuration and of a table hold what they were made of:
 -- counted lists one behind the other, each read back where it stands.
-use Prim.Native.Nat.{ℕ, suc, _+_, _*_, _≤_}
+use Prim.Native.Nat.{ℕ, suc, _+_, _*_}
 use native.Mathlib.Nat.{suc-mul}
 use native.Mathlib.Omega.{arith}
 use mathlib.Core.List.{List, [], _∷_, _++_, flatMap, map, map-map, append-assoc, append-nil}
@@ -10,22 +10,20 @@ use lib.Seq.{getD-at}
 use Rattle.lists.specs.Places.{places, tab}
 use Rattle.lists.specs.Room.{room}
 use Rattle.lists.specs.Words.{counted}
-use Rattle.lists.proofs.Places.{tab-cons, length-tab}
+use Rattle.lists.proofs.Places.{tab-cons}
 use Rattle.lists.proofs.Room.{length-room, room-tab}
-use Rattle.lists.proofs.Words.{part-cons, part-all, parts-flat}
 use Rattle.rules.specs.Applying.{storeSet, storeZone, store, storeConfig}
-use Rattle.rules.specs.Configuration.{configOf, Configuration}
+use Rattle.rules.specs.Configuration.{Configuration}
 use Rattle.rules.specs.Limits.{mostRegions, mostZones, mostInSet, limits}
 use Rattle.rules.specs.Regions.{noRegion}
 use Rattle.rules.specs.Tables.{noZone, unusedZone, Zone, StoredZone}
 use Rattle.rules.specs.declared.Region.{Region}
-use Rattle.rules.proofs.Stored.{config-stored, config-back}
-use Rattle.zones.specs.Layout.{regionWords, configWords, configRecords, setWords, zoneWords, zoneBase, setBase}
+use Rattle.zones.specs.Layout.{regionWords, configRecords, setWords, zoneWords, zoneBase, setBase}
 use Rattle.zones.specs.Records.{regionAt, wordsOfRegion, recordAt, recordsAt}
-use Rattle.zones.specs.View.{storedConfig, configIn, ConfigPassed, storedSet, storedZone, storedTable, allRecords}
+use Rattle.zones.specs.View.{storedConfig, storedSet, storedZone, storedTable}
 use Rattle.zones.specs.Words.{wordsOfSet, wordsOfZone, wordsOf, wordsOfConfig}
 use Rattle.zones.proofs.Focus.{set-wide, zone-wide}
-use Rattle.zones.proofs.Records.{region-wide, region-read, region-part}
+use Rattle.zones.proofs.Records.{region-wide, region-read}
 
 -- records among words
 records-spelled : (rs : List Region) (pre post : List ℕ) (k : ℕ) → length pre ≡ k
@@ -61,26 +59,6 @@ config-view c =
     (sym n)
     ∙ records-spelled rs pre [] configRecords refl in
     (λ i. record { count = length (c .regions); gic = c .gic; records = e i })
-
-pub config-in : (c : Configuration) → length (c .regions) ≤ mostRegions → configIn (wordsOfConfig c) ≡ c
-config-in c h = ap configOf (config-view c) ∙ config-back limits c h
-
--- words of the right length are spelled by what is stored in them
-all-spelled : (w : List ℕ) → length w ≡ configWords → w ≡ getD w 0 0 ∷ getD w 1 0 ∷ flatMap wordsOfRegion (allRecords w)
-unfolding recordsAt recordAt
-all-spelled w l =
-    sym (part-all configWords w l)
-    ∙ part-cons 0 (1 + mostRegions * regionWords) w 0 (omega arith)
-    ∙ ap (λ (x : List ℕ). getD w 0 0 ∷ x) (part-cons 1 (mostRegions * regionWords) w 0 (omega arith))
-    ∙ ap (λ (x : List ℕ). getD w 0 0 ∷ getD w 1 0 ∷ x)
-    (parts-flat wordsOfRegion regionWords w mostRegions (recordAt w configRecords) configRecords
-    (λ i h. region-part w (configRecords + i * regionWords) (omega arith)))
-
-pub config-spelled : (w : List ℕ) → length w ≡ configWords → ConfigPassed w → w ≡ wordsOfConfig (configIn w)
-unfolding wordsOfConfig recordsAt
-config-spelled w l ok =
-    let s = config-stored limits (storedConfig w) (length-tab mostRegions (recordAt w configRecords)) ok in
-    all-spelled w l ∙ (λ i. s i .count ∷ s i .gic ∷ flatMap wordsOfRegion (s i .records))
 
 -- ---- a table
 set-spelled : (xs : List Region) (pre post : List ℕ) (b : ℕ) → length pre ≡ b

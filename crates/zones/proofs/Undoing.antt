@@ -9,7 +9,7 @@ use Rattle.lists.specs.Room.{removeAt}
 use Rattle.lists.specs.Words.{counted, closed, cleared, part}
 use Rattle.lists.proofs.Room.{length-removed}
 use Rattle.lists.proofs.Words.{element-at, length-front-of, front, rear, count-at}
-use Rattle.rules.specs.Changes.{setAt, putSet, added, cut, dropped}
+use Rattle.rules.specs.Changes.{setAt, putSet, cut, dropped}
 use Rattle.rules.specs.Limits.{mostZones, mostInSet}
 use Rattle.rules.specs.Regions.{noRegion}
 use Rattle.rules.specs.Tables.{noZone, emptyZone, Zone}

@@ -1,6 +1,6 @@
 -- Invariant: from place i on the two go alike as far as they do from their starts.
 use borrow.Author.Needs.{needs}
-use Prim.Native.Nat.{_+_, _-_, _≤_}
+use Prim.Native.Nat.{_-_, _≤_}
 use mathlib.Core.Path.{_≡_}
 use lib.ListN.{length}
 use Rattle.lists.specs.Alike.{alike}

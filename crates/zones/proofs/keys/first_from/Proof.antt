@@ -1,7 +1,7 @@
 -- Invariant: what is left to look at lies between lo and hi, within n; each step leaves less.
 use Prim.Native.Nat.{_-_, _≤_}
 use borrow.Author.Needs.{needs}
-use Rattle.zones.proofs.QuickCheck.{mid-there, mid-fits, mid-below, mid-within, past-fits, past-below, past-less}
+use Rattle.zones.proofs.QuickCheck.{mid-there, mid-fits, mid-within, past-fits, past-below, past-less}
 use Rattle.zones.proofs.QuickCheck.{lower-less}
 use Rattle.zones.proofs.keys.first_from.Statement.{statement}
 use Rattle.zones.proofs.keys.first_from.Tie as tie

@@ -1,7 +1,8 @@
 #!/usr/bin/env bash
 # Holds documents against the project. docs/RULES.md: each definition that it names is there, the limits are those of the definitions,
 # and the annotated plan is examples/first.plan. README.md: it lists the functions of the header, and how much stack is enough for them. Both
-# say how long a plan can be. Where it is said how many cases are stored, it is so. Needs no library.
+# say how long a plan can be. Where it is said how many cases are stored, it is so.
+# docs/PROMISES.md: it names the must-fail edits that there are. Needs no library.
 set -euo pipefail
 test_name=documents
 . "$(dirname "$0")/host.sh"
@@ -93,6 +94,15 @@ check_stack() {
     grep -Eq "(^|[^0-9])$((stack / 1024)) KiB of stack" "$root/README.md" || say_failed "README.md does not say that $((stack / 1024)) KiB of stack are enough"
 }
 
+# docs/PROMISES.md says of every must-fail edit what it refuses, and names no other.
+check_edits() {
+    local crates told
+    crates=$(find "$root/must-fail" -mindepth 1 -maxdepth 1 -printf '%f\n' | paste -sd'|')
+    told=$(comm -3 <(grep -oE "\b($crates)/[a-z0-9_]+" "$root/docs/PROMISES.md" | grep -Ev '/(specs|proofs)$' | sort -u) \
+        <(cd "$root/must-fail" && find . -name '*.edit' | sed 's|^\./||; s|\.edit$||' | sort -u))
+    [ -z "$told" ] || say_failed "docs/PROMISES.md and must-fail/ do not name the same edits: $(tr '\n' ' ' <<<"$told")"
+}
+
 check_names
 check_limits
 check_sizes
@@ -100,4 +110,5 @@ check_counts
 check_plan
 check_functions
 check_stack
+check_edits
 echo "documents: ok"

@@ -3,8 +3,8 @@
 use Rattle.plan.proofs.Into.{number-within}
 use Rattle.plan.proofs.Passing.{passed-none, passed-out, passed-cut, passed-end}
 use borrow.Author.Needs.{needs}
-use Rattle.plan.proofs.finding.pass_regions.Statement.{statement}
-use Rattle.plan.proofs.finding.pass_regions.Tie as tie
+use Rattle.plan.proofs.finding.pass_list.Statement.{statement}
+use Rattle.plan.proofs.finding.pass_list.Tie as tie
 
 number-at-requires : tie.Need-number-at-requires
 number-at-requires c κs = search needs
@@ -51,8 +51,8 @@ add-t12 c = search needs
 returns-4 : tie.Need-returns-4
 returns-4 c = search (passed-end, needs)
 
-pub pass-regions-spec : {M : Type 1} → statement M
-pass-regions-spec =
+pub pass-list-spec : {M : Type 1} → statement M
+pass-list-spec =
     tie.close
     (tie.spec
     number-at-requires

@@ -2,8 +2,8 @@
 use Rattle.plan.proofs.Answers.{first-there, second-there, third-there, marks-none, marks-out, marks-no-gic}
 use Rattle.plan.proofs.Answers.{marks-no-edition, marks-no-format, marks-other, marks-are}
 use borrow.Author.Needs.{needs}
-use Rattle.plan.proofs.sections.read_marks.Statement.{statement}
-use Rattle.plan.proofs.sections.read_marks.Tie as tie
+use Rattle.plan.proofs.sections.read_format_marks.Statement.{statement}
+use Rattle.plan.proofs.sections.read_format_marks.Tie as tie
 
 number-at-requires : tie.Need-number-at-requires
 number-at-requires c κs = search needs
@@ -50,8 +50,8 @@ returns-4 c = search (marks-no-edition, needs)
 number-at-requires-4 : tie.Need-number-at-requires-4
 number-at-requires-4 c κs = search (third-there, needs)
 
-enum-known-format : tie.Need-enum-known-format
-enum-known-format c = search needs
+enum-known-mark : tie.Need-enum-known-mark
+enum-known-mark c = search needs
 
 enum-told-4 : tie.Need-enum-told-4
 enum-told-4 c = search needs
@@ -68,8 +68,8 @@ returns-6 c = search (marks-other, needs)
 returns-7 : tie.Need-returns-7
 returns-7 c = search (marks-are, needs)
 
-pub read-marks-spec : {M : Type 1} → statement M
-read-marks-spec =
+pub read-format-marks-spec : {M : Type 1} → statement M
+read-format-marks-spec =
     tie.close
     (tie.spec
     number-at-requires
@@ -87,7 +87,7 @@ read-marks-spec =
     enum-told-3
     returns-4
     number-at-requires-4
-    enum-known-format
+    enum-known-mark
     enum-told-4
     returns-5
     is-within-requires-2

@@ -163,8 +163,6 @@ enum peatmitten_layout_number {
     PEATMITTEN_LAYOUT_LONGEST_LISTING = 6
 };
 
-static uint64_t (*const peatmitten_layout_needed)(uint32_t) __attribute__((used)) = peatmitten_layout;
-
 /* What peatmitten_check_config answers: the first fault, C1 to C6. C4 to C6 are looked for position by position. */
 enum peatmitten_config_fault {
     PEATMITTEN_CONFIG_SOUND = 0,
@@ -489,4 +487,10 @@ uint32_t peatmitten_list(const uint64_t config[PEATMITTEN_CONFIG_WORDS], const u
 }
 #endif
 
+#endif
+
+/* Which library is needed. A header over this one that is for another library includes it without. */
+#if !defined(PEATMITTEN_LAYOUT_NEEDED) && !defined(PEATMITTEN_WITHOUT_LIBRARY)
+#define PEATMITTEN_LAYOUT_NEEDED
+static uint64_t (*const peatmitten_layout_needed)(uint32_t) __attribute__((used)) = peatmitten_layout;
 #endif

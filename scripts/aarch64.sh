@@ -1,20 +1,26 @@
 #!/usr/bin/env bash
-# Makes the library for aarch64 from the module of the proved library for x86-64.
+# Makes a library for aarch64 from the module of the proved library for x86-64.
 #
-#   scripts/aarch64.sh FOLDER     reads FOLDER/module.ll and FOLDER/words, which scripts/module.sh writes; writes FOLDER/libagent.a
-#                                 and FOLDER/changes.diff, the lines that were changed
+#   scripts/aarch64.sh CRATE FOLDER     reads FOLDER/CRATE.ll and FOLDER/CRATE.words, which scripts/module.sh writes; writes
+#                                       FOLDER/libCRATE.a and FOLDER/CRATE.diff, the lines that were changed
 #
 # Three lines of the module are x86-64's: its name, how data is laid out there, and its name in the functions' attributes. They are changed,
 # and nothing else. What all others say must not hang on the processor, so each has to be of a form that is listed below: a module
 # with any other line, as a struct by value, a vector or a function of somebody else, is refused. Then there is no archive.
 set -euo pipefail
 . "$(dirname "$0")/kit.sh"
-[ $# -eq 1 ] || fail "usage: scripts/aarch64.sh FOLDER"
+[ $# -eq 2 ] || fail "usage: scripts/aarch64.sh CRATE FOLDER"
 root=$(cd "$(dirname "$0")/.." && pwd -P)
-module=$1/module.ll
-archive=$1/libagent.a
-rm -f "$archive" "$1/changes.diff"
-if [ ! -f "$module" ] || [ ! -f "$1/words" ]; then fail "there is no module in $1: scripts/module.sh makes it"; fi
+case $1 in
+agent) header=peatmitten.h ;;
+bank) header=peatmitten_bank.h ;;
+*) fail "there is no library $1: it is agent or bank" ;;
+esac
+module=$2/$1.ll
+archive=$2/lib$1.a
+changes=$2/$1.diff
+rm -f "$archive" "$changes"
+if [ ! -f "$module" ] || [ ! -f "$2/$1.words" ]; then fail "there is no module of $1 in $2: scripts/module.sh makes it"; fi
 
 # Both have the lowest byte first, pointers of 64 bits, and numbers aligned alike. They differ in the widths that registers have, in which
 # alignment is preferred for small numbers, and in long floating point and function pointers: every line with memory says its alignment
@@ -68,7 +74,7 @@ check_lines() {
 check_functions() {
     local exported declared
     exported=$(sed -n 's/^define [^i].* @\(peatmitten_[a-z0-9_]*\)(.*/\1/p' "$module" | LC_ALL=C sort)
-    declared=$(sed -n 's/^[a-z0-9_]* \**\(peatmitten_[a-z0-9_]*\)(.*/\1/p' "$root/include/peatmitten.h" | LC_ALL=C sort)
+    declared=$(sed -n 's/^[a-z0-9_]* \**\(peatmitten_[a-z0-9_]*\)(.*/\1/p' "$root/include/$header" | LC_ALL=C sort)
     [ "$exported" = "$declared" ] || fail "the module hands out other functions than the header declares:" \
         "$(comm -3 <(echo "$exported") <(echo "$declared") | tr -d '\t' | tr '\n' ' ')"
 }
@@ -91,7 +97,7 @@ change_words() {
         --target="$x86_triple") words+=(--target="$arm_triple") ;;
         -march=x86-64) words+=(-march=armv8-a) ;;
         module.bc) words+=("$work/module.ll") ;;
-        module.o) words+=("$work/agent.o") ;;
+        module.o) words+=("$work/$object") ;;
         --sysroot=*) ;; # for headers and libraries, which a module has no use for
         -ffunction-sections | -fdata-sections | -mllvm | -trap-unreachable | -no-trap-after-noreturn | --no-default-config) words+=("$word") ;;
         -no-canonical-prefixes | -fintegrated-cc1 | -fno-crash-diagnostics | -Werror | -c | -x | ir | -o | -fPIC | -O3) words+=("$word") ;;
@@ -105,8 +111,9 @@ make_work
 check_lines
 check_functions
 change_lines
-change_words "$1/words"
+object=$1.o
+change_words "$2/$1.words"
 "$clang" "${words[@]}" 2>"$work/errors" || fail "the module does not compile for aarch64: $(head -n 1 "$work/errors")"
-(cd "$work" && "$archiver" rcsD --format=gnu libagent.a agent.o) || fail "the archive cannot be made"
-cp "$work/changes.diff" "$1/"
-mv "$work/libagent.a" "$archive"
+(cd "$work" && "$archiver" rcsD --format=gnu library.a "$object") || fail "the archive cannot be made"
+cp "$work/changes.diff" "$changes"
+mv "$work/library.a" "$archive"

@@ -1,5 +1,5 @@
 #!/usr/bin/env bash
-# The library for aarch64, on any processor. The script that makes it from the proved library's module (scripts/aarch64.sh) changes three
+# The libraries for aarch64, on any processor. The script that makes one from the proved library's module (scripts/aarch64.sh) changes three
 # lines and gives the same archive again. A module with anything that it does not know is refused in one line, and leaves no archive.
 set -euo pipefail
 test_name=aarch64
@@ -8,35 +8,35 @@ need_work
 built=$root/target/staticlib/aarch64
 refused=0
 
-# carry: of the module and the words in $work. An archive of before lies there.
+# carry CRATE: of the module and the words in $work. An archive of before lies there.
 carry() {
-    touch "$work/libagent.a"
+    touch "$work/lib$1.a"
     status=0
-    said=$("$root/scripts/aarch64.sh" "$work" 2>&1) || status=$?
+    said=$("$root/scripts/aarch64.sh" "$1" "$work" 2>&1) || status=$?
 }
 
-check_archive() {
+check_archive() { # CRATE
     local changed
-    cp "$built/module.ll" "$built/words" "$work/"
-    carry
-    [ "$status $said" = '0 ' ] || say_failed "the library's own module: status $status, said '$said'"
-    cmp -s "$work/libagent.a" "$built/libagent.a" || say_failed "the archive is another one the second time"
-    changed=$(sed -n 's/^> //p' "$work/changes.diff" | sed 's/ = .*//' | tr '\n' ' ')
-    [ "$changed" = 'target datalayout target triple attributes #0 ' ] || say_failed "these lines are changed: $changed"
+    cp "$built/$1.ll" "$built/$1.words" "$work/"
+    carry "$1"
+    [ "$status $said" = '0 ' ] || say_failed "the own module of $1: status $status, said '$said'"
+    cmp -s "$work/lib$1.a" "$built/lib$1.a" || say_failed "the archive of $1 is another one the second time"
+    changed=$(sed -n 's/^> //p' "$work/$1.diff" | sed 's/ = .*//' | tr '\n' ' ')
+    [ "$changed" = 'target datalayout target triple attributes #0 ' ] || say_failed "these lines of $1 are changed: $changed"
 }
 
 # refuse TEXT SED..: the module, edited so, is refused with that text.
 refuse() {
     local text=$1
     shift
-    cp "$built/words" "$work/"
-    sed "$@" "$built/module.ll" >"$work/module.ll"
-    ! cmp -s "$work/module.ll" "$built/module.ll" || say_failed "this edit changes nothing: $*"
+    cp "$built/agent.words" "$work/"
+    sed "$@" "$built/agent.ll" >"$work/agent.ll"
+    ! cmp -s "$work/agent.ll" "$built/agent.ll" || say_failed "this edit changes nothing: $*"
     expect_refused "$text"
 }
 
 expect_refused() {
-    carry
+    carry agent
     [ "$status" = 1 ] || say_failed "'$1' is not refused: status $status, said '$said'"
     [ "$(wc -l <<<"$said")" = 1 ] || say_failed "more than a line is said: $said"
     [[ $said == *"$1"* ]] || say_failed "'$1' is refused otherwise: $said"
@@ -95,17 +95,19 @@ check_rest() {
     refuse '"target-features"="+avx"' 's/"target-cpu"="x86-64"/& "target-features"="+avx"/'
     refuse '2 lines of the module are x86-64' '/^target triple/d'
     refuse 'does not compile for aarch64: ' '0,/^  ret i32 .*/s//  ret i32 %none/'
-    cp "$built/module.ll" "$work/"
-    sed 's/^-O3$/-mavx/' "$built/words" >"$work/words"
+    cp "$built/agent.ll" "$work/"
+    sed 's/^-O3$/-mavx/' "$built/agent.words" >"$work/agent.words"
     expect_refused 'a word for the compiler is not known for aarch64: -mavx'
-    rm "$work/module.ll"
-    expect_refused 'there is no module in '
+    rm "$work/agent.ll"
+    expect_refused 'there is no module of agent in '
 }
 
 "$root/peatmitten" library aarch64 >"$work/printed" 2>"$work/said" || say_failed "the library for aarch64 is not built: $(cat "$work/said")"
 [ "$(cat "$work/printed")" = "$built/libagent.a" ] || say_failed "./peatmitten library printed '$(cat "$work/printed")'"
 [ "$(tail -n 1 "$work/said")" = 'peatmitten: the library for aarch64 Linux is' ] || say_failed "./peatmitten library said '$(cat "$work/said")'"
-check_archive
+[ "$("$root/peatmitten" bank library aarch64 2>/dev/null)" = "$built/libbank.a" ] || say_failed "./peatmitten bank library prints another file"
+check_archive agent
+check_archive bank
 check_values
 check_functions
 check_rest

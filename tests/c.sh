@@ -1,6 +1,6 @@
 #!/usr/bin/env bash
-# Builds the C examples against the library, plainly and under sanitizers, and compares what they print; holds the header's limits to the
-# library's, and sees that another layout does not link. The headers are compiled as C++ too.
+# Builds the C examples against the libraries, plainly and under sanitizers, and compares what they print; holds the headers' limits to the
+# libraries', and sees that another layout does not link. The headers are compiled as C++ too.
 set -euo pipefail
 test_name=c
 . "$(dirname "$0")/host.sh"
@@ -14,9 +14,17 @@ build() {
     shift
     mkdir "$folder"
     for example in apply_plan copy_stretch receive_plan differ_plan list_zones; do
-        "$CC" -std=c11 -Wall -Wextra -Wpedantic -Werror -O1 -g -I"$root/include" "$@" \
-            "$root/examples/c/$example.c" "$ARCHIVE" -o "$folder/$example" || say_failed "$example does not build"
+        build_example "$folder/$example" "$ARCHIVE" "$@"
     done
+    build_example "$folder/bank_plan" "$BANK_ARCHIVE" "$@"
+}
+
+# build_example PROGRAM ARCHIVE OPTIONS..
+build_example() {
+    local program=$1 archive=$2
+    shift 2
+    "$CC" -std=c11 -Wall -Wextra -Wpedantic -Werror -O1 -g -I"$root/include" "$@" \
+        "$root/examples/c/${program##*/}.c" "$archive" -o "$program" || say_failed "${program##*/} does not build"
 }
 
 # expect STATUS OUTPUT PROGRAM ARGUMENTS..
@@ -85,6 +93,16 @@ run_cases() {
 
     expect 0 $'5 CPU 0x0000000040000000 0x0000000080000000 0x0000000000200000 3 262144
 5 IOMMU 0x0000000008000000 0x0000000008000000 0x0000000000010000 3 0' "$1/list_zones"
+
+    program=$1/bank_plan
+    expect 0 '0 3 0, edition 8' "$program" "$plans/bank/own.plan"
+    expect 1 $'0 3 0, edition 8\n24 0 0, edition 8\n  the plan is for another edition' "$program" "$plans/bank/own.plan" "$plans/bank/own.plan"
+    expect 1 $'27 2 11, edition 7\n  a request is refused, and the whole plan is undone
+  the region is not equal to a configured one that the zone owns, or is the GIC for a CPU set' "$program" "$plans/bank/anothers.plan"
+    expect 1 $'23 0 0, edition 7\n  the plan is for another configuration, for another position of the GIC, or for other owners' \
+        "$program" "$plans/bank/wrong_owner.plan"
+    expect_error "bank_plan: $work/no-such.plan: it cannot be opened" "$program" "$work/no-such.plan"
+    expect_error "bank_plan: usage: bank_plan PLAN..." "$program"
 }
 
 # The header's limits are the library's, and its layout function's name says them.
@@ -125,17 +143,63 @@ TEXT
     [ "${printed% *}" = "${printed#* }" ] || say_failed "the layout function's name is ${printed#* }, and the limits make ${printed% *}"
 }
 
-# A program with the header of another layout must not link.
+# The same of the header for terminals with owners. It takes its other limits from the first.
+check_bank_layout() {
+    cat >"$work/bank_layout.c" <<'TEXT'
+#include <stdio.h>
+#include "peatmitten_bank.h"
+
+#define NAME_OF(symbol) #symbol
+#define TEXT_OF(symbol) NAME_OF(symbol)
+
+int main(void)
+{
+    static const uint64_t header[] = {PEATMITTEN_MOST_REGIONS, PEATMITTEN_MOST_ZONES, PEATMITTEN_MOST_IN_SET, PEATMITTEN_MOST_REQUESTS,
+                                      PEATMITTEN_REGION_WORDS, PEATMITTEN_BANK_LONGEST_PLAN, 0};
+    int differs = 0;
+
+    for (uint32_t which = 0; which < sizeof header / sizeof *header; which++)
+        differs |= header[which] != peatmitten_bank_layout(which);
+    printf("peatmitten_bank_layout_%d_%d_%d_%d_%d %s\n", PEATMITTEN_MOST_REGIONS, PEATMITTEN_MOST_ZONES, PEATMITTEN_MOST_IN_SET,
+           PEATMITTEN_MOST_REQUESTS, PEATMITTEN_REGION_WORDS, TEXT_OF(peatmitten_bank_layout));
+    return differs;
+}
+TEXT
+    "$CC" -std=c11 -Wall -Wextra -Wpedantic -Werror -I"$root/include" "$work/bank_layout.c" "$BANK_ARCHIVE" -o "$work/bank_layout" ||
+        say_failed "a program that asks for the layout with owners does not build"
+    printed=$($EMULATOR "$work/bank_layout") || say_failed "the header for terminals with owners and its library differ"
+    [ "${printed% *}" = "${printed#* }" ] || say_failed "the layout function's name is ${printed#* }, and the limits make ${printed% *}"
+}
+
+# check_other_layout HEADER EXAMPLE ARCHIVE: a program with the header of another layout must not link.
 check_other_layout() {
-    mkdir "$work/other"
-    sed 's/peatmitten_layout_[0-9]/&0/' "$root/include/peatmitten.h" >"$work/other/peatmitten.h"
-    ! "$CC" -std=c11 -I"$work/other" "$root/examples/c/apply_plan.c" "$ARCHIVE" -o "$work/other/program" 2>"$work/errors" ||
-        say_failed "a program with the header of another layout links"
-    grep -q 'undefined reference.*peatmitten_layout_[0-9]0' "$work/errors" || say_failed "another layout is refused for another reason"
+    local layout=${1%.h}_layout
+    rm -rf "$work/other"
+    cp -R "$root/include" "$work/other"
+    sed "s/${layout}_[0-9]/&0/" "$root/include/$1" >"$work/other/$1"
+    ! "$CC" -std=c11 -I"$work/other" "$root/examples/c/$2.c" "$3" -o "$work/other/program" 2>"$work/errors" ||
+        say_failed "a program with $1 of another layout links"
+    grep -q "undefined reference.*${layout}_[0-9]0" "$work/errors" || say_failed "another layout of $1 is refused for another reason"
+}
+
+# A program that includes both headers, in whatever order, needs both libraries.
+check_both() {
+    local first second
+    for first in peatmitten.h peatmitten_bank_words.h; do
+        for second in peatmitten_words.h peatmitten_bank.h; do
+            printf '#include "%s"\n#include "%s"\nint main(void)\n{\n    return 0;\n}\n' "$first" "$second" >"$work/both.c"
+            "$CC" -std=c11 -Wall -Wextra -Werror -I"$root/include" "$work/both.c" "$ARCHIVE" "$BANK_ARCHIVE" -o "$work/both" ||
+                say_failed "a program with $first and $second does not build"
+            $EMULATOR "$work/both" || say_failed "a program with $first and $second does not run"
+        done
+    done
+    printf '#include "peatmitten_bank.h"\n#include "peatmitten.h"\nint main(void)\n{\n    return 0;\n}\n' >"$work/both.c"
+    ! "$CC" -std=c11 -I"$root/include" "$work/both.c" "$BANK_ARCHIVE" -o "$work/both" 2>/dev/null ||
+        say_failed "a program with both headers links without the first library"
 }
 
 check_cpp() {
-    printf '#include "peatmitten.h"\n#include "peatmitten_words.h"\n' >"$work/header.cpp"
+    printf '#include "peatmitten.h"\n#include "peatmitten_words.h"\n#include "peatmitten_bank_words.h"\n' >"$work/header.cpp"
     "$1" -std=c++11 -Wall -Wextra -Wpedantic -Werror -fsyntax-only -I"$root/include" "$work/header.cpp" ||
         say_failed "the headers do not compile as C++"
 }
@@ -151,7 +215,10 @@ done
 build "$work/plain"
 run_cases "$work/plain"
 check_layout
-check_other_layout
+check_bank_layout
+check_other_layout peatmitten.h apply_plan "$ARCHIVE"
+check_other_layout peatmitten_bank.h bank_plan "$BANK_ARCHIVE"
+check_both
 
 find_sanitizers
 if [ ${#SANITIZERS[@]} -gt 0 ]; then

@@ -40,17 +40,23 @@ grouped() {
     sed ':again; s/\([0-9]\)\([0-9]\{3\}\)\($\|,\)/\1,\2\3/; t again' <<<"$1"
 }
 
-# The shortest and the longest plan, as `SizesShown` has them, are said by both documents.
-check_sizes() {
-    local sizes size document
-    sizes=$(sed -n 's/^SizesShown = (leastSize limits ≡ \([0-9]*\)) × (longestSize limits ≡ \([0-9]*\))$/\1 \2/p' "$root/crates/rules/specs/Sizes.antt")
-    [ -n "$sizes" ] || say_failed "crates/rules/specs/Sizes.antt does not say how long a plan can be"
-    for document in README.md docs/RULES.md; do
+# said_sizes SHOWN FILE WHAT DOCUMENT..: the shortest and the longest, as SHOWN of that file has them, are said by the documents.
+said_sizes() {
+    local shown=$1 file=crates/rules/specs/$2 what=$3 sizes size document
+    shift 3
+    sizes=$(sed -n "s/^$shown = (least[A-Za-z]* limits ≡ \([0-9]*\)) × (longest[A-Za-z]* limits ≡ \([0-9]*\))\$/\1 \2/p" "$root/$file")
+    [ -n "$sizes" ] || say_failed "$file does not say how long $what can be"
+    for document; do
         for size in $sizes; do
             size=$(grouped "$size")
-            grep -Eq "(^|[^0-9,])$size([^0-9,]|,[^0-9]|\$)" "$root/$document" || say_failed "$document does not say that a plan can have $size bytes"
+            grep -Eq "(^|[^0-9,])$size([^0-9,]|,[^0-9]|\$)" "$root/$document" || say_failed "$document does not say that $what can have $size bytes"
         done
     done
+}
+
+check_sizes() {
+    said_sizes SizesShown Sizes.antt 'a plan' README.md docs/RULES.md
+    said_sizes OwnedSizesShown OwnedSizes.antt 'a plan with owners' README.md docs/RULES.md
 }
 
 # How many plan files and named cases there are, wherever it is said.
@@ -63,6 +69,11 @@ check_counts() {
     count=$(wc -l <"$root/vectors/plans/answers.txt")
     for document in docs/DECISIONS.md tests/README.md; do
         grep -Eq "(^|[^0-9,])$count (plan files|stored plans)" "$root/$document" || say_failed "$document does not say that there are $count plan files"
+    done
+    for count in "$(wc -l <"$root/vectors/bank/cases.txt") cases" "$(wc -l <"$root/vectors/bank/plans/answers.txt") plan files"; do
+        for document in README.md tests/README.md; do
+            grep -Eq "(^|[^0-9,])$count with owners" "$root/$document" || say_failed "$document does not say that there are $count with owners"
+        done
     done
 }
 
@@ -79,11 +90,13 @@ check_plan() {
 }
 
 check_functions() {
-    local declared listed
-    declared=$(declared_functions)
+    local header declared listed
     listed=$(sed -n 's/^| `\(peatmitten_[a-z0-9_]*\)` |.*/\1/p' "$root/README.md" | sort)
-    [ -n "$declared" ] || say_failed "include/peatmitten.h declares no function"
-    [ "$declared" = "$listed" ] || say_failed "README.md lists other functions than include/peatmitten.h declares"
+    for header in peatmitten.h peatmitten_bank.h; do
+        [ -n "$(declared_functions "$header")" ] || say_failed "include/$header declares no function"
+    done
+    declared=$({ declared_functions && declared_functions peatmitten_bank.h; } | sort)
+    [ "$declared" = "$listed" ] || say_failed "README.md lists other functions than the headers declare"
 }
 
 # The header's stack, which README says in KiB.

@@ -1,5 +1,5 @@
 #!/usr/bin/env bash
-# On another processor than x86-64: the library for x86-64, under an emulator. It is compared with the ordinary implementation on 50,000
+# On another processor than x86-64: the libraries for x86-64, under an emulator. Each is compared with the ordinary implementation on 50,000
 # cases, and the C example is run. On x86-64 the other tests do this, and more of it, without an emulator.
 set -euo pipefail
 test_name=emulated
@@ -23,14 +23,15 @@ check_example() {
     [ "$printed" = '0 1 0, edition 1' ] || say_failed "the example printed '$printed'"
 }
 
-# In a folder of its own: the compiler is another one than that for the machine's own processor, and each would build anew what the
-# other built.
+# compare ARGUMENTS..: in a folder of its own: the compiler is another one than that for the machine's own processor, and each would build anew
+# what the other built.
 compare() {
     (cd "$root/rust" && CARGO_TARGET_DIR=$root/rust/target/emulated PEATMITTEN_LIB_DIR=$LIBRARY_DIR \
-        "$CARGO" run --offline --locked --quiet --target "$RUST_TARGET" --release --package compare -- --cases "$cases") ||
-        say_failed "the comparison"
+        "$CARGO" run --offline --locked --quiet --target "$RUST_TARGET" --release --package compare -- --cases "$cases" "$@") ||
+        say_failed "the comparison $*"
 }
 
 check_example
 compare
+compare --machine bank
 echo "emulated: ok"

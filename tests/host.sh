@@ -5,6 +5,7 @@
 #   PROCESSOR    the processor that programs are built for
 #   LIBRARY_DIR  where its library is: PEATMITTEN_LIB_DIR, or where ./peatmitten builds it
 #   ARCHIVE      after need_library, its file: installed it is libpeatmitten.a, as it is built libagent.a
+#   BANK_ARCHIVE the same for terminals with owners: libpeatmitten_bank.a, libbank.a
 #   CC           after need_c, a C compiler for that processor
 #   EMULATOR     after need_c, empty for the machine's own processor, else the command that runs a program
 #   SANITIZERS   after find_sanitizers, the C compiler's options for the sanitizers that run here
@@ -40,20 +41,27 @@ need_work() {
     trap 'rm -rf "$work"' EXIT
 }
 
-# The functions that the header declares, one a line.
-declared_functions() {
-    grep -oE '^[a-z0-9_]+ \*?peatmitten_[a-z0-9_]+\(' "$root/include/peatmitten.h" | grep -oE 'peatmitten_[a-z0-9_]+\(' | tr -d '(' | sort
+# The functions that a header declares, one a line.
+declared_functions() { # [HEADER]
+    grep -oE '^[a-z0-9_]+ \*?peatmitten_[a-z0-9_]+\(' "$root/include/${1:-peatmitten.h}" | grep -oE 'peatmitten_[a-z0-9_]+\(' | tr -d '(' | sort
+}
+
+# find_archive NAME..: prints the file of the first name that is there.
+find_archive() {
+    local name
+    for name; do
+        if [ -f "$LIBRARY_DIR/$name" ]; then
+            echo "$LIBRARY_DIR/$name"
+            return
+        fi
+    done
+    say_failed "there is no $name in $LIBRARY_DIR: build it by './peatmitten library $PROCESSOR'"
 }
 
 need_library() {
-    local name
-    for name in libpeatmitten.a libagent.a; do
-        ARCHIVE=$LIBRARY_DIR/$name
-        [ ! -f "$ARCHIVE" ] || break
-    done
-    [ -f "$ARCHIVE" ] || say_failed "there is no library in $LIBRARY_DIR: build it by './peatmitten library $PROCESSOR'"
-    LIBRARY_DIR=$(cd "$LIBRARY_DIR" && pwd)
-    ARCHIVE=$LIBRARY_DIR/$name
+    [ ! -d "$LIBRARY_DIR" ] || LIBRARY_DIR=$(cd "$LIBRARY_DIR" && pwd)
+    ARCHIVE=$(find_archive libpeatmitten.a libagent.a)
+    BANK_ARCHIVE=$(find_archive libpeatmitten_bank.a libbank.a)
 }
 
 is_native() {

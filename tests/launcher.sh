@@ -1,6 +1,6 @@
 #!/usr/bin/env bash
 # What ./peatmitten prints and says, and with which status: its commands for the shell, by a symbolic link too, with two commands that
-# build at once, and where the answer cannot be written. It proves and builds `apply` and `list` if that was not done.
+# build at once, and where the answer cannot be written. It proves and builds `apply`, `list` and `bank_apply` if that was not done.
 set -euo pipefail
 test_name=launcher
 . "$(dirname "$0")/host.sh"
@@ -84,6 +84,28 @@ check_explain() {
     expect 0 $'27: a request is refused*\nplace 0: *\n19: the region has*' '' explain 27 0 19
 }
 
+# For terminals with owners: the same plan is one for a machine or none.
+check_bank() {
+    expect 0 '0 3 0' '' bank apply "$plans/bank/own.plan"
+    expect 0 '27 2 11' '' bank apply "$plans/bank/anothers.plan"
+    expect 0 '1 0 0' '' bank apply "$plans/bank/wrong_owner.plan"
+    expect 0 '21 52 0' '' bank apply "$plans/first.plan"
+    expect 0 '21 52 0' '' bank apply -
+    expect 0 '20 400 0' '' apply "$plans/bank/own.plan"
+    expect 2 '' "peatmitten: cannot read $plans: Is a directory" bank apply "$plans"
+    expect 2 '' "*: cannot open $work/none: No such file or directory" bank apply "$work/none"
+    expect 2 '' 'peatmitten: bank apply takes one file: *' bank apply
+    expect 0 $'27: a request is refused*\nplace 2: *\n11: *that the zone owns*' '' bank explain 27 2 11
+    expect 0 $'27: a request is refused*\nplace 2: *\n11: the region is not equal to a configured one' '' explain 27 2 11
+    expect 0 '14: it does not occur: *' '' bank explain 14
+    expect 0 '24: the plan is for another edition' '' bank explain 24 0 0
+    expect 0 'C7: an owner is wrong: *' '' bank explain C7
+    expect 0 'C7: an owner is wrong: *' '' explain C7
+    expect 2 '' 'peatmitten: no command bank nothing: *' bank nothing
+    expect 2 '' 'peatmitten: no command bank : *' bank
+    expect 2 '' 'peatmitten: the library is for x86_64 and aarch64, not for riscv64' bank library riscv64
+}
+
 check_rest() {
     expect 0 "peatmitten $(cat "$root/VERSION")" '' --version
     expect 0 'usage: *Exit status:*' '' help
@@ -96,7 +118,7 @@ check_rest() {
 # What cannot be written is told, for an answer and for a text.
 check_full_output() {
     local arguments
-    for arguments in "apply $plans/first.plan" "list $plans/map.plan" 'explain 0' help --version; do
+    for arguments in "apply $plans/first.plan" "list $plans/map.plan" "bank apply $plans/bank/own.plan" 'explain 0' help --version; do
         # shellcheck disable=SC2086 # the arguments are words
         if "$launcher" $arguments >/dev/full 2>"$work/errors"; then
             say_failed "peatmitten $arguments: status 0 where standard output is full"
@@ -134,8 +156,10 @@ check_two_at_once() {
 
 "$launcher" apply "$plans/first.plan" >/dev/null
 "$launcher" list "$plans/map.plan" >/dev/null
+"$launcher" bank apply "$plans/bank/own.plan" >/dev/null
 check_apply
 check_list
+check_bank
 check_explain
 check_rest
 check_changed_plans

@@ -1,18 +1,23 @@
 #!/usr/bin/env bash
-# Runs a program over the plans in vectors/plans and compares what it prints of each with the stored answer.
+# Runs a program over the plans in vectors/plans and compares what it prints of each with the stored answer; with --bank over those of terminals
+# with owners, in vectors/bank/plans.
 #
 #     tests/run_plans.sh ./peatmitten apply
+#     tests/run_plans.sh --bank ./peatmitten bank apply
 #
 # The arguments are the command; the plan's file is added as its last argument. Prints each difference, then
 # `plans: N files, M differences`. The exit status is 0 only if there are files and no differences.
 set -uo pipefail
 
+plans=$(cd "$(dirname "$0")/.." && pwd)/vectors/plans
+if [ "${1:-}" = --bank ]; then
+    plans=${plans%/plans}/bank/plans
+    shift
+fi
 if [ $# -eq 0 ]; then
-    echo "usage: tests/run_plans.sh COMMAND [ARGUMENT...]" >&2
+    echo "usage: tests/run_plans.sh [--bank] COMMAND [ARGUMENT...]" >&2
     exit 2
 fi
-
-plans=$(cd "$(dirname "$0")/.." && pwd)/vectors/plans
 files=0
 differences=0
 

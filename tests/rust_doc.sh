@@ -24,6 +24,7 @@ options=(--offline --locked --package peatmitten)
 RUSTDOCFLAGS='-D warnings' "$CARGO" doc "${options[@]}" --no-deps --target "$RUST_TARGET" >"$work/said" 2>&1 ||
     { cat "$work/said" >&2; say_failed "no documentation without the library"; }
 refused "there is no libpeatmitten.a or libagent.a in $work/empty" build "${options[@]}" --target "$RUST_TARGET"
+refused "there is no libpeatmitten_bank.a or libbank.a in $work/empty" build "${options[@]}" --target "$RUST_TARGET"
 # The crate's own script refuses, so no standard library for these targets is needed.
 for target in riscv64gc-unknown-linux-gnu aarch64_be-unknown-linux-gnu aarch64-unknown-freebsd; do
     refused "peatmitten: the library is for Linux on x86-64 and aarch64 only, and this build is for $target" build "${options[@]}" --target "$target"

@@ -1,6 +1,5 @@
 /*
- * Measures how much stack each function of the library takes: it is called on a stack that was filled with a pattern, and then the
- * deepest word that differs from the pattern is looked for.
+ * Measures how much stack each function of the library takes.
  *
  * usage: stack STATE PLAN [STATE PLAN]...
  *
@@ -8,24 +7,11 @@
  * PEATMITTEN_STACK.
  */
 #define _GNU_SOURCE
-#include <inttypes.h>
-#include <stdio.h>
-#include <stdlib.h>
-#include <string.h>
-#include <ucontext.h>
-
 #include "peatmitten.h"
-
-#define STACK_ROOM (1 << 20)
-#define STACK_WORDS (STACK_ROOM / sizeof(uint64_t))
-#define PATTERN 0xa5
-#define PATTERN_WORD (UINT64_MAX / 0xff * PATTERN)
+#include "stack_measured.h"
 
 enum { CHECK_CONFIG, CHECK_TABLE, REQUEST, TRANSLATE, EDITION, READ, APPLY, TAKE, END, WRITE, LIST, ZONES, BASE, LACKING, LISTING, LAYOUT,
        FUNCTIONS };
-
-#define NAME_OF(symbol) #symbol
-#define TEXT_OF(symbol) NAME_OF(symbol)
 
 static const char *const names[FUNCTIONS] = {
     "peatmitten_check_config", "peatmitten_check_table", "peatmitten_request",     "peatmitten_translate_words",
@@ -33,8 +19,6 @@ static const char *const names[FUNCTIONS] = {
     "peatmitten_end_words",    "peatmitten_write_words", "peatmitten_wanted_words", "peatmitten_zones_words",
     "peatmitten_base_zones",   "peatmitten_lacking",     "peatmitten_list",        TEXT_OF(peatmitten_layout)};
 
-static uint64_t stack[STACK_WORDS] __attribute__((aligned(64)));
-static ucontext_t here, there;
 static peatmitten_state state;
 static uint8_t plan[PEATMITTEN_LONGEST_PLAN + 1];
 static size_t length;
@@ -43,10 +27,6 @@ static uint64_t answers[2];
 static uint64_t receiver[2];
 static uint8_t buffer[PEATMITTEN_LONGEST_PLAN];
 static const uint64_t no_zones[PEATMITTEN_TABLE_WORDS];
-
-static void nothing(void)
-{
-}
 
 static void check_config(void)
 {
@@ -148,45 +128,6 @@ static void layout(void)
     answers[0] = peatmitten_layout(kind);
 }
 
-/* How much of the stack is no longer the pattern after a call, in bytes. */
-static size_t taken_by(void (*call)(void))
-{
-    size_t untouched = 0;
-
-    memset(stack, PATTERN, sizeof stack);
-    getcontext(&there);
-    there.uc_stack.ss_sp = stack;
-    there.uc_stack.ss_size = sizeof stack;
-    there.uc_link = &here;
-    makecontext(&there, call, 0);
-    swapcontext(&here, &there);
-    while (untouched < STACK_WORDS && stack[untouched] == PATTERN_WORD)
-        untouched++;
-    return sizeof stack - untouched * sizeof *stack;
-}
-
-static size_t read_file(const char *path, void *bytes, size_t most)
-{
-    FILE *file = fopen(path, "rb");
-    size_t got;
-
-    if (file == NULL) {
-        perror(path);
-        exit(2);
-    }
-    got = fread(bytes, 1, most, file);
-    fclose(file);
-    return got;
-}
-
-static void keep_most(size_t most[FUNCTIONS], int function, void (*call)(void))
-{
-    size_t taken = taken_by(call);
-
-    if (taken > most[function])
-        most[function] = taken;
-}
-
 static void measure(size_t most[FUNCTIONS], const char *state_path, const char *plan_path)
 {
     peatmitten_state before;
@@ -224,16 +165,8 @@ static void measure(size_t most[FUNCTIONS], const char *state_path, const char *
 int main(int argc, char **argv)
 {
     size_t most[FUNCTIONS] = {0};
-    size_t all = 0;
-    size_t around = taken_by(nothing);
 
     for (int at = 1; at + 1 < argc; at += 2)
         measure(most, argv[at], argv[at + 1]);
-    for (int function = 0; function < FUNCTIONS; function++) {
-        printf("%s: %zu bytes\n", names[function], most[function]);
-        if (most[function] > all)
-            all = most[function];
-    }
-    printf("the most is %zu bytes, of which a call of nothing takes %zu; the header says %d\n", all, around, PEATMITTEN_STACK);
-    return argc < 3 || all > PEATMITTEN_STACK;
+    return argc < 3 || print_most(names, most, FUNCTIONS) > PEATMITTEN_STACK;
 }

@@ -1,13 +1,14 @@
-//! Links the static library, which is for Linux on x86-64 and on aarch64. It is looked for in the folder that the environment variable
-//! PEATMITTEN_LIB_DIR names, or else where `./peatmitten library` puts that for the target's processor. Installed it is libpeatmitten.a,
-//! there libagent.a. Where it is missing, that is a warning here and an error where a program is linked: documentation is made
-//! without it.
+//! Links the static libraries, which are for Linux on x86-64 and on aarch64: the first, and that for terminals with owners. They are looked for in
+//! the folder that the environment variable PEATMITTEN_LIB_DIR names, or else where `./peatmitten library` puts those for the target's processor.
+//! Installed they are libpeatmitten.a and libpeatmitten_bank.a, there libagent.a and libbank.a. Where one is missing, that is a warning here and
+//! an error where a program is linked: documentation is made without them.
 
 use std::env;
 use std::path::{Path, PathBuf};
 use std::process;
 
-const NAMES: [&str; 2] = ["peatmitten", "agent"];
+/// Each archive by the name that it is installed under, and by the one that it is built under.
+const ARCHIVES: [[&str; 2]; 2] = [["peatmitten", "agent"], ["peatmitten_bank", "bank"]];
 
 /// What cargo says of the target.
 fn target(key: &str) -> String {
@@ -41,18 +42,26 @@ fn archive(folder: &Path, name: &str) -> PathBuf {
     folder.join(format!("lib{name}.a"))
 }
 
+/// Links the archive of either name that is in the folder.
+fn link(folder: &Path, processor: &str, names: [&str; 2]) {
+    let name = names.into_iter().find(|name| archive(folder, name).is_file()).unwrap_or_else(|| {
+        let [installed, built] = names;
+        let folder = folder.display();
+        println!(
+            "cargo:warning=there is no lib{installed}.a or lib{built}.a in {folder}: run `./peatmitten library {processor}` or set PEATMITTEN_LIB_DIR"
+        );
+        installed
+    });
+    println!("cargo:rerun-if-changed={}", archive(folder, name).display());
+    println!("cargo:rustc-link-lib=static={name}");
+}
+
 fn main() {
     let processor = processor();
     let folder = library_folder(&processor);
-    let name = NAMES.into_iter().find(|name| archive(&folder, name).is_file()).unwrap_or_else(|| {
-        let folder = folder.display();
-        println!(
-            "cargo:warning=there is no libpeatmitten.a or libagent.a in {folder}: run `./peatmitten library {processor}` or set PEATMITTEN_LIB_DIR"
-        );
-        NAMES[0]
-    });
     println!("cargo:rerun-if-env-changed=PEATMITTEN_LIB_DIR");
-    println!("cargo:rerun-if-changed={}", archive(&folder, name).display());
     println!("cargo:rustc-link-search=native={}", folder.display());
-    println!("cargo:rustc-link-lib=static={name}");
+    for names in ARCHIVES {
+        link(&folder, &processor, names);
+    }
 }

@@ -1,12 +1,10 @@
 -- What each return answers, in numbers that C can hold: one case of what the core answered.
 use Prim.Native.Nat.{ℕ, zero, suc, _+_, _^_, _<_}
-use native.Mathlib.Omega.{arith}
 use mathlib.Core.Bool.{Bool, true, false, cond}
 use mathlib.Core.List.{List, [], _∷_}
 use mathlib.Core.Path.{_≡_, refl, sym, ap, subst, _∙_}
-use borrow.Author.Tests.{eq-eqb, ne-eqb}
 use lib.Dec.{eqb}
-use lib.ListN.{length, getD, set}
+use lib.ListN.{length, getD}
 use Rattle.formats.specs.Formats.{Out, got, bad}
 use Rattle.rules.specs.Applying.{apply}
 use Rattle.rules.specs.Configuration.{checkNumber, checkPlace, checkEarlier, StoredConfig}
@@ -19,7 +17,6 @@ use Rattle.rules.specs.declared.Guest.{Guest}
 use Rattle.rules.specs.declared.Outcome.{Outcome}
 use Rattle.rules.specs.declared.Request.{Request}
 use Rattle.rules.specs.declared.Side.{Side}
-use Rattle.rules.specs.declared.Side.the-variants.{Cpu, Iommu}
 use Rattle.rules.specs.declared.Translated.{Translated}
 use Rattle.zones.specs.Step.{Stepped}
 use Rattle.plan.specs.Applying.{terminalIn, stateFor, inWords, applied, stateIn, AppliedIn}
@@ -35,7 +32,8 @@ use Rattle.plan.proofs.Outcomes.{value-refused, edition-room, value-accepted}
 use Rattle.walker.specs.Edition.{editionOf}
 use Rattle.walker.specs.declared.Edition.{Edition}
 use Rattle.walker.specs.declared.Edition.the-variants.{Is, Bad as BadEdition}
-use Rattle.agent.specs.Agent.{layout, placesOf, yesOrNo, sideAsked, stretchOf, sectionNumber, readingNumber}
+use Rattle.lent.specs.Lent.{sideAsked, stretchOf}
+use Rattle.agent.specs.Agent.{layout, placesOf, sectionNumber, readingNumber}
 use Rattle.agent.specs.Agent.{readingPlace, editionNumber, editionValue, AppliesWords, PartsAreAState}
 
 -- what stands past the last number of the layout
@@ -50,18 +48,6 @@ past-layout (suc (suc (suc (suc (suc zero))))) a b c d e f g = absurd (f refl)
 past-layout (suc (suc (suc (suc (suc (suc zero)))))) a b c d e f g = absurd (g refl)
 past-layout (suc (suc (suc (suc (suc (suc (suc n))))))) a b c d e f g = refl
 
--- one word, and two
-pub one-word : (w : List ℕ) (x : ℕ) → length w ≡ 1 → set w 0 x ≡ x ∷ []
-one-word [] x e = absurd (omega arith)
-one-word (a ∷ []) x e = refl
-one-word (a ∷ (b ∷ w)) x e = absurd (omega arith)
-
-pub two-words : (w : List ℕ) (x y : ℕ) → length w ≡ 2 → set (set w 0 x) 1 y ≡ x ∷ y ∷ []
-two-words [] x y e = absurd (omega arith)
-two-words (a ∷ []) x y e = absurd (omega arith)
-two-words (a ∷ (b ∷ [])) x y e = refl
-two-words (a ∷ (b ∷ (c ∷ w))) x y e = absurd (omega arith)
-
 pub places-told : (u : List ℕ) (x y : ℕ) (f g : Checked) → u ≡ x ∷ y ∷ [] → f ≡ g → x ≡ checkPlace f
     → y ≡ checkEarlier f → u ≡ placesOf g
 unfolding placesOf
@@ -69,22 +55,6 @@ places-told u x y f g h e p q = h ∙ (λ i. (p ∙ ap checkPlace e) i ∷ (q �
 
 pub number-told : (n : ℕ) (f g : Checked) → f ≡ g → n ≡ checkNumber f → n ≡ checkNumber g
 number-told n f g e p = p ∙ ap checkNumber e
-
-pub yes : (t b : Bool) → t ≡ b → t ≡ true → 1 ≡ yesOrNo b
-unfolding yesOrNo
-yes t b e h = sym (ap (λ (x : Bool). cond x 1 0) (sym e ∙ h))
-
-pub no : (t b : Bool) → t ≡ b → t ≡ false → 0 ≡ yesOrNo b
-unfolding yesOrNo
-no t b e h = sym (ap (λ (x : Bool). cond x 1 0) (sym e ∙ h))
-
-pub cpu-side : (n : ℕ) → n ≡ 0 → Cpu ≡ sideAsked n
-unfolding sideAsked
-cpu-side n e = sym (ap (λ (x : Bool). cond x Cpu Iommu) (eq-eqb n 0 e))
-
-pub iommu-side : (n : ℕ) → (n ≡ 0 → ⊥) → Iommu ≡ sideAsked n
-unfolding sideAsked
-iommu-side n ne = sym (ap (λ (x : Bool). cond x Cpu Iommu) (ne-eqb n 0 ne))
 
 -- a request by its numbers
 pub request-told : (c t u : List ℕ) (q r : Request) (n : ℕ) → q ≡ r → Stepped c t q n u → Stepped c t r n u

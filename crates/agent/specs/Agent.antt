@@ -1,9 +1,7 @@
 -- What the library's functions answer, in numbers that C can hold.
 use Prim.Native.Nat.{ℕ, _-_}
-use mathlib.Core.Bool.{Bool, cond}
 use mathlib.Core.List.{List, [], _∷_}
 use mathlib.Core.Path.{_≡_}
-use lib.Dec.{eqb}
 use lib.ListN.{length, getD}
 use Rattle.formats.specs.Formats.{Out, got, bad}
 use Rattle.rules.specs.Configuration.{checkPlace, checkEarlier}
@@ -16,9 +14,6 @@ use Rattle.rules.specs.Receiving.{takePiece}
 use Rattle.rules.specs.Sizes.{longestSize, zonesAt}
 use Rattle.rules.specs.declared.Checked.{Checked}
 use Rattle.rules.specs.declared.Receiver.{Receiver}
-use Rattle.rules.specs.declared.Side.{Side}
-use Rattle.rules.specs.declared.Side.the-variants.{Cpu, Iommu}
-use Rattle.rules.specs.declared.Translated.{Translated}
 use Rattle.zones.specs.Layout.{regionWords}
 use Rattle.zones.specs.View.{storedConfig, storedTable}
 use Rattle.plan.specs.Applying.{applied, stateIn}
@@ -42,17 +37,6 @@ layout =
 -- the two places of a configuration's check
 unfoldable pub placesOf : Checked → List ℕ
 placesOf f = checkPlace f ∷ checkEarlier f ∷ []
-
-unfoldable pub yesOrNo : Bool → ℕ
-yesOrNo b = cond b 1 0
-
--- side 0 is the CPU, any other the IOMMU
-unfoldable pub sideAsked : ℕ → Side
-sideAsked n = cond (eqb n 0) Cpu Iommu
-
--- the two words of a translation: the physical address, and how many bytes there are from it on
-unfoldable pub stretchOf : Translated → List ℕ
-stretchOf o = o .phys .0 ∷ o .remaining ∷ []
 
 -- of a plan that is only read: the number, and its offset or that of the first request
 unfoldable pub sectionNumber : Section → ℕ

@@ -1,6 +1,10 @@
 // The library for an update agent, for C and Rust to link: include/peatmitten.h has the same functions and layouts. Each function
 // answers on every argument; nothing is asked of the caller beyond pointers and lengths that are valid.
 use differing::lacking_part;
+use lent::put_one;
+use lent::put_two;
+use lent::side_asked;
+use lent::yes_or_no;
 use listing::LONGEST_LISTING;
 use listing::list_table;
 use plan::Found;
@@ -15,7 +19,6 @@ use rules::Phys;
 use rules::Receiver;
 use rules::Region;
 use rules::Rights;
-use rules::Side;
 use rules::limits::MOST_IN_SET;
 use rules::limits::MOST_REGIONS;
 use rules::limits::MOST_REQUESTS;
@@ -39,6 +42,7 @@ use zones::translate_in;
 ghost use mathlib.Core.List.{[], _∷_};
 ghost use mathlib.Core.Path.{_≡_};
 ghost use lib.ListN.{length, getD};
+ghost use Rattle.lent.specs.Lent.{yesOrNo, sideAsked, stretchOf};
 ghost use Rattle.lists.specs.Alike.{alike};
 ghost use Rattle.rules.specs.Fields.{regionOf};
 ghost use Rattle.rules.specs.Limits.{limits};
@@ -49,7 +53,7 @@ ghost use Rattle.rules.specs.Translation.{translated};
 ghost use Rattle.zones.specs.Step.{Stepped};
 ghost use Rattle.zones.specs.View.{storedConfig, storedTable};
 ghost use Rattle.walker.specs.Edition.{editionOf};
-ghost use Rattle.agent.specs.Agent.{layout, placesOf, yesOrNo, sideAsked, stretchOf, readingNumber, readingPlace, editionNumber, editionValue, receiverIn, AppliesWords, TakesWords, EndsWords, WritesWords, WritesZonesWords};
+ghost use Rattle.agent.specs.Agent.{layout, placesOf, readingNumber, readingPlace, editionNumber, editionValue, receiverIn, AppliesWords, TakesWords, EndsWords, WritesWords, WritesZonesWords};
 ghost use Rattle.agent.specs.Agent.{baseStretch, noByte, ListsWords, ListingWords};
 
 // What is said of a place that has no byte.
@@ -110,10 +114,7 @@ pub extern "C" fn peatmitten_check_table(
 ) -> u32
     ensures { λ n. ⌜ n ≡ yesOrNo (checkTable limits (storedConfig (now (config .entry))) (storedTable (now (table .entry)))) ⌝ }
 {
-    if is_sound(config, table) {
-        return 1;
-    }
-    0
+    yes_or_no(is_sound(config, table))
 }
 
 // One request; the table is changed where it lies.
@@ -157,15 +158,6 @@ pub extern "C" fn peatmitten_translate_words(
     let found = translate_in(config, table, zone, asked, Guest(address));
     put_two(stretch, found.phys.0, found.remaining);
     found.number
-}
-
-fn side_asked(number: u32) -> Side
-    ensures { λ s. ⌜ s ≡ sideAsked number ⌝ }
-{
-    if number == 0 {
-        return Side::Cpu;
-    }
-    Side::Iommu
 }
 
 // Applies a plan to the state that is lent in three parts: the number, and its place and inner number. Table and edition are changed where
@@ -386,20 +378,4 @@ pub extern "C" fn peatmitten_edition(plan: &[u8], answer: &mut [u64; 1]) -> u32
             0
         }
     }
-}
-
-// An array that is lent as a slice tells its length.
-fn put_one(w: &mut [u64], x: u64)
-    requires { ⌜ length (now w) ≡ 1 ⌝ }
-    ensures { λ r. ⌜ now (w .exit) ≡ x ∷ [] ⌝ }
-{
-    w[0] = x;
-}
-
-fn put_two(w: &mut [u64], x: u64, y: u64)
-    requires { ⌜ length (now w) ≡ 2 ⌝ }
-    ensures { λ r. ⌜ now (w .exit) ≡ x ∷ y ∷ [] ⌝ }
-{
-    w[0] = x;
-    w[1] = y;
 }

@@ -3,3 +3,4 @@ pub mod Following
 pub mod Pieces
 pub mod Writing
 pub mod Wanted
+pub mod Steps

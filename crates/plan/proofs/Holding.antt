@@ -5,7 +5,7 @@ use native.Mathlib.Omega.{arith}
 use mathlib.Core.Bool.{Bool, true, false, cond, not, _&&_}
 use mathlib.Core.List.{List, [], _∷_, map}
 use mathlib.Core.Path.{_≡_, refl, sym, ap, ap₂, _∙_}
-use borrow.Author.Tests.{eqb-true, eq-eqb, ne-eqb}
+use borrow.Author.Tests.{eq-eqb, ne-eqb}
 use lib.Dec.{eqb}
 use lib.ListN.{length, getD, take, drop, length-drop}
 use lib.Seq.{drop-drop}
@@ -16,21 +16,21 @@ use Rattle.lists.specs.Tests.{allOf}
 use Rattle.lists.specs.Words.{part}
 use Rattle.lists.proofs.Places.{length-tab}
 use Rattle.lists.proofs.Tests.{false-of, all-miss, all-pass, all-last}
-use Rattle.formats.specs.Formats.{Out, got, bad, left, then, readNumber, within, readMany, readCount, readHeaded}
+use Rattle.formats.specs.Formats.{Out, got, bad, left, then, readNumber, within, readMany, readHeaded}
 use Rattle.formats.specs.Formats.{readBoth, readAs, listed}
 use Rattle.formats.proofs.Formats.{Part, many-got}
 use Rattle.rules.specs.Applying.{sameList, sameZone}
 use Rattle.rules.specs.Fields.{regionSize}
-use Rattle.rules.specs.Limits.{mostZones, mostInSet, limits}
-use Rattle.rules.specs.Plan.{regionFormat, regionField, setFormat, zoneTo, zoneFormat, regionsSection, zonesSection}
+use Rattle.rules.specs.Limits.{mostZones, limits}
+use Rattle.rules.specs.Plan.{regionFormat, regionField, setFormat, zoneTo, zoneFormat, regionsSection}
 use Rattle.rules.specs.Plan.{RegionFits}
 use Rattle.rules.specs.Regions.{regionEq}
 use Rattle.rules.specs.Run.{regionIn}
 use Rattle.rules.specs.Tables.{Zone}
 use Rattle.rules.specs.declared.Region.{Region}
-use Rattle.rules.specs.declared.Side.the-variants.{Cpu, Iommu}
+use Rattle.rules.specs.declared.Side.the-variants.{Iommu}
 use Rattle.rules.proofs.Applying.{same-list, same-zone}
-use Rattle.rules.proofs.Plan.{lawful-region-field, lawful-list, lawful-zone}
+use Rattle.rules.proofs.Plan.{lawful-region-field, lawful-list}
 use Rattle.rules.proofs.Regions.{equal-same}
 use Rattle.zones.specs.Layout.{regionWords, setWords, zoneBase, zoneStart, setBase, configCount, configGic}
 use Rattle.zones.specs.Layout.{configRecords}
@@ -50,7 +50,7 @@ use Rattle.plan.specs.declared.field.Number.the-variants.{Is, Missing}
 use Rattle.plan.specs.declared.words.Section.{Section}
 use Rattle.plan.specs.declared.words.Section.the-variants.{End, Bad}
 use Rattle.plan.proofs.Fields.{regionValue, wide-region, in-bytes}
-use Rattle.plan.proofs.Into.{number-within, count-missing, count-out, count-in, count-most}
+use Rattle.plan.proofs.Into.{count-missing, count-out, count-in, count-most}
 use Rattle.plan.proofs.Locating.{set-part, zone-part}
 use Rattle.plan.proofs.Offsets.{place, part-in, end-within, ends-with}
 use Rattle.plan.proofs.Passing.{Listed, list-read}
@@ -65,7 +65,7 @@ module _ {A : Type 0} (n : ℕ) (p : A → Bool) where
   unfolding heldAnswer
   held-fails o x t e h = ap (heldAnswer n p) e ∙ ap (λ (b : Bool). cond b (Same (n - length t)) Other) h
 
-  held-refused : (o : Out A) (r : Section) (k a : ℕ) → r ≡ sectionAnswer n o → r ≡ Bad k a → heldAnswer n p o ≡ Other
+  pub held-refused : (o : Out A) (r : Section) (k a : ℕ) → r ≡ sectionAnswer n o → r ≡ Bad k a → heldAnswer n p o ≡ Other
   unfolding heldAnswer sectionAnswer
   held-refused (got x t) r k a er e =
       absurd (let q : End (n - length t) ≡ Bad k a = sym er ∙ e in
@@ -204,7 +204,7 @@ pub records-begin : (s w : List ℕ) (at a n : ℕ)
 records-begin s w at a n = let e : n - 0 ≡ n = omega arith in ap (λ (m : ℕ). all (sameRecord s at w a) (places 0 m)) e
 
 -- ---- a list of regions: r is where it ends
-same-tabs : {A : Type 0} (e : A → A → Bool) (f g : ℕ → A) (k n : ℕ)
+pub same-tabs : {A : Type 0} (e : A → A → Bool) (f g : ℕ → A) (k n : ℕ)
     → sameList e (map f (places k n)) (map g (places k n)) ≡ all (λ i. e (f i) (g i)) (places k n)
 unfolding sameList all places
 same-tabs e f g k zero = refl

@@ -1,45 +1,51 @@
 -- The sections of a plan, one after another: what a section leaves is lent to the next, and an offset in a part is one
 -- in the plan when the part's own offset is added.
-use Prim.Native.Nat.{ℕ, suc, _+_, _-_, _*_, _/_, _^_, _≤_, _<_}
+use Prim.Native.Nat.{ℕ, suc, _+_, _-_, _*_, _^_, _≤_, _<_}
 use native.Mathlib.Omega.{arith}
-use mathlib.Core.Bool.{Bool, true, false, not}
+use mathlib.Core.Bool.{Bool, true, false, not, cond}
 use mathlib.Core.List.{List, [], _∷_}
 use mathlib.Core.Path.{_≡_, refl, sym, ap, ap₂, _∙_}
-use lib.ListN.{length, take, drop, length-drop}
+use borrow.Author.Tests.{lt-ltb, le-ltb}
+use lib.Dec.{ltb}
+use lib.ListN.{length, take, drop, length-append, length-drop}
 use lib.Seq.{drop-drop}
 use Rattle.lists.specs.Bytes.{little}
 use Rattle.lists.specs.Places.{tab}
-use Rattle.formats.specs.Formats.{Out, got, bad, left, then, Format, readNumber, within, readMany, readCount}
-use Rattle.formats.specs.Formats.{readHeaded, readBoth, readAs, atEnd, readFile, number, both, listed, exactly}
+use Rattle.formats.specs.Formats.{Out, got, bad, left, then, readNumber, within, readMany, readCount}
+use Rattle.formats.specs.Formats.{readHeaded, readBoth, readAs, atEnd, readFile, number, both, exactly}
 use Rattle.formats.proofs.Formats.{Part, then-got, both-got, count-got}
 use Rattle.formats.proofs.Widths.{number-there, number-short, wide-number, wide-got, exactly-got}
 use Rattle.rules.specs.Fields.{regionSize}
-use Rattle.rules.specs.Limits.{mostRegions, mostZones, mostInSet, mostRequests, secondFormat, limits}
+use Rattle.rules.specs.Limits.{mostRegions, mostZones, mostInSet, mostRequests, limits, inFormat}
 use Rattle.rules.specs.Plan.{short, regionFormat, regionField, marksTo, marksFormat, setFormat, zoneTo, zoneFormat}
-use Rattle.rules.specs.Plan.{planTo, marksSection, regionsSection, zonesSection, requestsSection, readPlan, Asked}
-use Rattle.rules.specs.Plan.{Marks, RegionFits}
+use Rattle.rules.specs.Plan.{planTo, marksSection, regionsSection, zonesSection, requestsSection, planFormat, readPlan}
+use Rattle.rules.specs.Plan.{Asked, Marks, Plan, RegionFits}
 use Rattle.rules.specs.Run.{requestSize}
+use Rattle.rules.specs.Sizes.{zonesAt}
 use Rattle.rules.specs.Tables.{Zone}
 use Rattle.rules.specs.declared.Region.{Region}
 use Rattle.rules.proofs.Plan.{lawful-region-field, lawful-list, lawful-zone, lawful-regions, lawful-zones}
-use Rattle.rules.proofs.Plan.{lawful-requests}
-use Rattle.plan.specs.Fields.{numberOut, NumberRead}
+use Rattle.rules.proofs.Plan.{lawful-requests, lawful-plan}
+use Rattle.plan.specs.Fields.{NumberRead}
 use Rattle.plan.specs.Held.{twoSets}
-use Rattle.plan.specs.Found.{marksBytes, foundIn, leading, afterRequests, requestsFound, afterZones, zonesFound}
+use Rattle.plan.specs.Found.{marksBytes, foundOf, foundIn, fourOf, fourIn, wholeOf, leading, afterRequests, requestsFound}
+use Rattle.plan.specs.Found.{afterZones, zonesFound}
 use Rattle.plan.specs.Found.{afterRegions, regionsFound, afterMarks, marksFound}
 use Rattle.plan.specs.Sections.{marksAnswer, sectionAnswer}
 use Rattle.plan.specs.declared.field.Number.{Number}
 use Rattle.plan.specs.declared.field.Number.the-variants.{Is, Missing}
 use Rattle.plan.specs.declared.finding.Found.{Found}
 use Rattle.plan.specs.declared.finding.Found.the-variants.{At, Bad as BadFound}
+use Rattle.plan.specs.declared.finding.Four.{Four}
+use Rattle.plan.specs.declared.finding.Four.the-variants.{At as FourAt, Bad as BadFour}
 use Rattle.plan.specs.declared.sections.Marks.{Marks as MarksAre}
 use Rattle.plan.specs.declared.sections.Marks.the-variants.{Are, Bad as BadMarks}
 use Rattle.plan.specs.declared.words.Section.{Section}
 use Rattle.plan.specs.declared.words.Section.the-variants.{End, Bad}
 use Rattle.plan.proofs.Fields.{askedIn, askedFormat, wide-asked, regionValue, wide-region}
-use Rattle.plan.proofs.Into.{number-within, count-missing, count-out, count-in}
+use Rattle.plan.proofs.Into.{count-missing, count-out, count-in}
 use Rattle.plan.proofs.Offsets.{place, rest-of, part-in, left-within, end-within, bad-within, ends-with}
-use Rattle.plan.proofs.Passing.{Listed, list-read}
+use Rattle.plan.proofs.Passing.{list-read}
 
 -- ---- where something ends that is put together: o, and then what f says
 section-as : {A B : Type 0} (n : ℕ) (o : Out A) (to : A → B)
@@ -184,14 +190,14 @@ module _ (s : List ℕ) (c : Number) (read : NumberRead s 0 (readNumber 4 (drop 
 
 -- ---- a section that reads o, in a part of the plan that begins at byte base
 module _ {A : Type 0} (s : List ℕ) (o : Out A) (part : Part (left o) s) (r : Section)
-    (er : r ≡ sectionAnswer (length s) o) (f : A → List ℕ → Found) (base : ℕ) where
+    (er : r ≡ sectionAnswer (length s) o) (f : A → List ℕ → Four) (base : ℕ) where
   -- a refusal is the plan's
-  leads-bad : (k a : ℕ) → r ≡ Bad k a → BadFound k (base + a) ≡ leading f (base + length s) o
+  pub leads-bad : (k a : ℕ) → r ≡ Bad k a → BadFour k (base + a) ≡ leading f (base + length s) o
   unfolding sectionAnswer leading left
   leads-bad k a g = by o er (left-within s o part r er)
     where
       by : (o : Out A) → r ≡ sectionAnswer (length s) o → length (left o) ≤ length s
-          → BadFound k (base + a) ≡ leading f (base + length s) o
+          → BadFour k (base + a) ≡ leading f (base + length s) o
       by (got x t) d l =
           absurd (let q : End (length s - length t) ≡ Bad k a = sym d ∙ g in
           let z : _≡_ {A = ℕ} 0 1 = cc in
@@ -201,9 +207,9 @@ module _ {A : Type 0} (s : List ℕ) (o : Out A) (part : Part (left o) s) (r : S
           let m : k ≡ j = cc in
           let n : length s - length t ≡ a = cc in
           let place : base + a ≡ base + length s - length t = omega arith in
-          ap₂ (λ (i p : ℕ). BadFound i p) m place
+          ap₂ (λ (i p : ℕ). BadFour i p) m place
 
-  leads-on : (e : ℕ) (x : A) → o ≡ got x (drop e s) → f x (drop e s) ≡ leading f (base + length s) o
+  pub leads-on : (e : ℕ) (x : A) → o ≡ got x (drop e s) → f x (drop e s) ≡ leading f (base + length s) o
   unfolding leading
   leads-on e x h = sym (ap (leading f (base + length s)) h)
 
@@ -213,7 +219,7 @@ next-base s e base h = omega (arith, length-drop e s)
 
 -- ---- the regions
 module _ (s : List ℕ) (gic edition base : ℕ) (r : Section)
-    (er : r ≡ sectionAnswer (length s) (listed 4 1 mostRegions regionField .read (drop 0 s))) where
+    (er : r ≡ sectionAnswer (length s) (regionsSection limits .read s)) where
   regions-part : Part (left (regionsSection limits .read s)) s
   regions-part = lawful-regions limits .part s
 
@@ -221,7 +227,7 @@ module _ (s : List ℕ) (gic edition base : ℕ) (r : Section)
     pub regions-place : base + length s < 2 ^ 64 → base + a < 2 ^ 64
     regions-place h = let l : a ≤ length s = bad-within s _ regions-part r er k a g in omega arith
 
-    pub regions-refused : BadFound k (base + a) ≡ regionsFound gic edition base (base + length s) s
+    pub regions-refused : BadFour k (base + a) ≡ regionsFound gic edition base (base + length s) s
     regions-refused = leads-bad s _ regions-part r er (afterRegions gic edition base (base + length s)) base k a g
 
   module _ (e : ℕ) (g : r ≡ End e) where
@@ -234,7 +240,7 @@ module _ (s : List ℕ) (gic edition base : ℕ) (r : Section)
     pub zones-follow : base + length s < 2 ^ 64 → base + e + length (take (length s - e) (drop e s)) < 2 ^ 64
     zones-follow h = let l : e ≤ length s = regions-end in omega (arith, ap length (rest-of s e), next-base s e base l)
 
-    pub regions-lead : (v : Found)
+    pub regions-lead : (v : Four)
         → v ≡ zonesFound gic edition (base + e) (base + e + length (take (length s - e) (drop e s)))
         (take (length s - e) (drop e s))
         → v ≡ regionsFound gic edition base (base + length s) s
@@ -265,7 +271,7 @@ module _ (s : List ℕ) (gic edition base : ℕ) (r : Section)
     pub bad-zones-place : base + length s < 2 ^ 64 → base + a < 2 ^ 64
     bad-zones-place h = let l : a ≤ length s = bad-within s _ zones-part r er k a g in omega arith
 
-    pub zones-refused : BadFound k (base + a) ≡ zonesFound gic edition base (base + length s) s
+    pub zones-refused : BadFour k (base + a) ≡ zonesFound gic edition base (base + length s) s
     zones-refused = leads-bad s _ zones-part r er (afterZones gic edition base (base + length s)) base k a g
 
   module _ (e : ℕ) (g : r ≡ End e) where
@@ -278,7 +284,7 @@ module _ (s : List ℕ) (gic edition base : ℕ) (r : Section)
     pub requests-follow : base + length s < 2 ^ 64 → base + e + length (take (length s - e) (drop e s)) < 2 ^ 64
     requests-follow h = let l : e ≤ length s = zones-end in omega (arith, ap length (rest-of s e), next-base s e base l)
 
-    pub zones-lead : (v : Found)
+    pub zones-lead : (v : Four)
         → v ≡ requestsFound gic edition base (base + e + length (take (length s - e) (drop e s)))
         (take (length s - e) (drop e s))
         → v ≡ zonesFound gic edition base (base + length s) s
@@ -288,6 +294,26 @@ module _ (s : List ℕ) (gic edition base : ℕ) (r : Section)
         h ∙ ap (λ (b : List ℕ). requestsFound gic edition base (base + e + length b) b) (rest-of s e)
         ∙ ap (λ (n : ℕ). requestsFound gic edition base n (drop e s)) (next-base s e base zones-end)
         ∙ leads-on s _ zones-part r er (afterZones gic edition base (base + length s)) base e zs o
+
+-- in a plan b, from byte z on
+module _ (b : List ℕ) (gic edition z : ℕ) where
+  pub zones-beyond : length b < z → BadFour 20 (length b) ≡ zonesFound gic edition z (length b) (drop z b)
+  unfolding leading readHeaded readCount then
+  zones-beyond h =
+      let at : length b ≡ length b - length (drop z b) = omega (arith, length-drop z b) in
+      rw (number-short 4 (drop z b) (omega (arith, length-drop z b))) (ap (BadFour 20) at)
+
+  pub zones-start : z ≤ length b → length b < 2 ^ 64 → z + length (take (length b - z) (drop z b)) < 2 ^ 64
+  zones-start h l = omega (arith, ap length (rest-of b z), length-drop z b)
+
+  pub zones-from : z ≤ length b → (v : Four)
+      → v ≡ zonesFound gic edition z (z + length (take (length b - z) (drop z b))) (take (length b - z) (drop z b))
+      → v ≡ zonesFound gic edition z (length b) (drop z b)
+  zones-from h v e =
+      let n : z + length (drop z b) ≡ length b = omega (arith, length-drop z b) in
+      e
+      ∙ ap (λ (s : List ℕ). zonesFound gic edition z (z + length s) s) (rest-of b z)
+      ∙ ap (λ (k : ℕ). zonesFound gic edition z k (drop z b)) n
 
 -- ---- the requests: so many of one width
 pub requests-read : (s : List ℕ) (qs : List Asked) (t : List ℕ) → requestsSection limits .read s ≡ got qs t
@@ -306,20 +332,8 @@ module _ (s : List ℕ) (base gic edition zones : ℕ) (r : Section)
     pub bad-requests-place : base + length s < 2 ^ 64 → base + a < 2 ^ 64
     bad-requests-place h = let l : a ≤ length s = bad-within s _ requests-part r er k a g in omega arith
 
-    pub requests-refused : BadFound k (base + a) ≡ requestsFound gic edition zones (base + length s) s
-    unfolding readFile then leading sectionAnswer
-    requests-refused =
-        leads-bad s _ requests-part r er (afterRequests gic edition zones (base + length s)) base k a g
-        ∙ by (requestsSection limits .read s) er
-      where
-        by : (o : Out (List Asked)) → r ≡ sectionAnswer (length s) o
-            → leading (afterRequests gic edition zones (base + length s)) (base + length s) o
-            ≡ leading (afterRequests gic edition zones (base + length s)) (base + length s) (then o atEnd)
-        by (got qs u) e =
-            absurd (let q : End (length s - length u) ≡ Bad k a = sym e ∙ g in
-            let z : _≡_ {A = ℕ} 0 1 = cc in
-            omega arith)
-        by (bad j u) e = refl
+    pub requests-refused : BadFour k (base + a) ≡ requestsFound gic edition zones (base + length s) s
+    requests-refused = leads-bad s _ requests-part r er (afterRequests gic edition zones (base + length s)) base k a g
 
   module _ (e : ℕ) (g : r ≡ End e) where
     found : (qs : List Asked) × (requestsSection limits .read s ≡ got qs (drop e s))
@@ -329,156 +343,240 @@ module _ (s : List ℕ) (base gic edition zones : ℕ) (r : Section)
     pub requests-start : base + length s < 2 ^ 64 → base + 4 < 2 ^ 64
     requests-start h = let (qs, o, l) = found in omega arith
 
-    pub more-place : base + length s < 2 ^ 64 → e < length s → base + e < 2 ^ 64
-    more-place h l = omega arith
+    pub requests-over : base + length s < 2 ^ 64 → base + e < 2 ^ 64
+    requests-over h = let l : e ≤ length s = end-within s _ requests-part r er e g in omega arith
 
-    pub requests-more : e < length s → BadFound 22 (base + e) ≡ requestsFound gic edition zones (base + length s) s
-    unfolding readFile then atEnd leading
-    requests-more h =
+    pub requests-found : FourAt gic edition zones (base + 4) (base + e)
+        ≡ requestsFound gic edition zones (base + length s) s
+    unfolding afterRequests
+    requests-found =
         let (qs, o, l) = found in
-        by qs (drop e s) (length-drop e s)
-        ∙ sym (ap (λ (x : Out (List Asked)). leading (afterRequests gic edition zones (base + length s))
-        (base + length s) (then x atEnd)) o)
-      where
-        by : (qs : List Asked) (u : List ℕ) → length u ≡ length s - e
-            → BadFound 22 (base + e) ≡ leading (afterRequests gic edition zones (base + length s)) (base + length s)
-            (atEnd qs u)
-        by qs [] m = absurd (omega arith)
-        by qs (x ∷ u) m =
-            let place : base + e ≡ base + length s - length (x ∷ u) = omega arith in
-            ap (BadFound 22) place
-
-    pub requests-whole : length s ≤ e
-        → At gic edition zones (base + 4) ≡ requestsFound gic edition zones (base + length s) s
-    unfolding readFile then atEnd leading afterRequests
-    requests-whole h =
-        let (qs, o, l) = found in
-        by qs (drop e s) (length-drop e s) l
-        ∙ sym (ap (λ (x : Out (List Asked)). leading (afterRequests gic edition zones (base + length s))
-        (base + length s) (then x atEnd)) o)
-      where
-        by : (qs : List Asked) (u : List ℕ) → length u ≡ length s - e
-            → 4 + length qs * requestSize + length u ≡ length s
-            → At gic edition zones (base + 4) ≡ leading (afterRequests gic edition zones (base + length s))
-            (base + length s) (atEnd qs u)
-        by qs [] m l =
-            let place : base + 4 ≡ base + length s - length qs * requestSize = omega arith in
-            ap (At gic edition zones) place
-        by qs (x ∷ u) m l = absurd (omega arith)
+        let w : e ≤ length s = end-within s _ requests-part r er e g in
+        let first : base + 4 ≡ base + length s - length (drop e s) - length qs * requestSize = omega arith in
+        let last : base + e ≡ base + length s - length (drop e s) = omega (arith, length-drop e s) in
+        ap₂ (λ (x y : ℕ). FourAt gic edition zones x y) first last
+        ∙ leads-on s _ requests-part r er (afterRequests gic edition zones (base + length s)) base e qs o
 
 -- ---- the marks, and the whole
-pub marks-got : (s : List ℕ) (m : Marks) (t : List ℕ) → marksSection limits .read s ≡ got m t
+pub marks-got : (k : ℕ) (s : List ℕ) (m : Marks) (t : List ℕ) → marksSection (inFormat (k ∷ []) limits) .read s ≡ got m t
     → (16 ≤ length s) × (t ≡ drop 16 s)
 unfolding readHeaded readAs readBoth
-marks-got s m t e =
-    let (n, u, ec, e') = then-got (readCount 4 3 3 s) (λ c s. marksFormat limits .read s) m t e in
+marks-got k s m t e =
+    let (n, u, ec, e') = then-got (readCount 4 3 3 s) (λ c s. marksFormat (inFormat (k ∷ []) limits) .read s) m t e in
     let (l, eu) = wide-got (number 4) 4 (λ b. little (take 4 b)) (wide-number 4) s n u (count-got 4 3 3 s n u ec .0) in
-    let (x, v, ex, ev) = then-got (both short (both short (exactly 4 secondFormat)) .read u) (λ x t. got (marksTo x) t) m t e' in
+    let (x, v, ex, ev) = then-got (both short (both short (exactly 4 (k ∷ []))) .read u) (λ x t. got (marksTo x) t) m t e' in
     let (a, (b, c)) = x in
-    let (u1, ea, f1) = both-got short (both short (exactly 4 secondFormat)) u a (b, c) v ex in
-    let (u2, eb, f2) = both-got short (exactly 4 secondFormat) u1 b c v f1 in
+    let (u1, ea, f1) = both-got short (both short (exactly 4 (k ∷ []))) u a (b, c) v ex in
+    let (u2, eb, f2) = both-got short (exactly 4 (k ∷ [])) u1 b c v f1 in
     let (k1, q1) = wide-got (number 4) 4 (λ b. little (take 4 b)) (wide-number 4) u a u1 ea in
     let (k2, q2) = wide-got (number 4) 4 (λ b. little (take 4 b)) (wide-number 4) u1 b u2 eb in
-    let (k3, q3) = exactly-got 4 secondFormat u2 c v f2 in
+    let (k3, q3) = exactly-got 4 (k ∷ []) u2 c v f2 in
     let q4 : v ≡ t = cc in (
       omega (arith, ap length eu, length-drop 4 s, ap length q1, length-drop 4 u, ap length q2, length-drop 4 u1),
       sym q4 ∙ q3 ∙ ap (drop 4) (q2 ∙ ap (drop 4) q1 ∙ drop-drop 4 4 u) ∙ drop-drop 4 8 u ∙ ap (drop 12) eu ∙ drop-drop 12 4 s,
     )
 
+-- ---- what was found, of what a reader of plans of any kind reads: r is that
+module _ {S : Type 0} (plan : S → Plan) (zonesOf : S → ℕ) (n : ℕ) (o : Out S) where
+  pub record Whole (gic edition zones requests : ℕ) : Type 0 where
+    pub said : S
+    pub left : List ℕ
+    pub read : o ≡ got said left
+    pub gic-is : gic ≡ plan said .marks .gic
+    pub edition-is : edition ≡ plan said .marks .edition
+    pub zones-is : zones ≡ zonesOf said
+    pub requests-is : requests ≡ n - length (plan said .asked) * requestSize
+
+  module _ (r : Found) (er : r ≡ foundOf plan zonesOf n o) where
+    -- a refusal
+    pub refusal-by : (k a : ℕ) → r ≡ BadFound k a → (t : List ℕ) × (o ≡ bad k t) × (a ≡ n - length t)
+    unfolding foundOf
+    refusal-by k a f = by o refl
+      where
+        by : (x : Out S) → o ≡ x → (t : List ℕ) × (o ≡ bad k t) × (a ≡ n - length t)
+        by (got p t) e =
+            absurd (let q : foundOf plan zonesOf n (got p t) ≡ BadFound k a = sym (er ∙ ap (foundOf plan zonesOf n) e)
+            ∙ f in
+            let z : _≡_ {A = ℕ} 0 1 = cc in
+            omega arith)
+        by (bad j t) e =
+            let q : BadFound j (n - length t) ≡ BadFound k a = sym (er ∙ ap (foundOf plan zonesOf n) e) ∙ f in
+            let i : j ≡ k = cc in
+            let p : a ≡ n - length t = cc in
+            (t, e ∙ ap (λ (x : ℕ). bad x t) i, p)
+
+    -- a plan that reads whole
+    pub whole-by : (gic edition zones requests : ℕ) → r ≡ At gic edition zones requests
+        → Whole gic edition zones requests
+    unfolding foundOf
+    whole-by gic edition zones requests f = by o refl
+      where
+        by : (x : Out S) → o ≡ x → Whole gic edition zones requests
+        by (got p t) e =
+            let q : At (plan p .marks .gic) (plan p .marks .edition) (zonesOf p)
+            (n - length (plan p .asked) * requestSize)
+            ≡ At gic edition zones requests =
+            sym (er ∙ ap (foundOf plan zonesOf n) e) ∙ f in
+            let g : gic ≡ plan p .marks .gic = cc in
+            let d : edition ≡ plan p .marks .edition = cc in
+            let z : zones ≡ zonesOf p = cc in
+            let l : requests ≡ n - length (plan p .asked) * requestSize = cc in
+            record { said = p; left = t; read = e; gic-is = g; edition-is = d; zones-is = z; requests-is = l }
+        by (bad j t) e =
+            absurd (let q : BadFound j (n - length t)
+            ≡ At gic edition zones requests = sym (er ∙ ap (foundOf plan zonesOf n) e)
+            ∙ f in
+            let z : _≡_ {A = ℕ} 0 1 = cc in
+            omega arith)
+
 -- a plan is its sections, one after another
 module _ (n : ℕ) where
   with-requests : (m : Marks) (rs : List Region) (zs : List Zone) (o : Out (List Asked))
-      → leading (afterRequests (m .gic) (m .edition) (marksBytes + (4 + length rs * regionSize)) n) n (then o atEnd)
-      ≡ foundIn n (then (then (then (then (then o (λ qs t. got (zs, qs) t)) (λ y t. got (rs, y) t))
-      (λ y t. got (m, y) t)) (λ x t. got (planTo x) t)) atEnd)
-  unfolding then leading atEnd afterRequests foundIn
-  with-requests m rs zs (got qs []) = refl
-  with-requests m rs zs (got qs (x ∷ u)) = refl
+      → leading (afterRequests (m .gic) (m .edition) (marksBytes + (4 + length rs * regionSize)) n) n o
+      ≡ fourIn n (then (then (then (then o (λ qs t. got (zs, qs) t)) (λ y t. got (rs, y) t))
+      (λ y t. got (m, y) t)) (λ x t. got (planTo x) t))
+  unfolding then leading afterRequests fourIn
+  with-requests m rs zs (got qs u) = refl
   with-requests m rs zs (bad k u) = refl
 
   with-zones : (m : Marks) (rs : List Region) (o : Out (List Zone))
       → leading (afterZones (m .gic) (m .edition) (marksBytes + (4 + length rs * regionSize)) n) n o
-      ≡ foundIn n (then (then (then (then (then o
+      ≡ fourIn n (then (then (then (then o
       (λ zs s. then (requestsSection limits .read s) (λ qs t. got (zs, qs) t))) (λ y t. got (rs, y) t))
-      (λ y t. got (m, y) t)) (λ x t. got (planTo x) t)) atEnd)
-  unfolding then leading afterZones readFile foundIn
+      (λ y t. got (m, y) t)) (λ x t. got (planTo x) t))
+  unfolding then leading afterZones fourIn
   with-zones m rs (got zs u) = with-requests m rs zs (requestsSection limits .read u)
   with-zones m rs (bad k u) = refl
 
   with-regions : (m : Marks) (o : Out (List Region)) → leading (afterRegions (m .gic) (m .edition) marksBytes n) n o
-      ≡ foundIn n (then (then (then (then o (λ rs s. then (both (zonesSection limits) (requestsSection limits) .read s)
-      (λ y t. got (rs, y) t))) (λ y t. got (
-        m,
-        y,
-      ) t)) (λ x t. got (planTo x) t)) atEnd)
-  unfolding then leading afterRegions readBoth foundIn
+      ≡ fourIn n (then (then (then o (λ rs s. then (both (zonesSection limits) (requestsSection limits) .read s)
+      (λ y t. got (rs, y) t))) (λ y t. got (m, y) t)) (λ x t. got (planTo x) t))
+  unfolding then leading afterRegions readBoth fourIn
   with-regions m (got rs u) = with-zones m rs (zonesSection limits .read u)
   with-regions m (bad k u) = refl
 
   with-marks : (o : Out Marks) → leading (afterMarks n) n o
-      ≡ foundIn n (then (then (then o (λ m s. then
+      ≡ fourIn n (then (then o (λ m s. then
       (both (regionsSection limits) (both (zonesSection limits) (requestsSection limits)) .read s)
-      (λ y t. got (m, y) t))) (λ x t. got (planTo x) t)) atEnd)
-  unfolding then leading afterMarks readBoth foundIn
+      (λ y t. got (m, y) t))) (λ x t. got (planTo x) t))
+  unfolding then leading afterMarks readBoth fourIn
   with-marks (got m u) = with-regions m (regionsSection limits .read u)
   with-marks (bad k u) = refl
 
-  whole-plan : (b : List ℕ) → marksFound n b ≡ foundIn n (readPlan limits b)
-  unfolding readPlan readFile readAs readBoth
-  whole-plan b = with-marks (marksSection limits .read b)
+  whole-plan : (k : ℕ) (b : List ℕ) → marksFound k n b ≡ fourIn n (planFormat (inFormat (k ∷ []) limits) .read b)
+  unfolding readAs readBoth
+  whole-plan k b = with-marks (marksSection (inFormat (k ∷ []) limits) .read b)
 
--- m is what the marks' reader answered
-module _ (s : List ℕ) (m : MarksAre) (em : m ≡ marksAnswer (length s) (marksSection limits .read s)) where
-  pub marks-refused : (k a : ℕ) → m ≡ BadMarks k a → BadFound k a ≡ foundIn (length s) (readPlan limits s)
-  unfolding marksAnswer leading
-  marks-refused k a f = by (marksSection limits .read s) refl em
+-- m is what the reader of marks answered for the format with the mark j
+module _ (j : ℕ) (s : List ℕ) (m : MarksAre)
+    (em : m ≡ marksAnswer (length s) (marksSection (inFormat (j ∷ []) limits) .read s)) where
+  pub marks-bad : (k a : ℕ) → m ≡ BadMarks k a
+      → (t : List ℕ) × (marksSection (inFormat (j ∷ []) limits) .read s ≡ bad k t) × (a ≡ length s - length t)
+  unfolding marksAnswer
+  marks-bad k a f = by (marksSection (inFormat (j ∷ []) limits) .read s) refl em
     where
-      by : (o : Out Marks) → marksSection limits .read s ≡ o → m ≡ marksAnswer (length s) o
-          → BadFound k a ≡ foundIn (length s) (readPlan limits s)
+      by : (o : Out Marks) → marksSection (inFormat (j ∷ []) limits) .read s ≡ o → m ≡ marksAnswer (length s) o
+          → (t : List ℕ) × (marksSection (inFormat (j ∷ []) limits) .read s ≡ bad k t) × (a ≡ length s - length t)
       by (got x t) e g =
           absurd (let q : Are (x .gic) (x .edition) ≡ BadMarks k a = sym g ∙ f in
           let z : _≡_ {A = ℕ} 0 1 = cc in
           omega arith)
-      by (bad j t) e g =
-          let q : BadMarks j (length s - length t) ≡ BadMarks k a = sym g ∙ f in
-          let i : k ≡ j = cc in
+      by (bad n t) e g =
+          let q : BadMarks n (length s - length t) ≡ BadMarks k a = sym g ∙ f in
+          let i : n ≡ k = cc in
           let p : a ≡ length s - length t = cc in
-          ap₂ (λ (x y : ℕ). BadFound x y) i p
-          ∙ sym (ap (leading (afterMarks (length s)) (length s)) e)
-          ∙ whole-plan (length s) s
+          (t, e ∙ ap (λ (x : ℕ). bad x t) i, p)
+
+  pub marks-refused : (k a : ℕ) → m ≡ BadMarks k a
+      → BadFour k a ≡ fourIn (length s) (planFormat (inFormat (j ∷ []) limits) .read s)
+  unfolding leading
+  marks-refused k a f =
+      let (t, e, p) = marks-bad k a f in
+      ap (BadFour k) p ∙ sym (ap (leading (afterMarks (length s)) (length s)) e) ∙ whole-plan (length s) j s
 
   module _ (gic edition : ℕ) (f : m ≡ Are gic edition) where
-    marks-are : marksSection limits .read s ≡ got (record { gic = gic; edition = edition }) (drop 16 s)
+    abbrev read : Out Marks
+    read = marksSection (inFormat (j ∷ []) limits) .read s
+
+    pub marks-are : read ≡ got (record { gic = gic; edition = edition }) (drop 16 s)
     unfolding marksAnswer
-    marks-are = by (marksSection limits .read s) refl em
+    marks-are = by read refl em
       where
-        by : (o : Out Marks) → marksSection limits .read s ≡ o → m ≡ marksAnswer (length s) o
-            → marksSection limits .read s ≡ got (record { gic = gic; edition = edition }) (drop 16 s)
+        by : (o : Out Marks) → read ≡ o → m ≡ marksAnswer (length s) o
+            → read ≡ got (record { gic = gic; edition = edition }) (drop 16 s)
         by (got x t) e g =
             let q : Are (x .gic) (x .edition) ≡ Are gic edition = sym g ∙ f in
             let i : x .gic ≡ gic = cc in
-            let j : x .edition ≡ edition = cc in
-            e ∙ ap₂ (λ (y z : ℕ). got (record { gic = y; edition = z }) t) i j
-            ∙ ap (got (record { gic = gic; edition = edition })) (marks-got s x t e .1)
+            let k : x .edition ≡ edition = cc in
+            e ∙ ap₂ (λ (y z : ℕ). got (record { gic = y; edition = z }) t) i k
+            ∙ ap (got (record { gic = gic; edition = edition })) (marks-got j s x t e .1)
         by (bad k t) e g =
             absurd (let q : BadMarks k (length s - length t) ≡ Are gic edition = sym g ∙ f in
             let z : _≡_ {A = ℕ} 0 1 = cc in
             omega arith)
 
     pub marks-there : 16 ≤ length s
-    marks-there = marks-got s (record { gic = gic; edition = edition }) (drop 16 s) marks-are .0
+    marks-there = marks-got j s (record { gic = gic; edition = edition }) (drop 16 s) marks-are .0
 
     pub regions-follow : length s < 2 ^ 64 → 16 + length (take (length s - 16) (drop 16 s)) < 2 ^ 64
     regions-follow h = let l : 16 ≤ length s = marks-there in omega (arith, ap length (rest-of s 16), length-drop 16 s)
 
-    pub marks-lead : (v : Found)
+    pub marks-lead : (v : Four)
         → v ≡ regionsFound gic edition marksBytes (16 + length (take (length s - 16) (drop 16 s)))
         (take (length s - 16) (drop 16 s))
-        → v ≡ foundIn (length s) (readPlan limits s)
+        → v ≡ fourIn (length s) (planFormat (inFormat (j ∷ []) limits) .read s)
     unfolding leading afterMarks
     marks-lead v h =
         let l : 16 ≤ length s = marks-there in
         let n : 16 + length (drop 16 s) ≡ length s = omega (arith, length-drop 16 s) in
         h ∙ ap (λ (b : List ℕ). regionsFound gic edition marksBytes (16 + length b) b) (rest-of s 16)
         ∙ ap (λ (k : ℕ). regionsFound gic edition marksBytes k (drop 16 s)) n
-        ∙ sym (ap (leading (afterMarks (length s)) (length s)) marks-are) ∙ whole-plan (length s) s
+        ∙ sym (ap (leading (afterMarks (length s)) (length s)) marks-are) ∙ whole-plan (length s) j s
+
+-- ---- the whole file: what was found of the four sections, and nothing may follow them
+module _ {S : Type 0} (plan : S → Plan) (zonesOf : S → ℕ) (n : ℕ) where
+  pub whole-of : (o : Out S) → length (left o) ≤ n
+      → wholeOf n (fourOf plan zonesOf n o) ≡ foundOf plan zonesOf n (then o atEnd)
+  unfolding wholeOf fourOf foundOf then atEnd left
+  whole-of (got p []) h =
+      let z : n - 0 ≡ n = omega arith in
+      ap (λ (k : ℕ). cond (ltb k n) (BadFound 22 k)
+      (At (plan p .marks .gic) (plan p .marks .edition) (zonesOf p) (k - length (plan p .asked) * requestSize))) z
+      ∙ ap (λ (x : Bool). cond x (BadFound 22 n)
+      (At (plan p .marks .gic) (plan p .marks .edition) (zonesOf p) (n - length (plan p .asked) * requestSize)))
+      (le-ltb n n (omega arith))
+  whole-of (got p (x ∷ t)) h =
+      let m : ℕ = n - length (x ∷ t) in
+      ap (λ (y : Bool). cond y (BadFound 22 m)
+      (At (plan p .marks .gic) (plan p .marks .edition) (zonesOf p) (m - length (plan p .asked) * requestSize)))
+      (lt-ltb m n (let k : 0 < length (x ∷ t) = omega arith in omega arith))
+  whole-of (bad k t) h = refl
+
+-- r is what was found of the sections
+module _ (n : ℕ) (r : Four) where
+  pub ends-bad : (k a : ℕ) → r ≡ BadFour k a → BadFound k a ≡ wholeOf n r
+  unfolding wholeOf
+  ends-bad k a f = sym (ap (wholeOf n) f)
+
+  module _ (gic edition zones requests end : ℕ) (f : r ≡ FourAt gic edition zones requests end) where
+    pub ends-early : end < n → BadFound 22 end ≡ wholeOf n r
+    unfolding wholeOf
+    ends-early h =
+        sym (ap (wholeOf n) f
+        ∙ ap (λ (x : Bool). cond x (BadFound 22 end) (At gic edition zones requests)) (lt-ltb end n h))
+
+    pub ends-there : n ≤ end → At gic edition zones requests ≡ wholeOf n r
+    unfolding wholeOf
+    ends-there h =
+        sym (ap (wholeOf n) f
+        ∙ ap (λ (x : Bool). cond x (BadFound 22 end) (At gic edition zones requests)) (le-ltb end n h))
+
+-- a plan that was found whole
+pub plan-found : (s : List ℕ) (r : Four) (v : Found) → r ≡ fourIn (length s) (planFormat limits .read s)
+    → v ≡ wholeOf (length s) r → v ≡ foundIn (length s) (readPlan limits s)
+unfolding readPlan readFile foundIn fourIn
+plan-found s r v er e =
+    let (w, q) = lawful-plan limits .part s in
+    e ∙ ap (wholeOf (length s)) er
+    ∙ whole-of (λ (p : Plan). p) (zonesAt limits) (length s) (planFormat limits .read s)
+    (omega (arith, ap length q, length-append w (left (planFormat limits .read s))))

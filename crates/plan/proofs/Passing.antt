@@ -5,7 +5,7 @@ use native.Mathlib.Nat.{suc-mul, zero-mul}
 use native.Mathlib.Omega.{arith}
 use mathlib.Core.Bool.{Bool, true, false, not}
 use mathlib.Core.List.{List, _∷_}
-use mathlib.Core.Path.{_≡_, refl, sym, ap, ap₂, _∙_}
+use mathlib.Core.Path.{_≡_, sym, ap, ap₂, _∙_}
 use lib.ListN.{length, take, drop, length-drop}
 use lib.Seq.{drop-drop}
 use Rattle.lists.specs.Bytes.{little}
@@ -20,7 +20,6 @@ use Rattle.plan.specs.Fields.{NumberRead}
 use Rattle.plan.specs.Sections.{sectionAnswer}
 use Rattle.plan.specs.declared.field.Number.{Number}
 use Rattle.plan.specs.declared.field.Number.the-variants.{Is, Missing}
-use Rattle.plan.specs.declared.words.Section.{Section}
 use Rattle.plan.specs.declared.words.Section.the-variants.{End, Bad}
 use Rattle.rules.specs.Plan.{regionFormat}
 use Rattle.rules.specs.declared.Region.{Region}
@@ -42,6 +41,7 @@ module _ {A : Type 0} (F : Format A) (k : ℕ) (f : List ℕ → A) (wide : Wide
 
   pub record Listed (lo hi : ℕ) (b : List ℕ) (xs : List A) (t : List ℕ) : Type 0 where
     pub count : length xs ≡ little (take 4 b)
+    pub least : lo ≤ length xs
     pub most : length xs ≤ hi
     pub there : 4 + length xs * k ≤ length b
     pub rest : t ≡ drop (4 + length xs * k) b
@@ -64,6 +64,7 @@ module _ {A : Type 0} (F : Format A) (k : ℕ) (f : List ℕ → A) (wide : Wide
       let w : length xs ≡ n = ap length v ∙ length-tab n (λ i. f (drop (i * k) u)) in
       record {
         count = w ∙ c;
+        least = omega (arith, w, counted .1 .0);
         most = omega (arith, w, counted .1 .1);
         there = omega (arith, ap (λ (j : ℕ). j * k) w, enough, ap length eu, length-drop 4 b);
         rest = r ∙ ap (drop (n * k)) eu ∙ drop-drop (n * k) 4 b ∙ ap (λ (j : ℕ). drop (4 + j * k) b) (sym w);

@@ -5,22 +5,22 @@ use native.Mathlib.Omega.{arith}
 use mathlib.Core.Bool.{Bool, true, false, cond, not}
 use mathlib.Core.List.{List, [], _∷_, flatMap}
 use mathlib.Core.Path.{_≡_, refl, sym, ap, subst, _∙_}
-use borrow.Author.Tests.{eqb-true, eqb-false, eq-eqb, ne-eqb}
+use borrow.Author.Tests.{eqb-true, eqb-false, ne-eqb}
 use lib.Dec.{eqb}
-use lib.ListN.{length, replicate}
+use lib.ListN.{length, drop, replicate}
 use Rattle.lists.specs.Rules.{_when_, firstRule}
 use Rattle.lists.proofs.Words.{counted-words}
 use Rattle.formats.specs.Formats.{Out, got, bad}
-use Rattle.rules.specs.Applying.{sameList, sameZone}
+use Rattle.rules.specs.Applying.{sameList, sameZone, plain, plainSteps}
 use Rattle.rules.specs.Configuration.{check, isSound}
 use Rattle.rules.specs.Limits.{mostZones, limits}
 use Rattle.rules.specs.Plan.{zonesSection}
 use Rattle.rules.specs.Requests.{standingRules, standing}
-use Rattle.rules.specs.Run.{requestsIn, run, ended, runAnswer, Run}
+use Rattle.rules.specs.Run.{requestsIn, ended, runAnswer, Run}
+use Rattle.rules.specs.Steps.{StepRule}
 use Rattle.rules.specs.Tables.{tableOf, checkTable, noZone, Zone}
 use Rattle.rules.specs.declared.Outcome.{Outcome}
 use Rattle.rules.proofs.Applying.{same-list, same-zone}
-use Rattle.rules.proofs.Keeps.{parts-sound}
 use Rattle.rules.proofs.Stored.{stands-well, run-from-keeps}
 use Rattle.zones.specs.Layout.{zoneWords, tableWords}
 use Rattle.zones.specs.Run.{runWords, RanIn}
@@ -28,16 +28,17 @@ use Rattle.zones.specs.View.{storedConfig, storedTable, configIn, zonesIn}
 use Rattle.zones.specs.Words.{wordsOfZone, wordsOf, emptied, Within}
 use Rattle.zones.proofs.Focus.{zero-zone}
 use Rattle.zones.proofs.Free.{emptied-words}
-use Rattle.zones.proofs.Stepping.{sound-within, stands-ready}
 use Rattle.plan.specs.Applying.{RanOrUndone, Refilled}
 use Rattle.plan.specs.Held.{heldAnswer, isHeld, tableHeld}
 use Rattle.plan.specs.Into.{zonesInto, Reads}
-use Rattle.plan.specs.Sections.{sectionAnswer, tableAnswer, zonesAnswer}
+use Rattle.plan.specs.Steps.{ownBy, doneBy, RanBy, RanOrUndoneBy}
+use Rattle.plan.specs.Sections.{sectionAnswer, tableAnswer}
 use Rattle.plan.specs.declared.comparing.Held.the-variants.{Same, Other}
-use Rattle.plan.specs.declared.sections.Zones.{Zones}
 use Rattle.plan.specs.declared.words.Section.{Section}
 use Rattle.plan.specs.declared.words.Section.the-variants.{End, Bad}
-use Rattle.plan.proofs.Answers.{zones-are, zones-bad}
+use Rattle.plan.proofs.Agreeing.{zones-agree}
+use Rattle.plan.proofs.Answers.{reads-bad, zones-read}
+use Rattle.plan.proofs.Steps.{stood-by, Stood}
 
 -- zones that are held are what the section reads to
 held-zones : (s w : List ℕ) → tableHeld s w ≡ true → (t : List ℕ) × (zonesSection limits .read s ≡ got (zonesIn w) t)
@@ -75,26 +76,19 @@ refilled s v zs ys u (r, read) fits e =
     by r (subst (λ (w : List ℕ). Reads s v r (zonesInto w s)) (emptied-words zs fits ∙ no-zones) read)
   where
     by : (r : Section) → Reads s v r (zonesInto (replicate tableWords 0) s) → v ≡ wordsOf ys
-    by (End a) q =
-        ap (λ (z : Zones). z .table .words) (zones-are s v (End a) q a refl)
-        ∙ ap (λ (o : Out (List Zone)). zonesAnswer (length s) o .table .words) e
+    by (End a) q = zones-read s v (End a) q a refl .words ∙ ap (λ (o : Out (List Zone)). tableAnswer o .words) e
     by (Bad k a) q =
-        absurd (let f : Bad k a ≡ End (length s - length u) = ap (λ (z : Zones). z .section)
-        (zones-bad s v (Bad k a) q k a refl)
-        ∙ ap (λ (o : Out (List Zone)). zonesAnswer (length s) o .section) e in
+        absurd (let (o, l) = reads-bad _ _ s v (Bad k a) _ (zones-agree (replicate tableWords 0) s) q k a refl in
+        let f : bad k (drop a s) ≡ got ys u = sym o ∙ e in
         let z : _≡_ {A = ℕ} 0 1 = cc in
         omega arith)
 
 -- ---- the numbers of a run: 1 or 2 of a state that does not stand, else 0 or 27
-stands-below : (c t : List ℕ) → standing limits (storedConfig c) (storedTable t) ≡ 27 → ⊥
-unfolding standingRules firstRule
-stands-below c t e =
-    by (not (isSound (check limits (storedConfig c)))) (not (checkTable limits (storedConfig c) (storedTable t))) e
-  where
-    by : (x y : Bool) → _≡_ {A = ℕ} (firstRule (1 when x ∷ 2 when y ∷ []) 0) 27 → ⊥
-    by true y h = omega arith
-    by false true h = omega arith
-    by false false h = omega arith
+pub one-or-two : (x y : Bool) → _≡_ {A = ℕ} (firstRule (1 when x ∷ 2 when y ∷ []) 0) 27 → ⊥
+unfolding firstRule
+one-or-two true y h = omega arith
+one-or-two false true h = omega arith
+one-or-two false false h = omega arith
 
 ended-else : (r : Run) → (ended r .number ≡ 27 → ⊥) → ended r .number ≡ 0
 unfolding ended
@@ -104,70 +98,85 @@ ended-else r ne = by (eqb (r .inner) 0) ne
     by true h = refl
     by false h = absurd (h refl)
 
--- ---- after a run that answered o and left u
-module _ (c t b : List ℕ) (o : Outcome) (u : List ℕ) (ran : RanIn c t b o u) where
+-- ---- after a run by any step rule that answered o and left u
+module _ (m : StepRule) (c : m .Config) (t b : List ℕ) (o : Outcome) (u : List ℕ) (ran : RanBy m c t b o u)
+    (stood : ownBy m c t ≡ 0 → Stood m c t) (below : ownBy m c t ≡ 27 → ⊥) where
   abbrev own : ℕ
-  own = standing limits (storedConfig c) (storedTable t)
+  own = ownBy m c t
 
   abbrev done : Run
-  done = run limits (configIn c) (tableOf (storedTable t)) (requestsIn b)
+  done = doneBy m c t b
 
-  stands-answer : own ≡ 0 → o ≡ ended done
-  unfolding runAnswer
-  stands-answer z =
-      ran .answer
-      ∙ ap (λ (x : Bool). cond x (ended done) (record { number = own; place = 0; inner = 0 })) (eq-eqb _ 0 z)
+  answered : (x : Bool) → eqb own 0 ≡ x → o ≡ cond x (ended done) (plain own 0)
+  answered x h = ran .answer ∙ ap (λ (x : Bool). cond x (ended done) (plain own 0)) h
 
-  unsound-answer : (own ≡ 0 → ⊥) → o .number ≡ own
-  unfolding runAnswer
-  unsound-answer ne =
-      ap (λ (x : Outcome). x .number) (ran .answer
-      ∙ ap (λ (x : Bool). cond x (ended done) (record { number = own; place = 0; inner = 0 })) (ne-eqb _ 0 ne))
+  left : (x : Bool) → eqb own 0 ≡ x → u ≡ cond x (wordsOf (done .table)) t
+  left x h = ran .table ∙ ap (λ (x : Bool). cond x (wordsOf (done .table)) t) h
 
   -- no request was refused: the words are what they must be
-  pub run-kept : (o .number ≡ 27 → ⊥) → RanOrUndone c t b o u
-  unfolding runWords
-  run-kept ne = record { answer = ran .answer; table = ran .table ∙ by (eqb own 0) refl (eqb (o .number) 0) refl }
+  pub run-kept-by : (o .number ≡ 27 → ⊥) → RanOrUndoneBy m c t b o u
+  run-kept-by ne = record { answer = ran .answer; table = by (eqb own 0) refl (eqb (o .number) 0) refl }
     where
+      number : (x : Bool) → eqb own 0 ≡ x → o .number ≡ cond x (ended done) (plain own 0) .number
+      number x h = ap (λ (v : Outcome). v .number) (answered x h)
+
       by : (x : Bool) → eqb own 0 ≡ x → (y : Bool) → eqb (o .number) 0 ≡ y
-          → runWords c t b ≡ cond (eqb (o .number) 0) (runWords c t b) t
-      by x h true g = sym (ap (λ (y : Bool). cond y (runWords c t b) t) g)
+          → u ≡ cond (eqb (o .number) 0) (wordsOf (done .table)) t
+      by true h true g = left true h ∙ sym (ap (λ (y : Bool). cond y (wordsOf (done .table)) t) g)
       by true h false g =
-          let q = stands-answer (eqb-true _ _ h) in
-          absurd (eqb-false _ _ g (ap (λ (x : Outcome). x .number) q
-          ∙ ended-else done (λ k. ne (ap (λ (x : Outcome). x .number) q ∙ k))))
-      by false h false g =
-          ap (λ (x : Bool). cond x (wordsOf (done .table)) t) h ∙ sym (ap (λ (y : Bool). cond y (runWords c t b) t) g)
+          absurd (eqb-false _ _ g (number true h ∙ ended-else done (λ k. ne (number true h ∙ k))))
+      by false h true g = absurd (eqb-false _ _ h (sym (number false h) ∙ eqb-true _ _ g))
+      by false h false g = left false h ∙ sym (ap (λ (y : Bool). cond y (wordsOf (done .table)) t) g)
 
   -- a request was refused: the zones that the plan gives are read back
   module _ (h : o .number ≡ 27) (s : List ℕ) (held : tableHeld s t ≡ true) (l : length t ≡ tableWords) where
-    stood : own ≡ 0
-    stood = by (eqb own 0) refl
+    stands : eqb own 0 ≡ true
+    stands = by (eqb own 0) refl
       where
-        by : (x : Bool) → eqb own 0 ≡ x → own ≡ 0
-        by true g = eqb-true _ _ g
-        by false g = absurd (stands-below c t (sym (unsound-answer (eqb-false _ _ g)) ∙ h))
+        by : (x : Bool) → eqb own 0 ≡ x → eqb own 0 ≡ true
+        by true g = g
+        by false g = absurd (below (sym (ap (λ (v : Outcome). v .number) (answered false g)) ∙ h))
 
-    pub run-undone : (v : List ℕ) → Refilled s u v → RanOrUndone c t b o v
-    unfolding runWords
-    run-undone v f = record {
+    pub run-undone-by : (v : List ℕ) → Refilled s u v → RanOrUndoneBy m c t b o v
+    run-undone-by v f = record {
       answer = ran .answer;
       table =
-          back ∙ sym (ap (λ (y : Bool). cond y (runWords c t b) t) (ne-eqb (o .number) 0 (λ z. omega (arith, h, z))));
+          back
+          ∙ sym (ap (λ (y : Bool). cond y (wordsOf (done .table)) t) (ne-eqb (o .number) 0 (λ z. omega (arith, h, z))));
     }
       where
-        left : u ≡ wordsOf (done .table)
-        left = ran .table ∙ ap (λ (x : Bool). cond x (wordsOf (done .table)) t) (eq-eqb _ 0 stood)
-
-        fits : Within (done .table)
-        fits =
-            let (ok, sound) = stands-well limits (storedConfig c) (storedTable t) stood in
-            sound-within (configIn c) (done .table)
-            (parts-sound limits (configIn c) (done .table)
-            (run-from-keeps limits (configIn c) 0 (tableOf (storedTable t)) (requestsIn b) sound))
+        ok : Stood m c t
+        ok = stood (eqb-true _ _ stands)
 
         back : v ≡ t
         back =
             let (rest, read) = held-zones s t held in
-            refilled s v (done .table) (zonesIn t) rest (subst (λ (w : List ℕ). Refilled s w v) left f) fits read
-            ∙ sym (stands-ready c t 0 (sym stood) refl l .words .words)
+            refilled s v (done .table) (zonesIn t) rest
+            (subst (λ (w : List ℕ). Refilled s w v) (left true stands) f) (ok .within (requestsIn b)) read
+            ∙ sym (ok .words l)
+
+-- ---- and by document 01's
+module _ (c t : List ℕ) where
+  stands-below : standing limits (storedConfig c) (storedTable t) ≡ 27 → ⊥
+  unfolding standingRules
+  stands-below =
+      one-or-two (not (isSound (check limits (storedConfig c)))) (not (checkTable limits (storedConfig c) (storedTable t)))
+
+  pub plainly-stood : standing limits (storedConfig c) (storedTable t) ≡ 0
+      → Stood (plainSteps limits) (storedConfig c) t
+  plainly-stood z =
+      let (ok, sound) = stands-well limits (storedConfig c) (storedTable t) z in
+      stood-by (plainSteps limits) refl (storedConfig c) t c z
+      (λ qs. run-from-keeps limits (configIn c) 0 (tableOf (storedTable t)) qs sound)
+
+  module _ (b : List ℕ) (o : Outcome) (u : List ℕ) (ran : RanIn c t b o u) where
+    plainly-ran : RanBy (plainSteps limits) (storedConfig c) t b o u
+    unfolding runAnswer runWords
+    plainly-ran = record { answer = ran .answer; table = ran .table }
+
+    pub run-kept : (o .number ≡ 27 → ⊥) → RanOrUndone c t b o u
+    run-kept = run-kept-by (plainSteps limits) (storedConfig c) t b o u plainly-ran plainly-stood stands-below
+
+    pub run-undone : o .number ≡ 27 → (s : List ℕ) → tableHeld s t ≡ true → length t ≡ tableWords
+        → (v : List ℕ) → Refilled s u v → RanOrUndone c t b o v
+    run-undone = run-undone-by (plainSteps limits) (storedConfig c) t b o u plainly-ran plainly-stood stands-below

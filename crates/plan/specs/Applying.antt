@@ -1,24 +1,22 @@
 -- Applying a plan where the state is words: what the code answers, and the next state.
 use Prim.Native.Nat.{ℕ}
-use mathlib.Core.Bool.{cond, not}
-use mathlib.Core.List.{List, [], _∷_}
+use mathlib.Core.Bool.{cond}
+use mathlib.Core.List.{List}
 use mathlib.Core.Path.{_≡_}
 use lib.Dec.{eqb}
-use Rattle.lists.specs.Rules.{_when_, firstRule}
 use Rattle.rules.specs.Limits.{limits}
 use Rattle.rules.specs.Applying as rules
-use Rattle.rules.specs.Applying.{lastEdition, plain, apply, Terminal}
+use Rattle.rules.specs.Applying.{plainSteps, apply, Terminal}
 use Rattle.rules.specs.Requests.{standing}
-use Rattle.rules.specs.Run.{requestsIn, runAnswer}
 use Rattle.rules.specs.Tables.{tableOf}
 use Rattle.rules.specs.declared.Outcome.{Outcome}
-use Rattle.zones.specs.Run.{runWords}
 use Rattle.zones.specs.View.{storedConfig, storedTable}
 use Rattle.zones.specs.Words.{wordsOf, emptied}
 use Rattle.plan.specs.declared.applying.Applied.{Applied}
 use Rattle.plan.specs.declared.applying.State.{State}
-use Rattle.plan.specs.Held.{configHeld, tableHeld}
+use Rattle.plan.specs.Held.{configHeld}
 use Rattle.plan.specs.Into.{zonesInto, Reads}
+use Rattle.plan.specs.Steps.{awayWith, baseNumber, RanOrUndoneBy, FoundBy}
 use Rattle.plan.specs.declared.words.Section.{Section}
 
 -- the terminal whose state the words are
@@ -49,35 +47,21 @@ pub record AppliedIn (c t : List ℕ) (e : ℕ) (b : List ℕ) (r : Outcome) (u 
   pub answer : r ≡ applied (stateIn c t e) b .outcome
   pub table : u ≡ applied (stateIn c t e) b .state .table .words
 
--- ---- how the code goes about it
+-- ---- how the code goes about it (by any step rule: Steps)
 -- 1 or 2, or a number that the plan has earned
 unfoldable pub turnedAway : List ℕ → List ℕ → ℕ → ℕ → Outcome
-turnedAway c t k place =
-    cond (eqb (standing limits (storedConfig c) (storedTable t)) 0) (plain k place)
-    (plain (standing limits (storedConfig c) (storedTable t)) 0)
-
--- 23 to 26, or 0: the plan's marks, and its bytes from the regions on and from the zones on, held against the words
-unfoldable pub baseNumber : List ℕ → List ℕ → ℕ → ℕ → ℕ → List ℕ → List ℕ → ℕ
-baseNumber c t e gic base rs zs =
-    firstRule
-    (23 when not (configHeld rs gic c)
-    ∷ 24 when not (eqb e base)
-    ∷ 25 when eqb e lastEdition
-    ∷ 26 when not (tableHeld zs t)
-    ∷ [])
-    0
+unfolding awayWith
+turnedAway c t k place = awayWith (standing limits (storedConfig c) (storedTable t)) k place
 
 -- a run, after which the table is what it was unless the number is 0
-pub record RanOrUndone (c t b : List ℕ) (r : Outcome) (u : List ℕ) : Type 0 where
-  pub answer : r ≡ runAnswer limits (storedConfig c) (storedTable t) (requestsIn b)
-  pub table : u ≡ cond (eqb (r .number) 0) (runWords c t b) t
+abbrev pub RanOrUndone : List ℕ → List ℕ → List ℕ → Outcome → List ℕ → Type 0
+RanOrUndone c t b r u = RanOrUndoneBy (plainSteps limits) (storedConfig c) t b r u
 
 -- the zones that the bytes give, read into the words of a table without zones
 abbrev pub Refilled : List ℕ → List ℕ → List ℕ → Type 0
 Refilled s w v = (r : Section) × Reads s v r (zonesInto (emptied w) s)
 
--- a plan that reads whole, by its base's number
-pub record FoundIn (c t : List ℕ) (e gic base : ℕ) (rs zs b : List ℕ) (r : Outcome) (u : List ℕ) : Type 0 where
-  pub base-other : (baseNumber c t e gic base rs zs ≡ 0 → ⊥)
-      → (r ≡ turnedAway c t (baseNumber c t e gic base rs zs) 0) × (u ≡ t)
-  pub base-same : baseNumber c t e gic base rs zs ≡ 0 → RanOrUndone c t b r u
+-- a plan that reads whole: its marks, and its bytes from the regions on, from the zones on and from the first request on
+abbrev pub FoundIn : List ℕ → List ℕ → ℕ → ℕ → ℕ → List ℕ → List ℕ → List ℕ → Outcome → List ℕ → Type 0
+FoundIn c t e gic base rs zs b r u =
+    FoundBy (plainSteps limits) (storedConfig c) t (baseNumber (configHeld rs gic c) t e base zs) b r u

@@ -5,5 +5,6 @@ pub mod Sections
 pub mod Found
 pub mod Held
 pub mod Read
+pub mod Steps
 pub mod Applying
 pub mod Deliveries

@@ -2,9 +2,11 @@
 -- of what is left.
 use Prim.Native.Nat.{ℕ, _-_}
 use mathlib.Core.List.{List}
+use mathlib.Core.Path.{_≡_}
 use lib.ListN.{length, replicate}
-use Rattle.formats.specs.Formats.{Out, got, bad}
-use Rattle.rules.specs.Plan.{Marks as PlanMarks}
+use Rattle.formats.specs.Formats.{Out, got, bad, Format, listed}
+use Rattle.rules.specs.Limits.{limits}
+use Rattle.rules.specs.Plan.{short, regionsSection, zonesSection, Marks as PlanMarks}
 use Rattle.rules.specs.Tables.{Zone}
 use Rattle.rules.specs.declared.Region.{Region}
 use Rattle.zones.specs.Layout.{configWords, tableWords}
@@ -26,6 +28,10 @@ marksAnswer n (bad k left) = BadMarks k (n - length left)
 unfoldable pub sectionAnswer : {A : Type 0} → ℕ → Out A → Section
 sectionAnswer n (got x left) = End (n - length left)
 sectionAnswer n (bad k left) = Bad k (n - length left)
+
+-- numbers after their count, which must be n
+abbrev pub numbersSection : ℕ → Format (List ℕ)
+numbersSection n = listed 4 n n short
 
 -- zeros, where there is nothing to give
 abbrev pub noConfig : Config
@@ -54,3 +60,12 @@ regionsAnswer gic n o = record { section = sectionAnswer n o; config = configAns
 
 abbrev pub zonesAnswer : ℕ → Out (List Zone) → Zones
 zonesAnswer n o = record { section = sectionAnswer n o; table = tableAnswer o }
+
+-- ---- the same into lent words, of which w is what they then are
+pub record RegionsIn (gic : ℕ) (s : List ℕ) (r : Section) (w : List ℕ) : Type 0 where
+  pub section : r ≡ sectionAnswer (length s) (regionsSection limits .read s)
+  pub words : w ≡ configAnswer gic (regionsSection limits .read s) .words
+
+pub record ZonesIn (s : List ℕ) (r : Section) (w : List ℕ) : Type 0 where
+  pub section : r ≡ sectionAnswer (length s) (zonesSection limits .read s)
+  pub words : w ≡ tableAnswer (zonesSection limits .read s) .words

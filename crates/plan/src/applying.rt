@@ -25,10 +25,9 @@ ghost use mathlib.Core.Bool.{true};
 ghost use mathlib.Core.Path.{_≡_};
 ghost use Rattle.rules.specs.Limits.{limits};
 ghost use Rattle.rules.specs.Applying.{answerAlone};
-ghost use Rattle.rules.specs.Run.{requestsIn, runAnswer};
-ghost use Rattle.zones.specs.View.{storedConfig, storedTable};
-ghost use Rattle.plan.specs.Applying.{applied, turnedAway, baseNumber, AppliedIn, FoundIn, RanOrUndone, Refilled};
+ghost use Rattle.plan.specs.Applying.{applied, AppliedIn, FoundIn, RanOrUndone, Refilled};
 ghost use Rattle.plan.specs.Held.{tableHeld};
+ghost use Rattle.plan.specs.Steps.{awayWith, baseNumber};
 
 const LAST_EDITION: u32 = u32::MAX;
 
@@ -59,7 +58,7 @@ pub fn apply_words(
 {
     let found = find_sections(plan);
     match found {
-        Found::Bad { number, at } => turned_away(config, table, number, at),
+        Found::Bad { number, at } => turned_away(standing(config, table), number, at),
         Found::At {
             gic,
             edition: base,
@@ -91,26 +90,26 @@ fn apply_found(
 ) -> Outcome
     ensures { λ r. ⌜ FoundIn (now (config .entry)) (now (table .entry)) edition gic base (now (regions .entry)) (now (zones .entry)) (now (requests .entry)) r (now (table .exit)) ⌝ }
 {
-    let number = base_number(config, table, edition, gic, base, regions, zones);
+    let same = same_config(regions, gic, config);
+    let number = base_number(same, table, edition, base, zones);
     if number != 0 {
-        return turned_away(config, table, number, 0);
+        return turned_away(standing(config, table), number, 0);
     }
     run_or_undo(config, table, zones, requests)
 }
 
-// The first of 23 to 26 that applies, or 0.
-fn base_number(
-    config: &[u64; CONFIG_WORDS],
+// The first of 23 to 26 that applies, or 0: whether a plan gives the terminal's configuration, both editions, and the plan's bytes from
+// the zones' count on.
+pub fn base_number(
+    same: bool,
     table: &[u64; TABLE_WORDS],
     edition: u32,
-    gic: u32,
     base: u32,
-    regions: &[u8],
     zones: &[u8],
 ) -> u32
-    ensures { λ n. ⌜ n ≡ baseNumber (now (config .entry)) (now (table .entry)) edition gic base (now (regions .entry)) (now (zones .entry)) ⌝ }
+    ensures { λ n. ⌜ n ≡ baseNumber same (now (table .entry)) edition base (now (zones .entry)) ⌝ }
 {
-    if !same_config(regions, gic, config) {
+    if !same {
         return OTHER_CONFIG;
     }
     if edition != base {
@@ -125,16 +124,10 @@ fn base_number(
     0
 }
 
-// A number that the plan has earned, unless the terminal's own state is unsound.
-fn turned_away(
-    config: &[u64; CONFIG_WORDS],
-    table: &[u64; TABLE_WORDS],
-    number: u32,
-    place: usize,
-) -> Outcome
-    ensures { λ r. ⌜ r ≡ turnedAway (now (config .entry)) (now (table .entry)) number place ⌝ }
+// A number that the plan has earned, unless the terminal's own number says that its state is unsound.
+pub fn turned_away(own: u32, number: u32, place: usize) -> Outcome
+    ensures { λ r. ⌜ r ≡ awayWith own number place ⌝ }
 {
-    let own = standing(config, table);
     if own != 0 {
         return Outcome {
             number: own,
@@ -168,8 +161,8 @@ fn run_or_undo(
     outcome
 }
 
-// The zones of a section, in the words of a table.
-fn refill(table: &mut [u64; TABLE_WORDS], zones: &[u8])
+// The zones of a section, read into a table's words from which its own are cleared.
+pub fn refill(table: &mut [u64; TABLE_WORDS], zones: &[u8])
     ensures { λ r. ⌜ Refilled (now (zones .entry)) (now (table .entry)) (now (table .exit)) ⌝ }
 {
     clear_zones(table);

@@ -2,7 +2,7 @@
 use crate::field::Number;
 use crate::field::is_within;
 use crate::field::number_at;
-use crate::finding::pass_regions;
+use crate::finding::pass_list;
 use crate::words::Section;
 use fields::u32_at;
 use rules::limits::MOST_IN_SET;
@@ -13,6 +13,7 @@ use rules::widths::SHORT_BYTES;
 use zones::CONFIG_COUNT;
 use zones::CONFIG_GIC;
 use zones::CONFIG_RECORDS;
+use zones::CONFIG_WORDS;
 use zones::REGION_WORDS;
 use zones::SET_WORDS;
 use zones::holds_region;
@@ -30,7 +31,7 @@ ghost use Rattle.rules.specs.Limits.{mostZones, limits};
 ghost use Rattle.rules.specs.Plan.{regionField, zoneFormat};
 ghost use Rattle.rules.specs.Regions.{regionEq};
 ghost use Rattle.rules.specs.Run.{regionIn};
-ghost use Rattle.zones.specs.Layout.{regionWords, setWords, tableWords, configWords, zoneBase};
+ghost use Rattle.zones.specs.Layout.{regionWords, setWords, tableWords, zoneBase};
 ghost use Rattle.zones.specs.Records.{regionAt};
 ghost use Rattle.zones.specs.View.{zoneIn};
 ghost use Rattle.plan.specs.Held.{twoSets, heldAnswer, isHeld, sameRecord, holdsRegions, holdsSets, configHeld, tableHeld};
@@ -70,7 +71,7 @@ fn same_regions(s: &[u8], start: usize, lo: u32, hi: u32, w: &[u64], k: usize, a
     requires { ⌜ ((start ≤ length (now s)) × (k < length (now w))) × (a + hi * regionWords ≤ length (now w)) ⌝ }
     ensures { λ r. ⌜ r ≡ heldAnswer (length (now (s .entry))) (holdsRegions (now (w .entry)) k a) (listed 4 lo hi regionField .read (drop start (now (s .entry)))) ⌝ }
 {
-    let section = pass_regions(s, start, lo, hi);
+    let section = pass_list(s, start, lo, hi);
     let Section::End(end) = section else {
         return Held::Other;
     };
@@ -148,8 +149,7 @@ pub fn same_zones(s: &[u8], w: &[u64]) -> bool
 }
 
 // The regions' section from its count on, and the GIC's position, held against a configuration's words.
-pub fn same_config(s: &[u8], gic: u32, w: &[u64]) -> bool
-    requires { ⌜ configWords ≤ length (now w) ⌝ }
+pub fn same_config(s: &[u8], gic: u32, w: &[u64; CONFIG_WORDS]) -> bool
     ensures { λ b. ⌜ b ≡ configHeld (now (s .entry)) gic (now (w .entry)) ⌝ }
 {
     let regions = same_regions(

@@ -3,6 +3,8 @@
 use crate::field::Number;
 use crate::field::is_within;
 use crate::field::number_at;
+use crate::finding::pass_regions;
+use crate::finding::pass_zones;
 use crate::words::Section;
 use crate::words::read_set;
 use crate::words::read_table;
@@ -21,11 +23,14 @@ use zones::CONFIG_WORDS;
 use zones::Config;
 use zones::TABLE_WORDS;
 use zones::Table;
+use zones::clear_words;
+use zones::count_words;
+ghost use mathlib.Core.List.{[], _∷_};
 ghost use mathlib.Core.Path.{_≡_};
 ghost use lib.ListN.{length};
-ghost use Rattle.rules.specs.Limits.{limits};
+ghost use Rattle.rules.specs.Limits.{limits, inFormat};
 ghost use Rattle.rules.specs.Plan.{marksSection, regionsSection, zonesSection, requestsSection};
-ghost use Rattle.plan.specs.Sections.{marksAnswer, regionsAnswer, zonesAnswer, sectionAnswer};
+ghost use Rattle.plan.specs.Sections.{marksAnswer, regionsAnswer, zonesAnswer, sectionAnswer, RegionsIn, ZonesIn};
 
 // The marks; or a refusal and its offset.
 pub enum Marks {
@@ -45,9 +50,16 @@ pub struct Zones {
     pub table: Table,
 }
 
-// Marks: the GIC's position, the base edition, and the mark of the format, which is judged as it is read.
+// Marks of a plan: those of its format.
 pub fn read_marks(s: &[u8]) -> Marks
     ensures { λ r. ⌜ r ≡ marksAnswer (length (now (s .entry))) (marksSection limits .read (now (s .entry))) ⌝ }
+{
+    read_format_marks(s, FORMAT)
+}
+
+// Marks: the GIC's position, the base edition, and the mark of a format, which is judged as it is read.
+pub fn read_format_marks(s: &[u8], format: u32) -> Marks
+    ensures { λ r. ⌜ r ≡ marksAnswer (length (now (s .entry))) (marksSection (inFormat (format ∷ []) limits) .read (now (s .entry))) ⌝ }
 {
     let Number::Is(count) = number_at(s, 0) else {
         return Marks::Bad { number: CUT, at: 0 };
@@ -64,13 +76,13 @@ pub fn read_marks(s: &[u8]) -> Marks
     let Number::Is(edition) = number_at(s, 8) else {
         return Marks::Bad { number: CUT, at: 8 };
     };
-    let Number::Is(format) = number_at(s, 12) else {
+    let Number::Is(mark) = number_at(s, 12) else {
         return Marks::Bad {
             number: CUT,
             at: 12,
         };
     };
-    if !is_within(FORMAT, FORMAT, format) {
+    if !is_within(format, format, mark) {
         return Marks::Bad {
             number: COUNT,
             at: 12,
@@ -84,28 +96,33 @@ pub fn read_regions(s: &[u8], gic: u32) -> Regions
     ensures { λ r. ⌜ r ≡ regionsAnswer gic (length (now (s .entry))) (regionsSection limits .read (now (s .entry))) ⌝ }
 {
     let mut words = [0u64; CONFIG_WORDS];
+    let section = read_regions_in(s, gic, &mut words);
+    Regions {
+        section,
+        config: Config { words },
+    }
+}
+
+// The same into lent words, whatever they held: they are zero where the section is refused.
+pub fn read_regions_in(s: &[u8], gic: u32, words: &mut [u64; CONFIG_WORDS]) -> Section
+    ensures { λ r. ⌜ RegionsIn gic (now (s .entry)) r (now (words .exit)) ⌝ }
+{
+    let width = count_words(words);
+    clear_words(words);
+    let section = pass_regions(s);
+    let Section::End(end) = section else {
+        return section;
+    };
     words[CONFIG_GIC] = gic as u64;
-    let section = read_set(
+    read_set(
         s,
         0,
         1,
         MOST_REGIONS as u32,
-        &mut words,
+        words,
         CONFIG_COUNT,
         CONFIG_RECORDS,
-    );
-    let Section::End(end) = section else {
-        return Regions {
-            section,
-            config: Config {
-                words: [0u64; CONFIG_WORDS],
-            },
-        };
-    };
-    Regions {
-        section: Section::End(end),
-        config: Config { words },
-    }
+    )
 }
 
 // Base zones.
@@ -113,19 +130,24 @@ pub fn read_zones(s: &[u8]) -> Zones
     ensures { λ r. ⌜ r ≡ zonesAnswer (length (now (s .entry))) (zonesSection limits .read (now (s .entry))) ⌝ }
 {
     let mut words = [0u64; TABLE_WORDS];
-    let section = read_table(s, &mut words);
-    let Section::End(end) = section else {
-        return Zones {
-            section,
-            table: Table {
-                words: [0u64; TABLE_WORDS],
-            },
-        };
-    };
+    let section = read_zones_in(s, &mut words);
     Zones {
-        section: Section::End(end),
+        section,
         table: Table { words },
     }
+}
+
+// The same into lent words, whatever they held: they are zero where the section is refused.
+pub fn read_zones_in(s: &[u8], words: &mut [u64; TABLE_WORDS]) -> Section
+    ensures { λ r. ⌜ ZonesIn (now (s .entry)) r (now (words .exit)) ⌝ }
+{
+    let width = count_words(words);
+    clear_words(words);
+    let section = pass_zones(s);
+    let Section::End(end) = section else {
+        return section;
+    };
+    read_table(s, words)
 }
 
 // Requests: only where the section ends. All have one width, so none is looked at.

@@ -54,7 +54,7 @@ use Rattle.rules.proofs.Keeps.{sound-parts, SoundTable}
 use Rattle.rules.proofs.Plan.{lawful-plan}
 use Rattle.rules.proofs.Regions.{equal-same, equal-refl}
 use Rattle.rules.proofs.Run.{run-all, run-stops}
-use Rattle.rules.proofs.Sections.{own-config, own-zones}
+use Rattle.rules.proofs.Sections.{whole-read, own-config, own-zones}
 use Rattle.rules.proofs.Translation.{covers-parts, parts-cover, same-distance, remains-to-end}
 use Rattle.promises.specs.Answers.{HasTooMany, standingLines, HasZone, IsWellFormed, IsInReach, MeetsPhys, MeetsGuest, SomeIn}
 use Rattle.promises.specs.Answers.{SomeZone, ForbiddenFor, kindLines, RequestSays, RefusalIsExact, AnswerIsExact}
@@ -515,16 +515,17 @@ module _ (lim : Limits) where
         (ended (run lim own (p .zones) (requestsOf p)))
     unfolding judged judgedRules firstRule own
     own-judged =
+        let r = whole-read lim b p [] e in
         rw (
           not-holds _
               (tells-config (configOf (baseOf lim p .config)) p .1 (
-                ap (λ (c : Configuration). c .regions) (own-config lim b p [] e),
-                ap (λ (c : Configuration). c .gic) (own-config lim b p [] e),
+                ap (λ (c : Configuration). c .regions) (own-config lim b p [] r),
+                ap (λ (c : Configuration). c .gic) (own-config lim b p [] r),
               )),
           not-holds _ (eq-eqb (p .marks .edition) (p .marks .edition) refl),
-          not-holds _ (tells-zones (tableOf (baseOf lim p .table)) (p .zones) .1 (own-zones lim b p [] e)),
-          own-config lim b p [] e,
-          own-zones lim b p [] e,
+          not-holds _ (tells-zones (tableOf (baseOf lim p .table)) (p .zones) .1 (own-zones lim b p [] r)),
+          own-config lim b p [] r,
+          own-zones lim b p [] r,
         )
 
     alone-then : Exactly (apply lim (baseOf lim p) b .outcome) (Alone lim p)
@@ -582,7 +583,7 @@ module _ (lim : Limits) where
     unfolding standingAs firstRule
     past-standing say vs x = rw (not-holds _ (ap isSound (ok .config) ∙ sound-is), not-holds _ (ok .table))
 
-    none-told : standing lim c t ≡ 0
+    pub none-told : standing lim c t ≡ 0
     unfolding standingRules standingAs firstRule
     none-told = past-standing (λ n. n) [] 0
 

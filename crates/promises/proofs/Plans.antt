@@ -8,7 +8,7 @@ use Rattle.rules.specs.Applying.{plainSteps, apply, answerAlone}
 use Rattle.rules.specs.Limits.{Limits}
 use Rattle.rules.specs.Plan.{readPlan}
 use Rattle.rules.specs.Sizes.{longestSize, planWith}
-use Rattle.rules.proofs.Sections.{sections}
+use Rattle.rules.proofs.Sections.{whole-read, sections}
 use Rattle.rules.proofs.Sizes.{least-length, most-length, whole-length, counts-length, counts-fit, plan-past}
 use Rattle.promises.specs.Plans.{RefusalStays, ConfigurationStays, ApplyKeepsSound, AcceptedIsPlan}
 use Rattle.promises.specs.Plans.{PlanIsAccepted, PlanLengths, PastTheLongest, MarksTell}
@@ -41,7 +41,7 @@ module _ (lim : Limits) where
   pub marks-tell : MarksTell lim
   unfolding readPlan readFile readAs readBoth then
   marks-tell = record {
-    whole = λ b p e. let h = sections lim b p [] e in (h .afterMarks, h .marks);
+    whole = λ b p e. let h = sections lim b p [] (whole-read lim b p [] e) in (h .afterMarks, h .marks);
     refused = λ b k t e. rw e;
   }
 

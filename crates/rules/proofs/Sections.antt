@@ -1,4 +1,4 @@
--- A plan that reads whole: its sections, each with what it leaves; its
+-- Bytes that begin with a plan: its sections, each with what it leaves; its
 -- counts are within limits; and its own base is what it says.
 use Prim.Native.Nat.{ℕ, _≤_}
 use mathlib.Core.List.{List, []}
@@ -28,7 +28,12 @@ module _ (l : Limits) where
       let (v, ec, ed) = both-got (setFormat l) (setFormat l) u (z .cpu) (z .iommu) t g in
       (set-few u (z .cpu) v ec, set-few v (z .iommu) t ed)
 
-  module _ (b : List ℕ) (p : Plan) (t : List ℕ) (e : readPlan l b ≡ got p t) where
+  -- a plan that reads whole has nothing after it
+  pub whole-read : (b : List ℕ) (p : Plan) (t : List ℕ) → readPlan l b ≡ got p t → planFormat l .read b ≡ got p []
+  unfolding readPlan
+  whole-read b p t e = file-got (planFormat l) b p t e
+
+  module _ (b : List ℕ) (p : Plan) (t : List ℕ) (e : planFormat l .read b ≡ got p t) where
     pub record Sections : Type 0 where
       pub afterMarks : List ℕ
       pub afterRegions : List ℕ
@@ -36,22 +41,20 @@ module _ (l : Limits) where
       pub marks : marksSection l .read b ≡ got (p .marks) afterMarks
       pub regions : regionsSection l .read afterMarks ≡ got (p .regions) afterRegions
       pub zones : zonesSection l .read afterRegions ≡ got (p .zones) afterZones
-      pub requests : requestsSection l .read afterZones ≡ got (p .asked) []
+      pub requests : requestsSection l .read afterZones ≡ got (p .asked) t
 
     pub sections : Sections
-    unfolding readPlan
     sections =
-        let f0 = file-got (planFormat l) b p t e in
         let f1 =
         as-got (both (marksSection l) (both (regionsSection l) (both (zonesSection l) (requestsSection l)))) planTo planFrom
-        (λ x. refl) b p [] f0 in
+        (λ x. refl) b p t e in
         let (v1, em, f2) =
         both-got (marksSection l) (both (regionsSection l) (both (zonesSection l) (requestsSection l))) b (p .marks)
-        (p .regions, (p .zones, p .asked)) [] f1 in
+        (p .regions, (p .zones, p .asked)) t f1 in
         let (v2, er, f3) =
         both-got (regionsSection l) (both (zonesSection l) (requestsSection l)) v1 (p .regions)
-        (p .zones, p .asked) [] f2 in
-        let (v3, ez, eq) = both-got (zonesSection l) (requestsSection l) v2 (p .zones) (p .asked) [] f3 in
+        (p .zones, p .asked) t f2 in
+        let (v3, ez, eq) = both-got (zonesSection l) (requestsSection l) v2 (p .zones) (p .asked) t f3 in
         record {
           afterMarks = v1;
           afterRegions = v2;

@@ -67,6 +67,10 @@ pageOf l Iommu = l .iommuPage
 abbrev pub limits : Limits
 limits = record { page = page; iommuPage = page; guestReach = guestReach; physReach = physReach; regions = mostRegions; zones = mostZones; inSet = mostInSet; requests = mostRequests; lastMarks = secondFormat }
 
+-- the same limits, with the marks of another format
+abbrev pub inFormat : List ℕ → Limits → Limits
+inFormat marks l = record { page = l .page; iommuPage = l .iommuPage; guestReach = l .guestReach; physReach = l .physReach; regions = l .regions; zones = l .zones; inSet = l .inSet; requests = l .requests; lastMarks = marks }
+
 -- a plan's fields can say them: counts and marks in 4 bytes, ends of regions in 8
 pub record Sayable (l : Limits) : Type 0 where
   pub guestReach : l .guestReach < 256 ^ 8

@@ -63,7 +63,7 @@ pub const BUFFER_SHORT: u32 = 28;
 // A list of requests.
 pub const TOO_MANY_REQUESTS: u32 = 29;
 
-// C1 to C6, of a configuration.
+// C1 to C6, of a configuration, and C7, of its owners.
 pub const C1_COUNT: u32 = 1;
 
 pub const C2_GIC: u32 = 2;
@@ -75,3 +75,5 @@ pub const C4_FORM: u32 = 4;
 pub const C5_REACH: u32 = 5;
 
 pub const C6_OVERLAP: u32 = 6;
+
+pub const C7_OWNER: u32 = 7;

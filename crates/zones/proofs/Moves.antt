@@ -2,9 +2,9 @@
 -- they were.
 use Prim.Native.Nat.{ℕ, _+_, _-_, _≤_, _<_}
 use native.Mathlib.Omega.{arith}
-use mathlib.Core.List.{List}
-use mathlib.Core.Path.{_≡_, ap, _∙_}
-use lib.ListN.{length, getD, drop, set, length-set}
+use mathlib.Core.List.{List, _++_, append-nil}
+use mathlib.Core.Path.{_≡_, ap, ap₂, _∙_}
+use lib.ListN.{length, getD, drop, set, length-set, replicate, drop-of-length-le}
 use lib.Seq.{paste}
 use Rattle.lists.specs.Words.{closed, cleared}
 use Rattle.lists.proofs.Words.{move-on, clear-on, move-clear}
@@ -31,3 +31,11 @@ gap-closed w u v at m e h b p q = q ∙ ap (λ (l : List ℕ). cleared l (e - m)
 
 pub set-kept : (d t : List ℕ) (k x : ℕ) → length t ≡ length d → length (set t k x) ≡ length d
 set-kept d t k x e = length-set t k x ∙ e
+
+-- zeros from the start to the end
+pub all-clear : (w v : List ℕ) → v ≡ cleared w 0 (length w) → v ≡ replicate (length w) 0
+unfolding cleared
+all-clear w v e =
+    let z : length w - 0 ≡ length w = omega arith in
+    e ∙ ap₂ (λ (n : ℕ) (l : List ℕ). replicate n 0 ++ l) z (drop-of-length-le w {i = length w} (omega arith))
+    ∙ append-nil (replicate (length w) 0)

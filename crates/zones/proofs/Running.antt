@@ -48,7 +48,7 @@ unfolding makeRequest
 made kind zone r k e = λ i. record { zone = zone; kind = e i }
 
 -- what stands among bytes is that of its own bytes
-part-take : (k n m : ℕ) (l : List ℕ) → k + n ≤ m → part k n (take m l) ≡ part k n l
+pub part-take : (k n m : ℕ) (l : List ℕ) → k + n ≤ m → part k n (take m l) ≡ part k n l
 unfolding part
 part-take zero n m l h = take-take n m l (omega arith)
 part-take (suc k) n zero l h = absurd (omega arith)
@@ -56,11 +56,11 @@ part-take (suc k) n (suc m) [] h = refl
 part-take (suc k) n (suc m) (x ∷ l) h = part-take k n m l (omega arith)
 
 module _ (b : List ℕ) (at e : ℕ) where
-  own-number : (k n : ℕ) → k + n ≤ e - at → numberAt n (take (e - at) (drop at b)) k ≡ numberAt n b (at + k)
+  pub own-number : (k n : ℕ) → k + n ≤ e - at → numberAt n (take (e - at) (drop at b)) k ≡ numberAt n b (at + k)
   unfolding part
   own-number k n l = ap little (part-take k n (e - at) (drop at b) l ∙ ap (take n) (drop-drop k at b))
 
-  own-region : (k : ℕ) → k + regionSize ≤ e - at → regionIn (take (e - at) (drop at b)) k ≡ regionIn b (at + k)
+  pub own-region : (k : ℕ) → k + regionSize ≤ e - at → regionIn (take (e - at) (drop at b)) k ≡ regionIn b (at + k)
   unfolding regionIn
   own-region k l =
       by-same (λ i. numberAt longSize (take (e - at) (drop at b)) (k + i * longSize))

@@ -158,6 +158,10 @@ module _ (c t : List ℕ) where
             (ne-eqb _ 0 (λ z. ne (k ∙ z))));
       }
 
+  pub number-first : (q : Request) (n : ℕ) → n ≡ standing limits (storedConfig c) (storedTable t) → (n ≡ 0 → ⊥)
+      → n ≡ answer limits (storedConfig c) (storedTable t) q
+  number-first q n e ne = before-any q n e ne .number
+
   module _ (n : ℕ) (e : n ≡ standing limits (storedConfig c) (storedTable t)) (z : n ≡ 0) where
     -- neither 1 nor 2 applies
     pub neither : Quiet (standingRules limits (storedConfig c) (storedTable t))
@@ -190,6 +194,10 @@ module _ (c t : List ℕ) where
           ap (λ (x : List Zone). refusal limits (configIn c) x q) stands-same
           ∙ quiet-answer (standingRules limits (storedConfig c) (storedTable t))
           (refusal limits (configIn c) (tableOf (storedTable t)) q) neither
+
+      pub number-decided : (q : Request) (d : Change) (m : ℕ) → d ≡ decided (configIn c) (zonesIn t) q
+          → m ≡ changeNumber d → m ≡ answer limits (storedConfig c) (storedTable t) q
+      number-decided q d m e k = decided-number (configIn c) (zonesIn t) q d e m k ∙ number-same q
 
       pub request-done : (q : Request) (m : ℕ) (u : List ℕ) → m ≡ refusal limits (configIn c) (zonesIn t) q
           → u ≡ wordsOf (next limits (configIn c) (zonesIn t) q) → Stepped c t q m u

@@ -11,9 +11,12 @@ use Rattle.rules.specs.declared.Request.{Request}
 use Rattle.zones.specs.View.{storedConfig, storedTable}
 use Rattle.zones.specs.Words.{wordsOf}
 
--- the words of the next table, or those that were given
+-- by the number of a request, the words of the next table, or those that were given
+abbrev pub wordsAfter : ℕ → List ℕ → Request → List ℕ
+wordsAfter n t q = cond (eqb n 0) (wordsOf (after (q .kind) (q .zone) (tableOf (storedTable t)))) t
+
 unfoldable pub afterwards : List ℕ → List ℕ → Request → List ℕ
-afterwards c t q = cond (eqb (answer limits (storedConfig c) (storedTable t) q) 0) (wordsOf (after (q .kind) (q .zone) (tableOf (storedTable t)))) t
+afterwards c t q = wordsAfter (answer limits (storedConfig c) (storedTable t) q) t q
 
 pub record Stepped (c t : List ℕ) (q : Request) (n : ℕ) (u : List ℕ) : Type 0 where
   pub number : n ≡ answer limits (storedConfig c) (storedTable t) q

@@ -11,10 +11,10 @@ use crate::words::count_words;
 use rules::Request;
 ghost use mathlib.Core.Path.{_≡_};
 ghost use Rattle.rules.specs.Limits.{limits};
-ghost use Rattle.rules.specs.Requests.{refusal, next};
+ghost use Rattle.rules.specs.Requests.{refusal, next, answer};
 ghost use Rattle.zones.specs.Decide.{Ready};
 ghost use Rattle.zones.specs.Step.{Stepped};
-ghost use Rattle.zones.specs.View.{configIn, zonesIn};
+ghost use Rattle.zones.specs.View.{storedConfig, storedTable, configIn, zonesIn};
 ghost use Rattle.zones.specs.Words.{wordsOf};
 
 pub struct Answer {
@@ -45,6 +45,18 @@ pub fn step_in(c: &[u64; CONFIG_WORDS], t: &mut [u64; TABLE_WORDS], q: Request) 
     }
     let width = count_words(t);
     step_ready(c, t, q)
+}
+
+// The number alone: the table is only looked at.
+pub fn answer_in(c: &[u64; CONFIG_WORDS], t: &[u64; TABLE_WORDS], q: Request) -> u32
+    ensures { λ n. ⌜ n ≡ answer limits (storedConfig (now (c .entry))) (storedTable (now (t .entry))) q ⌝ }
+{
+    let n = standing(c, t);
+    if n != 0 {
+        return n;
+    }
+    let width = count_words(t);
+    number(decide(c, t, q))
 }
 
 // One request at a sound table, whose soundness is known and not looked for again.

@@ -11,7 +11,7 @@ use rules::Rights;
 ghost use Prim.Native.Nat.{_+_, _-_, _*_, _≤_};
 ghost use mathlib.Core.Path.{_≡_};
 ghost use lib.Dec.{eqb};
-ghost use lib.ListN.{length, drop};
+ghost use lib.ListN.{length, drop, replicate};
 ghost use lib.Seq.{sets, paste};
 ghost use Rattle.lists.specs.First.{firstIndex};
 ghost use Rattle.lists.specs.Words.{closed, cleared};
@@ -218,6 +218,14 @@ pub fn clear(s: &mut [u64], at: usize, end: usize)
         s[k] = 0;
         k += 1;
     }
+}
+
+// Every word is zero.
+pub fn clear_words(s: &mut [u64])
+    ensures { λ r. ⌜ now (s .exit) ≡ replicate (length (now (s .entry))) 0 ⌝ }
+{
+    let n = s.len();
+    clear(s, 0, n);
 }
 
 // The width words at `at` go, those after them up to end come down, and zeros fill what is left.

@@ -3,6 +3,8 @@
 //! copy of the table, which takes the table's place when every request is done. It is written from the document, plainly, and shares
 //! nothing with the library or with `ordinary` but the limits.
 
+pub mod bank;
+
 use ordinary::limits::{GUEST_REACH, MAX_ID, MAX_IN_SET, MAX_REGIONS, MAX_REQUESTS, MAX_ZONES, PAGE, PHYS_REACH};
 
 const MARKS: usize = 3;
@@ -516,11 +518,17 @@ impl<'a> Reader<'a> {
 
 impl<'a> Plan<'a> {
     pub fn read(bytes: &'a [u8]) -> Result<Plan<'a>, Fault> {
+        Plan::read_with(bytes, |_, _| Ok(()))
+    }
+
+    /// With something between the regions, which are so many, and the zones.
+    fn read_with(bytes: &'a [u8], between: impl FnOnce(&mut Reader<'a>, usize) -> Result<(), Fault>) -> Result<Plan<'a>, Fault> {
         let mut reader = Reader { bytes, at: 0 };
         reader.count(MARKS, MARKS)?;
         let (gic, edition) = (reader.number()?, reader.number()?);
         reader.count(FORMAT, FORMAT)?;
         let regions = reader.regions(1, MAX_REGIONS)?;
+        between(&mut reader, regions.len() / REGION_BYTES)?;
         let zones_at = reader.at;
         for _ in 0..reader.count(0, MAX_ZONES)? {
             reader.zone()?;
@@ -582,34 +590,57 @@ fn are_these(records: &[u8], regions: &[Region]) -> bool {
 impl State {
     /// Applies a plan: its number, its place and its inner number.
     pub fn apply(&mut self, plan: &[u8]) -> Answer {
-        match self.try_apply(plan) {
-            Ok(count) => (0, [count as u64, 0]),
-            Err((number, place, inner)) => (number, [place as u64, inner.into()]),
-        }
+        answered(self.try_apply(plan))
     }
 
-    fn try_apply(&mut self, plan: &[u8]) -> Result<usize, (u32, usize, u32)> {
-        let unread = |(number, at): Fault| (number, at, 0);
+    fn try_apply(&mut self, plan: &[u8]) -> Result<usize, Refused> {
         self.table.check(&self.config).map_err(|number| (number, 0, 0))?;
         let plan = Plan::read(plan).map_err(unread)?;
         if !plan.is_for_config(&self.config) {
             return Err((23, 0, 0));
         }
-        if plan.edition != self.edition {
+        let config = &self.config;
+        plan.carry_out(&mut self.table, &mut self.edition, |table, request| table.perform(config, request))
+    }
+}
+
+/// The number of a refused plan, its place and its inner number.
+type Refused = (u32, usize, u32);
+
+fn answered(applied: Result<usize, Refused>) -> Answer {
+    match applied {
+        Ok(count) => (0, [count as u64, 0]),
+        Err((number, place, inner)) => (number, [place as u64, inner.into()]),
+    }
+}
+
+fn unread((number, at): Fault) -> Refused {
+    (number, at, 0)
+}
+
+impl Plan<'_> {
+    /// What comes after the configuration is compared: 24 to 27, and how many requests there are.
+    fn carry_out(
+        &self,
+        table: &mut Table,
+        edition: &mut u32,
+        perform: impl Fn(&mut Table, &Request) -> Result<(), u32>,
+    ) -> Result<usize, Refused> {
+        if self.edition != *edition {
             return Err((24, 0, 0));
         }
-        let next = self.edition.checked_add(1).ok_or((25, 0, 0))?;
-        if !plan.is_for_zones(&self.table).map_err(unread)? {
+        let next = edition.checked_add(1).ok_or((25, 0, 0))?;
+        if !self.is_for_zones(table).map_err(unread)? {
             return Err((26, 0, 0));
         }
-        let mut table = self.table.clone();
+        let mut changed = table.clone();
         let mut count = 0;
-        for request in plan.requests() {
-            table.perform(&self.config, &request).map_err(|inner| (27, count, inner))?;
+        for request in self.requests() {
+            perform(&mut changed, &request).map_err(|inner| (27, count, inner))?;
             count += 1;
         }
-        self.table = table;
-        self.edition = next;
+        *table = changed;
+        *edition = next;
         Ok(count)
     }
 }
@@ -637,14 +668,14 @@ fn records<const N: usize>(next: &mut impl FnMut() -> u64) -> [Region; N] {
 }
 
 #[cfg(test)]
-mod tests {
+pub mod tests {
     use super::*;
     use cases::{Case, Question};
     use ordinary::{CONFIG_WORDS, TABLE_WORDS};
 
     const WORD: usize = 8;
 
-    fn table_words(table: &Table) -> Vec<u64> {
+    pub fn table_words(table: &Table) -> Vec<u64> {
         let mut words = vec![table.count];
         for zone in &table.zones {
             words.push(zone.id);

@@ -7,6 +7,7 @@ use ordinary::limits::{MAX_REGIONS, MAX_REQUESTS, MAX_ZONES, PAGE};
 use ordinary::{encode, Guest, PlanRefusal, Record, Region, Side, Zone};
 use peatmitten::raw;
 
+use crate::bank;
 use crate::fixed::{self, Answer};
 
 /// Who does a job.
@@ -23,15 +24,15 @@ impl Worker {
     pub const ALL: [Worker; 3] = [Worker::Library, Worker::Vectors, Worker::Fixed];
 }
 
-type Work = Box<dyn FnMut() -> Answer>;
+pub type Work = Box<dyn FnMut() -> Answer>;
 
 /// One job as each worker does it once, and what each must answer.
 pub struct Job {
     pub name: String,
-    answer: Answer,
-    library: Work,
-    vectors: Work,
-    fixed: Work,
+    pub answer: Answer,
+    pub library: Work,
+    pub vectors: Work,
+    pub fixed: Work,
 }
 
 impl Job {
@@ -50,15 +51,15 @@ impl Job {
 
 /// A terminal as each worker keeps it.
 #[derive(Clone)]
-struct Terminal {
+pub struct Terminal {
     library: Box<peatmitten::State>,
-    vectors: Box<ordinary::State>,
+    pub vectors: Box<ordinary::State>,
     fixed: Box<fixed::State>,
 }
 
 impl Terminal {
     /// So many configured regions of a page, the last of them the GIC's, dealt out to so many zones.
-    fn new(regions: usize, zones: usize) -> Terminal {
+    pub fn new(regions: usize, zones: usize) -> Terminal {
         Terminal::with(pages(regions), zones)
     }
 
@@ -93,7 +94,7 @@ fn pages(count: usize) -> ordinary::Config {
 }
 
 /// The same pages in no order: the steps have no common divisor with the count, which is a power of two.
-fn scattered_pages(count: usize) -> ordinary::Config {
+pub fn scattered_pages(count: usize) -> ordinary::Config {
     let config = pages(count);
     let regions = (0..count).map(|place| config.regions[place * 37 % count]).collect();
     ordinary::Config { regions, ..config }
@@ -109,14 +110,14 @@ fn last(zone: &Zone, side: Side) -> Region {
 }
 
 /// The last region of the last zone taken away and given back, over and over.
-fn one_region(terminal: &Terminal, count: usize) -> Vec<Record> {
+pub fn one_region(terminal: &Terminal, count: usize) -> Vec<Record> {
     let zone = terminal.zones().last().expect("a zone");
     let region = last(zone, Side::Cpu);
     [4, 3].into_iter().cycle().take(count).map(|kind| Record { kind, zone: zone.id, region }).collect()
 }
 
 /// In one zone after another, the last region of each set taken away and given back.
-fn all_zones(terminal: &Terminal, count: usize) -> Vec<Record> {
+pub fn all_zones(terminal: &Terminal, count: usize) -> Vec<Record> {
     let of_zone = |zone: &Zone| {
         let record = |kind: u32, side: Side| Record { kind, zone: zone.id, region: last(zone, side) };
         [record(4, Side::Cpu), record(6, Side::Iommu), record(3, Side::Cpu), record(5, Side::Iommu)]
@@ -124,7 +125,7 @@ fn all_zones(terminal: &Terminal, count: usize) -> Vec<Record> {
     terminal.zones().iter().flat_map(of_zone).cycle().take(count).collect()
 }
 
-fn plan_answer(applied: Result<usize, PlanRefusal>) -> Answer {
+pub fn plan_answer(applied: Result<usize, PlanRefusal>) -> Answer {
     match applied {
         Ok(count) => (0, [count as u64, 0]),
         Err(refusal) => {
@@ -218,7 +219,7 @@ fn two_requests(name: &str, terminal: Terminal) -> Job {
     }
 }
 
-fn fixed_request(record: &Record) -> fixed::Request {
+pub fn fixed_request(record: &Record) -> fixed::Request {
     fixed::Request { kind: record.kind, zone: record.zone, region: fixed::Region::from_numbers(record.region.numbers()) }
 }
 
@@ -369,7 +370,7 @@ pub fn all() -> Vec<Job> {
     let typical = Terminal::new(16, 4);
     let small = Terminal::new(4, 2);
     let full_name = format!("{MAX_REGIONS} regions, {MAX_ZONES} zones");
-    vec![
+    let mut jobs = vec![
         accepted(&format!("request 14's plan, {full_name}"), full.clone(), &all_zones(&full, 512)),
         accepted(&format!("as many requests in one zone, {full_name}"), full.clone(), &one_region(&full, MAX_REQUESTS)),
         accepted("large plan, 64 regions, 8 zones", large.clone(), &one_region(&large, 64)),
@@ -407,7 +408,9 @@ pub fn all() -> Vec<Job> {
         read(&full_name, full.clone(), &all_zones(&full, 512)),
         read("16 regions, 4 zones", typical.clone(), &one_region(&typical, 16)),
         read("4 regions, 2 zones", small.clone(), &one_region(&small, 2)),
-    ]
+    ];
+    jobs.extend(bank::jobs());
+    jobs
 }
 
 #[cfg(test)]

@@ -14,6 +14,7 @@
 
 #![forbid(unsafe_code)]
 
+mod bank;
 mod fixed;
 mod jobs;
 mod measure;

@@ -1,5 +1,6 @@
 //! Cases written down one after another. Requests and plans are asked at the state that the ones before them left.
 
+use ordinary::bank::Owners;
 use ordinary::layout::TABLE_COUNT;
 use ordinary::{ConfigWords, Record, TableWords, CONFIG_WORDS, TABLE_WORDS};
 
@@ -72,6 +73,8 @@ fn fingerprint(words: &[u64]) -> u64 {
 /// The cases so far, and the state at which the next is asked.
 pub struct Book {
     pub config: ConfigWords,
+    /// Where the second machine is asked: the owners.
+    pub owners: Option<Owners>,
     pub table: TableWords,
     pub edition: u32,
     pub named: Vec<Named>,
@@ -79,7 +82,7 @@ pub struct Book {
 
 impl Book {
     pub fn new() -> Book {
-        Book { config: [0; CONFIG_WORDS], table: [0; TABLE_WORDS], edition: 0, named: Vec::new() }
+        Book { config: [0; CONFIG_WORDS], owners: None, table: [0; TABLE_WORDS], edition: 0, named: Vec::new() }
     }
 
     /// Another configuration and table. The edition stays.
@@ -97,7 +100,7 @@ impl Book {
     }
 
     pub fn ask_request(&mut self, name: impl Into<String>, request: Record) -> &mut Named {
-        let case = Case::request(self.config, self.table, request);
+        let case = Case { owners: self.owners, ..Case::request(self.config, self.table, request) };
         self.table = case.ordinary().table;
         self.ask(name.into(), case)
     }
@@ -156,6 +159,7 @@ impl Book {
     }
 
     fn deliver(&mut self, name: String, case: Case) -> &mut Named {
+        let case = Case { owners: self.owners, ..case };
         let after = case.ordinary();
         self.table = after.table;
         self.edition = after.edition;
@@ -163,6 +167,7 @@ impl Book {
     }
 
     fn ask(&mut self, name: String, case: Case) -> &mut Named {
+        let case = Case { owners: self.owners, ..case };
         self.named.push(Named { name, case, known: None, known_places: None });
         self.named.last_mut().expect("the case just written down")
     }

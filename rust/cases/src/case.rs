@@ -2,12 +2,15 @@
 
 use std::fmt;
 
+use ordinary::bank::Owners;
 use ordinary::TableWords;
 use ordinary::{
     base_edition, base_zones, lacking_part, BufferShort, Config, ConfigWords, Guest, Plan, PlanRefusal, Receiver, Record, Region,
     Side, State, Table,
 };
 use ordinary::{CONFIG_WORDS, TABLE_WORDS};
+
+use crate::{bank, Machine};
 
 /// Which function is asked.
 #[derive(Clone, Copy, Debug, PartialEq, Eq, PartialOrd, Ord)]
@@ -36,6 +39,8 @@ pub const NUMBERS: usize = 2 + Region::NUMBERS;
 pub struct Case {
     pub question: Question,
     pub config: ConfigWords,
+    /// Where the second machine is asked: the owners beside that configuration.
+    pub owners: Option<Owners>,
     pub table: TableWords,
     /// Of a request its kind, its zone and its region's numbers; of a translation its zone, side and address; of a plan the terminal's edition,
     /// and where it comes in pieces also the two words of the receiver.
@@ -98,7 +103,7 @@ impl Case {
     fn new(question: Question, config: ConfigWords, table: TableWords, given: &[u64], plan: Vec<u8>) -> Case {
         let mut numbers = [0; NUMBERS];
         numbers[..given.len()].copy_from_slice(given);
-        Case { question, config, table, numbers, plan, wanted: Vec::new(), lengths: Vec::new(), buffer: Vec::new() }
+        Case { question, config, owners: None, table, numbers, plan, wanted: Vec::new(), lengths: Vec::new(), buffer: Vec::new() }
     }
 
     pub fn config(config: ConfigWords) -> Case {
@@ -200,6 +205,19 @@ impl Case {
         pieces
     }
 
+    /// Which machine is asked.
+    pub fn machine(&self) -> Machine {
+        match self.owners {
+            None => Machine::First,
+            Some(_) => Machine::Bank,
+        }
+    }
+
+    /// The same question, asked of the second machine.
+    pub fn owned(self, owners: Owners) -> Case {
+        Case { owners: Some(owners), ..self }
+    }
+
     /// One of the numbers that the function takes as 32 bits.
     pub fn number(&self, at: usize) -> u32 {
         u32::try_from(self.numbers[at]).expect("a 32-bit number")
@@ -220,12 +238,15 @@ impl Case {
     }
 
     /// The answer that leaves everything as it was.
-    fn unchanged(&self, number: u32, places: [u64; 2]) -> Answer {
+    pub(crate) fn unchanged(&self, number: u32, places: [u64; 2]) -> Answer {
         Answer { number, places, config: self.config, table: self.table, edition: self.edition(), left: Vec::new() }
     }
 
     /// What the ordinary implementation answers.
     pub fn ordinary(&self) -> Answer {
+        if let Some(owners) = &self.owners {
+            return bank::ordinary(self, owners);
+        }
         match self.question {
             Question::Config => match Config::from_words(&self.config).and_then(|config| config.check()) {
                 Ok(()) => self.unchanged(0, [0, 0]),
@@ -387,6 +408,9 @@ impl fmt::Display for Case {
     fn fmt(&self, f: &mut fmt::Formatter) -> fmt::Result {
         writeln!(f, "question: {:?}", self.question)?;
         write_words(f, "  config", &self.config)?;
+        if let Some(owners) = self.owners {
+            write_words(f, "  owners", &owners.map(u64::from))?;
+        }
         write_words(f, "  table", &self.table)?;
         write_words(f, "  numbers", &self.numbers)?;
         writeln!(f, "  plan of {} bytes: {}", self.plan.len(), hex(&self.plan))?;

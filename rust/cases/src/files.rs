@@ -2,13 +2,14 @@
 
 use ordinary::layout::REQUEST_BYTES;
 use ordinary::limits::{GUEST_REACH, MAX_ID, MAX_IN_SET, MAX_REGIONS, MAX_REQUESTS, MAX_ZONES, PAGE, PHYS_REACH};
-use ordinary::{apply_alone, Config, Record, Region, State, Table, Zone};
+use ordinary::{apply_alone, bank, Config, Record, Region, State, Table, Zone};
 
 use crate::case::{Case, Outcome};
 use crate::fields::{Field, Plan};
 use crate::given::{of_region, of_zone, with_p, with_rights, with_size, with_v, zone};
 use crate::given::{A, ADD_ZONE, B, C, CPU_INSERT, CPU_REMOVE, G, IOMMU_INSERT, IOMMU_REMOVE, REMOVE_ZONE};
 use crate::rng::Rng;
+use crate::Machine;
 
 pub const LAST_EDITION: u32 = u32::MAX;
 
@@ -28,6 +29,7 @@ pub const X: Region = Region::new(0x6000_0000, 0xC000_0000, PAGE, 6);
 /// A plan file, with what the program prints of it by the ordinary implementation and, where it is known without that, by hand.
 #[derive(Clone, Debug)]
 pub struct PlanFile {
+    pub machine: Machine,
     pub name: String,
     pub bytes: Vec<u8>,
     pub answer: Outcome,
@@ -43,14 +45,22 @@ impl PlanFile {
 
     /// The question that has the same answer: what the bytes read to, or what they do at their own base.
     pub fn case(&self) -> Case {
-        match ordinary::Plan::read(&self.bytes) {
-            Err(_) => Case::read(self.bytes.clone()),
-            Ok(plan) => Case::apply(plan.config.to_words(), plan.table.to_words(), plan.edition, self.bytes.clone()),
+        let bytes = self.bytes.clone();
+        match self.machine {
+            Machine::First => match ordinary::Plan::read(&self.bytes) {
+                Err(_) => Case::read(bytes),
+                Ok(plan) => Case::apply(plan.config.to_words(), plan.table.to_words(), plan.edition, bytes),
+            },
+            Machine::Bank => match bank::Plan::read(&self.bytes) {
+                Err(_) => Case::read(bytes).owned([0; MAX_REGIONS]),
+                Ok(plan) => Case::apply(plan.config.plain.to_words(), plan.table.to_words(), plan.edition, bytes)
+                    .owned(plan.config.owner_words()),
+            },
         }
     }
 
     /// The answer was worked out by hand.
-    fn known(&mut self, number: u32, place: usize, inner: u32) {
+    pub fn known(&mut self, number: u32, place: usize, inner: u32) {
         self.known = Some(Outcome { number, place, inner });
     }
 
@@ -65,15 +75,24 @@ impl PlanFile {
     }
 }
 
-#[derive(Default)]
+/// Files for the program of one machine.
 pub struct PlanFiles {
+    machine: Machine,
     pub all: Vec<PlanFile>,
 }
 
 impl PlanFiles {
+    pub fn new(machine: Machine) -> PlanFiles {
+        PlanFiles { machine, all: Vec::new() }
+    }
+
     pub fn add(&mut self, name: impl Into<String>, bytes: Vec<u8>) -> &mut PlanFile {
-        let answer = apply_alone(&bytes).into();
-        self.all.push(PlanFile { name: name.into(), bytes, answer, known: None });
+        let apply = match self.machine {
+            Machine::First => apply_alone,
+            Machine::Bank => bank::apply_alone,
+        };
+        let answer = apply(&bytes).into();
+        self.all.push(PlanFile { machine: self.machine, name: name.into(), bytes, answer, known: None });
         self.all.last_mut().expect("the file just added")
     }
 }
@@ -272,7 +291,7 @@ fn cuts(files: &mut PlanFiles) {
 // ---- counts
 
 /// The bytes with another number in a field of four bytes.
-fn with_number(bytes: &[u8], start: usize, number: u32) -> Vec<u8> {
+pub fn with_number(bytes: &[u8], start: usize, number: u32) -> Vec<u8> {
     [&bytes[..start], &number.to_le_bytes(), &bytes[start + 4..]].concat()
 }
 

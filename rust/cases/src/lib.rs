@@ -4,11 +4,13 @@
 //! - [`named`]: configurations, tables, requests, translations and plans at a terminal, chosen or drawn from a fixed seed. The
 //!   answers are stored in `vectors/cases.txt`; `rust/compare` asks the library too.
 //! - [`plan_files`], [`examples`]: the plan files of `vectors/plans` and `examples`, with what the program `apply` prints of each.
+//! - [`bank`]: cases and plan files for the second machine.
 //!
 //! The program `plans` of this crate makes the stored files, on any processor and without the library.
 
 #![forbid(unsafe_code)]
 
+pub mod bank;
 mod book;
 mod case;
 mod configs;
@@ -32,6 +34,13 @@ use book::Book;
 use files::PlanFiles;
 use rng::Rng;
 
+/// Which machine is asked: the first, or that of terminals with owners.
+#[derive(Clone, Copy, Debug, PartialEq, Eq)]
+pub enum Machine {
+    First,
+    Bank,
+}
+
 /// Each kind of case draws its own numbers from this seed.
 const SEED: u64 = 1;
 
@@ -50,14 +59,14 @@ pub fn named() -> Vec<Named> {
 
 /// The plans of `vectors/plans`.
 pub fn plan_files() -> Vec<PlanFile> {
-    let mut files = PlanFiles::default();
+    let mut files = PlanFiles::new(Machine::First);
     files::add(&mut files, &mut Rng::new(SEED));
     files.all
 }
 
 /// The plans of `examples`.
 pub fn examples() -> Vec<PlanFile> {
-    let mut files = PlanFiles::default();
+    let mut files = PlanFiles::new(Machine::First);
     examples::add(&mut files);
     files.all
 }

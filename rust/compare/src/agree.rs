@@ -3,7 +3,9 @@
 use std::fmt;
 use std::hint::black_box;
 
-use cases::{Answer, Case, Left, Named, Outcome, PlanFile, Question};
+use cases::{Answer, Case, Left, Machine, Named, Outcome, PlanFile, Question};
+use ordinary::bank::Owners;
+use ordinary::limits::MAX_REGIONS;
 use ordinary::Record;
 use peatmitten::raw;
 
@@ -30,11 +32,12 @@ impl Trouble {
 const BESIDE: u64 = 0xa5a5_a5a5_a5a5_a5a5;
 const PADDING: u32 = BESIDE as u32;
 
-/// A state as the library's header has it, with a name for its padding, and a word on either side.
+/// A state as the second library's header has it, with a name for its padding, and a word on either side. The first library is lent what is its own.
 #[repr(C)]
 struct Lent {
     before: u64,
     config: peatmitten::Config,
+    owners: Owners,
     table: peatmitten::Table,
     edition: u32,
     padding: u32,
@@ -45,12 +48,18 @@ impl Lent {
     fn new(case: &Case) -> Lent {
         let config = peatmitten::Config::from_words(case.config);
         let table = peatmitten::Table::from_words(case.table);
-        Lent { before: BESIDE, config, table, edition: case.edition(), padding: PADDING, behind: BESIDE }
+        let owners = owners_lent(case);
+        Lent { before: BESIDE, config, owners, table, edition: case.edition(), padding: PADDING, behind: BESIDE }
     }
 
-    fn is_kept_beside(&self) -> bool {
-        (self.before, self.padding, self.behind) == (BESIDE, PADDING, BESIDE)
+    fn is_kept_beside(&self, case: &Case) -> bool {
+        (self.before, self.owners, self.padding, self.behind) == (BESIDE, owners_lent(case), PADDING, BESIDE)
     }
+}
+
+/// The owners, which are only read; beside the first machine's configuration anything.
+fn owners_lent(case: &Case) -> Owners {
+    case.owners.unwrap_or([PADDING; MAX_REGIONS])
 }
 
 /// What the library answers; none where it wrote beside what it was lent.
@@ -58,9 +67,12 @@ fn library(case: &Case) -> Option<Answer> {
     let mut lent = Lent::new(case);
     // Only parts are lent, by which a compiler may take the rest for unchanged without a look.
     let mut left = Vec::new();
-    let (number, places) = ask_library(case, black_box(&mut lent), &mut left);
+    let (number, places) = match case.machine() {
+        Machine::First => ask_library(case, black_box(&mut lent), &mut left),
+        Machine::Bank => ask_bank(case, black_box(&mut lent)),
+    };
     let lent = black_box(&lent);
-    lent.is_kept_beside().then(|| Answer {
+    lent.is_kept_beside(case).then(|| Answer {
         number,
         places,
         config: *lent.config.words(),
@@ -134,6 +146,25 @@ fn ask_library(case: &Case, state: &mut Lent, left: &mut Vec<Left>) -> (u32, [u6
             left.push(Left { number, words: [0, 0], buffer });
             (number, [length, 0])
         }
+    }
+}
+
+fn ask_bank(case: &Case, state: &mut Lent) -> (u32, [u64; 2]) {
+    let Lent { config, owners, table, edition, .. } = state;
+    match case.question {
+        Question::Config => raw::bank::check_config(config, owners),
+        Question::Table => (raw::bank::check_table(config, owners, table), [0, 0]),
+        Question::Request => {
+            let Record { kind, zone, region } = case.record();
+            (raw::bank::request(config, owners, table, kind, zone, &region.numbers()), [0, 0])
+        }
+        Question::Translate => raw::bank::translate_words(config, owners, table, case.number(0), case.number(1), case.numbers[2]),
+        Question::Read => {
+            let (number, place) = raw::bank::read(&case.plan);
+            (number, [place, 0])
+        }
+        Question::Apply => raw::bank::apply_words(config, owners, table, edition, &case.plan),
+        _ => unreachable!("the second machine has no such function"),
     }
 }
 

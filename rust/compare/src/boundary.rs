@@ -98,7 +98,7 @@ fn of_each_rights() -> State {
 }
 
 /// The states that the cases are made from. All are sound.
-fn states() -> Vec<State> {
+pub fn states() -> Vec<State> {
     vec![
         State { config: Config { regions: vec![G], gic: 0 }, ..desk(&[]) },
         desk(&[zone(5, &[], &[]), zone(6, &[], &[])]),

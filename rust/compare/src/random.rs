@@ -359,8 +359,7 @@ impl World {
     }
 
     pub fn case(&mut self, rng: &mut Rng) -> Case {
-        self.change(rng, 3);
-        self.state.edition = edition(rng);
+        self.go_on(rng);
         match rng.below(27) {
             0..=2 => self.config_case(rng),
             3..=5 => self.table_case(rng),
@@ -377,6 +376,24 @@ impl World {
             21 => self.listing_case(rng),
             _ => self.apply_case(rng),
         }
+    }
+
+    /// A case of a question that both machines have.
+    pub fn common_case(&mut self, rng: &mut Rng) -> Case {
+        self.go_on(rng);
+        match rng.below(19) {
+            0..=2 => self.config_case(rng),
+            3..=5 => self.table_case(rng),
+            6..=10 => self.request_case(rng),
+            11..=12 => self.translate_case(rng),
+            13 => Case::read(self.plan(rng)),
+            _ => self.apply_case(rng),
+        }
+    }
+
+    fn go_on(&mut self, rng: &mut Rng) {
+        self.change(rng, 3);
+        self.state.edition = edition(rng);
     }
 
     fn config_case(&self, rng: &mut Rng) -> Case {

@@ -17,6 +17,9 @@ fn smaller(case: &Case, holds: &impl Fn(&Case) -> bool) -> Option<Case> {
     let mut smaller = case.clone();
     shorten_plan(&mut smaller, holds);
     zero_each(&mut smaller, holds, |case| &mut case.config);
+    if smaller.owners.is_some() {
+        zero_each(&mut smaller, holds, |case| case.owners.as_mut().expect("owners"));
+    }
     zero_each(&mut smaller, holds, |case| &mut case.table);
     zero_each(&mut smaller, holds, |case| &mut case.wanted);
     zero_each(&mut smaller, holds, |case| &mut case.numbers);

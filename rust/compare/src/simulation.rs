@@ -13,6 +13,64 @@ use crate::event::Event;
 use crate::random::{config, request};
 use crate::tally::Tally;
 
+/// A terminal's state on one of the machines, and what that machine's rules say of it.
+pub trait Base: Clone + PartialEq {
+    /// One without zones, under any sound configuration.
+    fn first(rng: &mut Rng, edition: u32) -> Self;
+    fn table(&self) -> &Table;
+    fn edition(&self) -> u32;
+    /// The same configuration with another table and edition.
+    fn with(&self, table: Table, edition: u32) -> Self;
+    /// A request that is likely to be accepted at this table.
+    fn request(&self, rng: &mut Rng, table: &Table) -> Record;
+    /// Whether the request is accepted, which changes the table.
+    fn perform(&self, table: &mut Table, request: &Record) -> bool;
+    fn plan(&self, requests: &[Record]) -> Vec<u8>;
+    /// What a plan is for, what it asks, and where its requests stand.
+    fn read(plan: &[u8]) -> Option<(Self, Vec<Record>, usize)>;
+    /// What a terminal in this state is asked when these bytes come.
+    fn receive(&self, plan: Vec<u8>) -> Case;
+}
+
+impl Base for State {
+    fn first(rng: &mut Rng, edition: u32) -> State {
+        State { config: config(rng), table: Table::default(), edition }
+    }
+
+    fn table(&self) -> &Table {
+        &self.table
+    }
+
+    fn edition(&self) -> u32 {
+        self.edition
+    }
+
+    fn with(&self, table: Table, edition: u32) -> State {
+        State { config: self.config.clone(), table, edition }
+    }
+
+    fn request(&self, rng: &mut Rng, table: &Table) -> Record {
+        request(rng, &self.config, table)
+    }
+
+    fn perform(&self, table: &mut Table, request: &Record) -> bool {
+        table.perform(&self.config, request).is_ok()
+    }
+
+    fn plan(&self, requests: &[Record]) -> Vec<u8> {
+        encode(self, requests)
+    }
+
+    fn read(plan: &[u8]) -> Option<(State, Vec<Record>, usize)> {
+        let Plan { config, edition, table, requests, requests_at, .. } = Plan::read(plan).ok()?;
+        Some((State { config, table, edition }, requests.iter().collect(), requests_at))
+    }
+
+    fn receive(&self, plan: Vec<u8>) -> Case {
+        Case::apply(self.config.to_words(), self.table.to_words(), self.edition, plan)
+    }
+}
+
 /// Where a planner may begin: most often at 0, and now and then so late that the editions end.
 pub const FIRST_EDITIONS: [u32; 6] = [0, u32::MAX - 5, 0, 1, 0, 77];
 
@@ -24,18 +82,17 @@ pub struct Length {
 }
 
 /// The planner's states, one edition after the other, and the plan from each to the next.
-struct Planner {
-    states: Vec<State>,
+struct Planner<B> {
+    states: Vec<B>,
     plans: Vec<Vec<u8>>,
 }
 
-impl Planner {
-    fn new(rng: &mut Rng, edition: u32) -> Planner {
-        let start = State { config: config(rng), table: Table::default(), edition };
-        Planner { states: vec![start], plans: Vec::new() }
+impl<B: Base> Planner<B> {
+    fn new(rng: &mut Rng, edition: u32) -> Planner<B> {
+        Planner { states: vec![B::first(rng, edition)], plans: Vec::new() }
     }
 
-    fn last(&self) -> &State {
+    fn last(&self) -> &B {
         self.states.last().expect("the planner has a first state")
     }
 
@@ -47,22 +104,21 @@ impl Planner {
     /// Plans some requests that are accepted or, now and then, the way back to the table before.
     fn plan_next(&mut self, rng: &mut Rng) {
         let base = self.last().clone();
-        let mut table = base.table.clone();
+        let mut table = base.table().clone();
         let requests = match self.way_back() {
             Some(requests) if rng.one_in(3) => requests,
-            _ => (0..rng.below(8)).map(|_| request(rng, &base.config, &table)).collect(),
+            _ => (0..rng.below(8)).map(|_| base.request(rng, &table)).collect(),
         };
-        let accepted: Vec<Record> = requests.into_iter().filter(|request| table.perform(&base.config, request).is_ok()).collect();
-        self.plans.push(encode(&base, &accepted));
-        if let Some(edition) = base.edition.checked_add(1) {
-            self.states.push(State { table, edition, ..base });
+        let accepted: Vec<Record> = requests.into_iter().filter(|request| base.perform(&mut table, request)).collect();
+        self.plans.push(base.plan(&accepted));
+        if let Some(edition) = base.edition().checked_add(1) {
+            self.states.push(base.with(table, edition));
         }
     }
 
     /// The last plan's requests undone, the last one first.
     fn way_back(&self) -> Option<Vec<Record>> {
-        let plan = Plan::read(self.plans.last()?).expect("the planner's plans are plans");
-        let mut requests: Vec<Record> = plan.requests.iter().collect();
+        let (_, mut requests, _) = B::read(self.plans.last()?).expect("the planner's plans are plans");
         requests.reverse();
         for request in &mut requests {
             // 1 and 2, 3 and 4, 5 and 6 undo each other.
@@ -71,13 +127,13 @@ impl Planner {
         Some(requests)
     }
 
-    fn state_of(&self, edition: u32) -> Option<&State> {
-        self.states.iter().find(|state| state.edition == edition)
+    fn state_of(&self, edition: u32) -> Option<&B> {
+        self.states.iter().find(|state| state.edition() == edition)
     }
 
     /// Which plan is for this edition, if it is made.
     fn plan_at(&self, edition: u32) -> Option<usize> {
-        self.states.iter().position(|state| state.edition == edition).filter(|&at| at < self.plans.len())
+        self.states.iter().position(|state| state.edition() == edition).filter(|&at| at < self.plans.len())
     }
 }
 
@@ -88,8 +144,8 @@ struct Terminal {
 }
 
 impl Terminal {
-    fn new(state: &State) -> Terminal {
-        let state = Case::apply(state.config.to_words(), state.table.to_words(), state.edition, Vec::new());
+    fn new(state: &impl Base) -> Terminal {
+        let state = state.receive(Vec::new());
         Terminal { held: vec![state.clone()], state }
     }
 
@@ -103,7 +159,8 @@ impl Terminal {
     }
 
     fn keep(&mut self, answer: &Answer) {
-        self.state = Case::apply(answer.config, answer.table, answer.edition, Vec::new());
+        let owners = self.state.owners;
+        self.state = Case { owners, ..Case::apply(answer.config, answer.table, answer.edition, Vec::new()) };
         self.held.push(self.state.clone());
     }
 
@@ -119,16 +176,16 @@ impl Terminal {
     }
 }
 
-struct Simulation<'a> {
-    planner: Planner,
+struct Simulation<'a, B> {
+    planner: Planner<B>,
     terminal: Terminal,
     rng: &'a mut Rng,
     tally: &'a mut Tally,
 }
 
-/// Simulates one terminal from its first edition on.
-pub fn run(rng: &mut Rng, edition: u32, length: Length, tally: &mut Tally) -> Result<(), Trouble> {
-    let planner = Planner::new(rng, edition);
+/// Simulates one terminal of a machine from its first edition on.
+pub fn run<B: Base>(rng: &mut Rng, edition: u32, length: Length, tally: &mut Tally) -> Result<(), Trouble> {
+    let planner = Planner::<B>::new(rng, edition);
     let terminal = Terminal::new(planner.last());
     let mut simulation = Simulation { planner, terminal, rng, tally };
     // So that all plans are made in about the first third of the turns.
@@ -145,7 +202,7 @@ pub fn run(rng: &mut Rng, edition: u32, length: Length, tally: &mut Tally) -> Re
     simulation.bring_level()
 }
 
-impl Simulation<'_> {
+impl<B: Base> Simulation<'_, B> {
     fn make_plan(&mut self) {
         self.planner.plan_next(self.rng);
         self.note(Event::Planned);
@@ -177,7 +234,7 @@ impl Simulation<'_> {
     /// A plan as the planner made it.
     fn deliver_plan(&mut self, plan: usize) -> Result<(), Trouble> {
         let edition = self.terminal.edition();
-        let event = match self.planner.states[plan].edition {
+        let event = match self.planner.states[plan].edition() {
             base if base < edition => Event::Repeated,
             base if base > edition => Event::Early,
             _ if edition == u32::MAX => Event::NoNextEdition,
@@ -195,7 +252,7 @@ impl Simulation<'_> {
             None if plans.is_empty() => &[],
             None => &self.rng.pick(plans)[..],
         };
-        let (event, bytes) = noise(self.rng, plan);
+        let (event, bytes) = noise::<B>(self.rng, plan);
         // One bit of the edition can make another edition's plan one for the terminal's base.
         if matches!(event, Event::Damaged | Event::Flipped) && self.is_forged(&bytes) {
             self.note(Event::Forged);
@@ -207,12 +264,10 @@ impl Simulation<'_> {
     /// Whether these bytes are a plan for the terminal's base that the planner did not make. Only a signature tells it apart, so
     /// such bytes do not reach the terminal.
     fn is_forged(&self, bytes: &[u8]) -> bool {
-        let edition = self.terminal.edition();
-        let (Ok(plan), Some(base)) = (Plan::read(bytes), self.planner.state_of(edition)) else {
+        let (Some((base, ..)), Some(state)) = (B::read(bytes), self.planner.state_of(self.terminal.edition())) else {
             return false;
         };
-        let is_for_base = plan.config == base.config && plan.edition == base.edition && plan.table == base.table;
-        is_for_base && !self.is_next(bytes)
+        base == *state && !self.is_next(bytes)
     }
 
     fn is_next(&self, bytes: &[u8]) -> bool {
@@ -246,9 +301,8 @@ impl Simulation<'_> {
     }
 
     fn has_planners_state(&self, answer: &Answer) -> bool {
-        self.planner
-            .state_of(answer.edition)
-            .is_some_and(|state| state.config.to_words() == answer.config && state.table.to_words() == answer.table)
+        let planned = self.planner.state_of(answer.edition).map(|state| state.receive(Vec::new()));
+        planned.is_some_and(|state| state.config == answer.config && state.table == answer.table)
     }
 
     /// The plans that the terminal has missed, in turn, bring it to the planner's last state.
@@ -256,7 +310,7 @@ impl Simulation<'_> {
         while let Some(next) = self.planner.plan_at(self.terminal.edition()).filter(|_| self.terminal.edition() < u32::MAX) {
             self.deliver_plan(next)?;
         }
-        if self.terminal.edition() != self.planner.last().edition {
+        if self.terminal.edition() != self.planner.last().edition() {
             return Err(Trouble::new("the plans that were missed do not bring the terminal level", self.terminal.state.clone()));
         }
         Ok(())
@@ -269,8 +323,8 @@ fn is_unchanged(before: &Case, after: &Answer) -> bool {
 
 /// What can happen to the bytes of a plan. None of what comes out is the planner's plan any more, but for the mixed damage, which
 /// may leave it as it was.
-fn noise(rng: &mut Rng, plan: &[u8]) -> (Event, Vec<u8>) {
-    let Ok(Plan { requests, requests_at, .. }) = Plan::read(plan) else {
+fn noise<B: Base>(rng: &mut Rng, plan: &[u8]) -> (Event, Vec<u8>) {
+    let Some((_, requests, requests_at)) = B::read(plan) else {
         return (Event::RandomBytes, random_bytes(rng));
     };
     let mut bytes = plan.to_vec();

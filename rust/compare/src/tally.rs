@@ -1,15 +1,17 @@
 //! Counts the answers by question and number, and what happened in simulations.
 
-use std::collections::BTreeMap;
+use std::collections::{BTreeMap, BTreeSet};
 use std::fmt;
 
-use cases::{Answer, Case, Question};
+use cases::{Answer, Case, Machine, Question};
 
 use crate::agree::Trouble;
 use crate::event::Event;
 
-/// What every run must answer at least once, by question.
-const ALL_NUMBERS: [(Question, &[u32]); 14] = [
+/// What every run must answer at least once, by question; nothing else is an answer to it.
+type Numbers = &'static [(Question, &'static [u32])];
+
+const FIRST_NUMBERS: Numbers = &[
     (Question::Config, &[0, 1, 2, 3, 4, 5, 6]),
     (Question::Table, &[0, 1]),
     (Question::Request, &[0, 1, 2, 3, 4, 5, 6, 7, 8, 9, 10, 11, 12, 13, 14, 15, 16, 17, 19]),
@@ -27,10 +29,29 @@ const ALL_NUMBERS: [(Question, &[u32]); 14] = [
     (Question::Listing, &[0, 1, 2, 28]),
 ];
 
+/// 12 and 14 no longer occur.
+const BANK_NUMBERS: Numbers = &[
+    (Question::Config, &[0, 1, 2, 3, 4, 5, 6, 7]),
+    (Question::Table, &[0, 1]),
+    (Question::Request, &[0, 1, 2, 3, 4, 5, 6, 7, 8, 9, 10, 11, 13, 15, 16, 17, 19]),
+    (Question::Translate, &[0, 1, 2, 4, 6, 18]),
+    (Question::Read, &[0, 20, 21, 22]),
+    (Question::Apply, &[0, 1, 2, 20, 21, 22, 23, 24, 25, 26, 27]),
+];
+
 const REQUEST_REFUSED: u32 = 27;
 
 /// The numbers of requests that can stand inside 27.
-const ALL_INNER: [u64; 16] = [3, 4, 5, 6, 7, 8, 9, 10, 11, 12, 13, 14, 15, 16, 17, 19];
+const FIRST_INNER: &[u64] = &[3, 4, 5, 6, 7, 8, 9, 10, 11, 12, 13, 14, 15, 16, 17, 19];
+const BANK_INNER: &[u64] = &[3, 4, 5, 6, 7, 8, 9, 10, 11, 13, 15, 16, 17, 19];
+
+/// What a machine answers, and what can stand inside its 27.
+fn answers_of(machine: Machine) -> (Numbers, &'static [u64]) {
+    match machine {
+        Machine::First => (FIRST_NUMBERS, FIRST_INNER),
+        Machine::Bank => (BANK_NUMBERS, BANK_INNER),
+    }
+}
 
 #[derive(Default)]
 pub struct Tally {
@@ -42,12 +63,15 @@ pub struct Tally {
 impl Tally {
     /// Counts an answer. One that the question does not have is trouble.
     pub fn add(&mut self, case: &Case, answer: &Answer) -> Result<(), Trouble> {
-        if !ALL_NUMBERS.iter().any(|(question, numbers)| *question == case.question && numbers.contains(&answer.number)) {
-            let text = format!("both answer {}, which is no answer to this question", answer.number);
+        let (numbers, inner) = answers_of(case.machine());
+        let is_refused_request = case.question == Question::Apply && answer.number == REQUEST_REFUSED;
+        let is_answer = numbers.iter().any(|(question, numbers)| *question == case.question && numbers.contains(&answer.number));
+        if !is_answer || is_refused_request && !inner.contains(&answer.places[1]) {
+            let text = format!("both answer {} {:?}, which is no answer to this question", answer.number, answer.places);
             return Err(Trouble::new(text, case.clone()));
         }
         *self.answers.entry((case.question, answer.number)).or_default() += 1;
-        if case.question == Question::Apply && answer.number == REQUEST_REFUSED {
+        if is_refused_request {
             *self.inner.entry(answer.places[1]).or_default() += 1;
         }
         Ok(())
@@ -68,12 +92,13 @@ impl Tally {
         self.answers.values().sum()
     }
 
-    /// What was never answered, and what never happened.
-    pub fn missing(&self) -> Vec<String> {
-        let numbers = ALL_NUMBERS.iter().flat_map(|(question, numbers)| numbers.iter().map(|&number| (*question, number)));
+    /// What a machine never answered, and what never happened.
+    pub fn missing(&self, machine: Machine) -> Vec<String> {
+        let (numbers, inner) = answers_of(machine);
+        let numbers = numbers.iter().flat_map(|(question, numbers)| numbers.iter().map(|&number| (*question, number)));
         let answers =
             numbers.filter(|key| !self.answers.contains_key(key)).map(|(question, number)| format!("{question:?} {number}"));
-        let inner = ALL_INNER.iter().filter(|number| !self.inner.contains_key(number)).map(|number| format!("27 with {number}"));
+        let inner = inner.iter().filter(|number| !self.inner.contains_key(number)).map(|number| format!("27 with {number}"));
         let events = Event::ALL.iter().filter(|event| !self.events.contains_key(event)).map(Event::to_string);
         answers.chain(inner).chain(events).collect()
     }
@@ -81,7 +106,8 @@ impl Tally {
 
 impl fmt::Display for Tally {
     fn fmt(&self, f: &mut fmt::Formatter) -> fmt::Result {
-        for (question, _) in ALL_NUMBERS {
+        let questions: BTreeSet<Question> = self.answers.keys().map(|(question, _)| *question).collect();
+        for question in questions {
             let of_question = self.answers.iter().filter(|((asked, _), _)| *asked == question);
             write_counts(f, &format!("{question:?}"), of_question.map(|((_, number), count)| (u64::from(*number), *count)))?;
         }

@@ -1,5 +1,6 @@
 //! The rules of document 01, as the landed requests of document 02 amend them, in ordinary Rust: regions, configurations, tables,
-//! requests, translation, plans, terminals and receivers, and requests from two tables.
+//! requests, translation, plans, terminals and receivers, and requests from two tables; and, in [`bank`], the second machine: terminals
+//! with owners.
 //!
 //! It is the second reading of the rules, written from the document alone and sharing nothing with the proved code, so that the
 //! two can be compared (`rust/compare`) and measured against each other (`rust/bench`). By it `rust/cases` makes the stored plan
@@ -8,6 +9,7 @@
 #![forbid(unsafe_code)]
 #![deny(missing_docs)]
 
+pub mod bank;
 mod config;
 mod differing;
 pub mod layout;

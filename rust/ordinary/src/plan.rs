@@ -65,7 +65,7 @@ impl ReadFault {
 impl<'a> Plan<'a> {
     /// Reads a plan, up to the first fault in file order.
     pub fn read(bytes: &'a [u8]) -> Result<Plan<'a>, ReadFault> {
-        let mut reader = Reader { bytes, at: 0 };
+        let mut reader = Reader::new(bytes);
         let (gic, edition) = reader.marks()?;
         let regions = reader.regions(1..=MAX_REGIONS as u32)?;
         let zones_at = reader.at;
@@ -80,7 +80,7 @@ impl<'a> Plan<'a> {
 
 /// The edition that a plan is for, by its marks alone.
 pub fn base_edition(bytes: &[u8]) -> Result<u32, ReadFault> {
-    let (_, edition) = Reader { bytes, at: 0 }.marks()?;
+    let (_, edition) = Reader::new(bytes).marks()?;
     Ok(edition)
 }
 
@@ -111,12 +111,22 @@ impl<'a> Requests<'a> {
 }
 
 /// The bytes of a plan and how far they are read.
-struct Reader<'a> {
+pub(crate) struct Reader<'a> {
     bytes: &'a [u8],
     at: usize,
 }
 
 impl<'a> Reader<'a> {
+    pub(crate) fn new(bytes: &'a [u8]) -> Reader<'a> {
+        Reader { bytes, at: 0 }
+    }
+
+    /// As many numbers as are asked for, after a count that must say so.
+    pub(crate) fn numbers(&mut self, count: usize) -> Result<Vec<u32>, ReadFault> {
+        self.count(count as u32..=count as u32)?;
+        (0..count).map(|_| self.number()).collect()
+    }
+
     fn field(&mut self, size: usize) -> Result<&'a [u8], ReadFault> {
         let field = self.bytes[self.at..].get(..size).ok_or(ReadFault::Cut(self.at))?;
         self.at += size;
@@ -137,20 +147,20 @@ impl<'a> Reader<'a> {
     }
 
     /// The GIC's position and the base edition. The mark behind them is judged as it is read.
-    fn marks(&mut self) -> Result<(u32, u32), ReadFault> {
+    pub(crate) fn marks(&mut self) -> Result<(u32, u32), ReadFault> {
         self.count(MARKS..=MARKS)?;
         let marks = (self.number()?, self.number()?);
         self.count(FORMAT..=FORMAT)?;
         Ok(marks)
     }
 
-    fn regions(&mut self, range: RangeInclusive<u32>) -> Result<Vec<Region>, ReadFault> {
+    pub(crate) fn regions(&mut self, range: RangeInclusive<u32>) -> Result<Vec<Region>, ReadFault> {
         let count = self.count(range)?;
         let records = self.records(count, REGION_BYTES)?;
         Ok(records.chunks_exact(REGION_BYTES).map(|record| region_at(record, 0)).collect())
     }
 
-    fn table(&mut self) -> Result<Table, ReadFault> {
+    pub(crate) fn table(&mut self) -> Result<Table, ReadFault> {
         let count = self.count(0..=MAX_ZONES as u32)?;
         let mut zones = Vec::with_capacity(MAX_ZONES);
         for _ in 0..count {
@@ -166,7 +176,7 @@ impl<'a> Reader<'a> {
         Ok(Zone { id, cpu, iommu })
     }
 
-    fn requests(&mut self) -> Result<(usize, Requests<'a>), ReadFault> {
+    pub(crate) fn requests(&mut self) -> Result<(usize, Requests<'a>), ReadFault> {
         let count = self.count(0..=MAX_REQUESTS as u32)?;
         let start = self.at;
         Ok((start, Requests(self.records(count, REQUEST_BYTES)?)))
@@ -181,7 +191,7 @@ impl<'a> Reader<'a> {
         self.field(count * size)
     }
 
-    fn end(&self) -> Result<(), ReadFault> {
+    pub(crate) fn end(&self) -> Result<(), ReadFault> {
         if self.at < self.bytes.len() {
             return Err(ReadFault::Trailing(self.at));
         }

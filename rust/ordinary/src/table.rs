@@ -108,6 +108,11 @@ impl Table {
     /// Where a guest address of a zone comes out, and how far that goes on.
     pub fn translate(&self, config: &Config, zone: u32, side: Side, address: Guest) -> Result<Translated, Refusal> {
         self.check(config)?;
+        self.comes_out(zone, side, address)
+    }
+
+    /// The same, where the configuration and the table are known to be sound.
+    pub(crate) fn comes_out(&self, zone: u32, side: Side, address: Guest) -> Result<Translated, Refusal> {
         if zone > MAX_ID {
             return Err(Refusal::ZoneId);
         }
@@ -137,6 +142,6 @@ fn are_apart(a: &Zone, b: &Zone, gic: &Region) -> bool {
 }
 
 /// Whether every item and every later one are as asked.
-fn all_pairs<T>(items: &[T], mut asked: impl FnMut(&T, &T) -> bool) -> bool {
+pub(crate) fn all_pairs<T>(items: &[T], mut asked: impl FnMut(&T, &T) -> bool) -> bool {
     items.iter().enumerate().all(|(place, later)| items[..place].iter().all(|earlier| asked(earlier, later)))
 }

@@ -36,6 +36,7 @@
 #![deny(unsafe_code)]
 
 mod answers;
+pub mod bank;
 mod config;
 mod differing;
 pub mod limits;

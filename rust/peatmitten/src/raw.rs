@@ -2,6 +2,8 @@
 //! on these. All unsafe code of the crate is here.
 #![allow(unsafe_code)]
 
+pub mod bank;
+
 use crate::config::Config;
 use crate::plan::State;
 use crate::region::Region;

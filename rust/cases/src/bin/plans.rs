@@ -1,5 +1,6 @@
 //! Makes the stored files by the ordinary implementation: the plan files in `vectors/plans` with what the program `apply` must
-//! print of each, those in `examples`, and the answers to all other cases in `vectors/cases.txt`.
+//! print of each, those in `examples`, and the answers to all other cases in `vectors/cases.txt`; and for the second machine its plans and
+//! cases in `vectors/bank` and `examples/bank`.
 //!
 //!     plans           writes them
 //!     plans --check   makes them again and compares them with the stored ones, byte by byte
@@ -7,41 +8,74 @@
 //! It ends with status 1 where a file differs, where there is a plan file that it does not make, or where the ordinary
 //! implementation does not answer what was worked out by hand.
 
-use std::collections::BTreeMap;
+use std::collections::{BTreeMap, BTreeSet};
 use std::path::{Path, PathBuf};
 use std::process::ExitCode;
 use std::{fs, io};
 
-use cases::{examples, named, plan_files, Named, PlanFile};
+use cases::{bank, examples, named, plan_files, Named, PlanFile};
 
 const USAGE: &str = "usage: plans [--check]";
 
-const PLANS: &str = "vectors/plans";
-const EXAMPLES: &str = "examples";
-const CASES: &str = "vectors/cases.txt";
+/// What is made for a machine, and where it is stored.
+struct Stored {
+    plans: (&'static str, Vec<PlanFile>),
+    examples: (&'static str, Vec<PlanFile>),
+    cases: (&'static str, Vec<Named>),
+}
+
+fn stored() -> [Stored; 2] {
+    [
+        Stored {
+            plans: ("vectors/plans", plan_files()),
+            examples: ("examples", examples()),
+            cases: ("vectors/cases.txt", named()),
+        },
+        Stored {
+            plans: ("vectors/bank/plans", bank::plan_files()),
+            examples: ("examples/bank", bank::examples()),
+            cases: ("vectors/bank/cases.txt", bank::named()),
+        },
+    ]
+}
 
 /// Files by their paths from the root of the repository.
 type Files = BTreeMap<String, Vec<u8>>;
 
 /// All that is made, and every answer that is not the one worked out by hand.
+#[derive(Default)]
 struct Made {
     files: Files,
+    /// Those that hold plans.
+    folders: BTreeSet<&'static str>,
     faults: Vec<String>,
-    counts: String,
+    counts: Vec<String>,
+}
+
+impl Made {
+    fn add(&mut self, stored: &Stored) {
+        let (plans_folder, plans) = &stored.plans;
+        let (examples_folder, examples) = &stored.examples;
+        let (cases_file, cases) = &stored.cases;
+        self.add_plans(plans_folder, plans);
+        self.add_plans(examples_folder, examples);
+        self.files.insert(format!("{plans_folder}/answers.txt"), answers(plans));
+        self.files.insert(cases_file.to_string(), lines(cases.iter().map(Named::line)));
+        self.faults.extend(cases.iter().filter_map(Named::fault));
+        self.counts.push(format!("{} plan files, {} examples, {} cases", plans.len(), examples.len(), cases.len()));
+    }
+
+    fn add_plans(&mut self, folder: &'static str, plans: &[PlanFile]) {
+        self.folders.insert(folder);
+        self.files.extend(plans.iter().map(|plan| (format!("{folder}/{}.plan", plan.name), plan.bytes.clone())));
+        self.faults.extend(plans.iter().filter_map(PlanFile::fault));
+    }
 }
 
 fn make() -> Made {
-    let (plans, examples, cases) = (plan_files(), examples(), named());
-    let mut files = Files::new();
-    for (folder, plans) in [(PLANS, &plans), (EXAMPLES, &examples)] {
-        files.extend(plans.iter().map(|plan| (format!("{folder}/{}.plan", plan.name), plan.bytes.clone())));
-    }
-    files.insert(format!("{PLANS}/answers.txt"), answers(&plans));
-    files.insert(CASES.into(), lines(cases.iter().map(Named::line)));
-    let of_plans = plans.iter().chain(&examples).filter_map(PlanFile::fault);
-    let faults = of_plans.chain(cases.iter().filter_map(Named::fault)).collect();
-    let counts = format!("{} plan files, {} examples, {} cases", plans.len(), examples.len(), cases.len());
-    Made { files, faults, counts }
+    let mut made = Made::default();
+    stored().iter().for_each(|stored| made.add(stored));
+    made
 }
 
 /// A line for each plan: its name, then the number, the place and the inner number.
@@ -60,7 +94,7 @@ fn root() -> PathBuf {
 }
 
 /// What is stored and not as it is made, each on a line.
-fn differences(made: &Files) -> io::Result<Vec<String>> {
+fn differences(made: &Files, folders: &BTreeSet<&str>) -> io::Result<Vec<String>> {
     let root = root();
     let mut differences = Vec::new();
     for (path, content) in made {
@@ -70,7 +104,7 @@ fn differences(made: &Files) -> io::Result<Vec<String>> {
             Err(error) => differences.push(format!("{path} cannot be read: {error}")),
         }
     }
-    for folder in [PLANS, EXAMPLES] {
+    for folder in folders {
         for entry in fs::read_dir(root.join(folder))? {
             let path = format!("{folder}/{}", entry?.file_name().to_string_lossy());
             if path.ends_with(".plan") && !made.contains_key(&path) {
@@ -103,18 +137,23 @@ fn difference(path: &str, stored: &[u8], made: &[u8]) -> String {
 }
 
 fn write(made: &Files) -> io::Result<()> {
-    made.iter().try_for_each(|(path, content)| fs::write(root().join(path), content))
+    for (path, content) in made {
+        let path = root().join(path);
+        fs::create_dir_all(path.parent().expect("the folder of a file"))?;
+        fs::write(path, content)?;
+    }
+    Ok(())
 }
 
 fn run(is_check: bool) -> io::Result<Vec<String>> {
-    let Made { files, mut faults, counts } = make();
+    let Made { files, folders, mut faults, counts } = make();
     if is_check {
-        faults.extend(differences(&files)?);
+        faults.extend(differences(&files, &folders)?);
     } else if faults.is_empty() {
         write(&files)?;
     }
     if faults.is_empty() {
-        println!("plans: {counts}, {}", if is_check { "all as they are stored" } else { "written" });
+        println!("plans: {}, {}", counts.join("; with owners "), if is_check { "all as they are stored" } else { "written" });
     }
     Ok(faults)
 }

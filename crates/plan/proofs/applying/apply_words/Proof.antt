@@ -1,5 +1,5 @@
 -- By what was found: a refusal of the bytes, or a plan that reads whole.
-use Rattle.plan.proofs.Outcomes.{apply-away, apply-found, regions-fit, zones-fit, requests-fit}
+use Rattle.plan.proofs.Outcomes.{apply-turned, apply-found, regions-fit, zones-fit, requests-fit}
 use borrow.Author.Needs.{needs}
 use Rattle.plan.proofs.applying.apply_words.Statement.{statement}
 use Rattle.plan.proofs.applying.apply_words.Tie as tie
@@ -9,6 +9,9 @@ find-sections-requires c κs = search needs
 
 enum-known-found : tie.Need-enum-known-found
 enum-known-found c = search needs
+
+standing-requires : tie.Need-standing-requires
+standing-requires c κs = search needs
 
 turned-away-requires : tie.Need-turned-away-requires
 turned-away-requires c κs = search needs
@@ -47,7 +50,7 @@ apply-found-requires : tie.Need-apply-found-requires
 apply-found-requires c κs = search needs
 
 returns : tie.Need-returns
-returns c = search (apply-away, needs)
+returns c = search (apply-turned, needs)
 
 returns-2 : tie.Need-returns-2
 returns-2 c = search (apply-found, needs)
@@ -58,6 +61,7 @@ apply-words-spec =
     (tie.spec
     find-sections-requires
     enum-known-found
+    standing-requires
     turned-away-requires
     enum-known-found-2
     sub-apply-found

@@ -4,9 +4,6 @@ use borrow.Author.Needs.{needs}
 use Rattle.plan.proofs.applying.base_number.Statement.{statement}
 use Rattle.plan.proofs.applying.base_number.Tie as tie
 
-same-config-requires : tie.Need-same-config-requires
-same-config-requires c κs = search needs
-
 returns : tie.Need-returns
 returns c = search (base-config, needs)
 
@@ -29,7 +26,6 @@ pub base-number-spec : {M : Type 1} → statement M
 base-number-spec =
     tie.close
     (tie.spec
-    same-config-requires
     returns
     returns-2
     returns-3

@@ -19,8 +19,8 @@ enum-told-2 c = search needs
 returns : tie.Need-returns
 returns c = search (config-other, needs)
 
-shared-slice-read-result : tie.Need-shared-slice-read-result
-shared-slice-read-result c = search needs
+element-copy-out-result : tie.Need-element-copy-out-result
+element-copy-out-result c = search needs
 
 returns-2 : tie.Need-returns-2
 returns-2 c = search (config-held, needs)
@@ -34,5 +34,5 @@ same-config-spec =
     enum-told
     enum-told-2
     returns
-    shared-slice-read-result
+    element-copy-out-result
     returns-2)

@@ -5,8 +5,8 @@ use borrow.Author.Needs.{needs}
 use Rattle.plan.proofs.comparing.same_regions.Statement.{statement}
 use Rattle.plan.proofs.comparing.same_regions.Tie as tie
 
-pass-regions-requires : tie.Need-pass-regions-requires
-pass-regions-requires c κs = search needs
+pass-list-requires : tie.Need-pass-list-requires
+pass-list-requires c κs = search needs
 
 enum-known-section : tie.Need-enum-known-section
 enum-known-section c = search needs
@@ -51,7 +51,7 @@ pub same-regions-spec : {M : Type 1} → statement M
 same-regions-spec =
     tie.close
     (tie.spec
-    pass-regions-requires
+    pass-list-requires
     enum-known-section
     enum-told
     returns

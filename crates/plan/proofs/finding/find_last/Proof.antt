@@ -1,6 +1,6 @@
--- By what the requests' finder answered: a refusal, moved by the base; bytes after the end; or all there.
-use Rattle.plan.proofs.Locating.{bad-requests-place, requests-refused, requests-start, requests-more}
-use Rattle.plan.proofs.Locating.{requests-whole}
+-- By what the requests' finder answered: a refusal, moved by the base; or where they begin and end.
+use Rattle.plan.proofs.Locating.{bad-requests-place, requests-refused, requests-start, requests-over}
+use Rattle.plan.proofs.Locating.{requests-found}
 use borrow.Author.Needs.{needs}
 use Rattle.plan.proofs.finding.find_last.Statement.{statement}
 use Rattle.plan.proofs.finding.find_last.Tie as tie
@@ -17,20 +17,17 @@ add-t11 c = search (bad-requests-place, needs)
 enum-known-section-2 : tie.Need-enum-known-section-2
 enum-known-section-2 c = search needs
 
-add-t14 : tie.Need-add-t14
-add-t14 c = search needs
-
-returns : tie.Need-returns
-returns c = search (requests-more, needs)
-
 add-t12 : tie.Need-add-t12
 add-t12 c = search (requests-start, needs)
 
-returns-2 : tie.Need-returns-2
-returns-2 c = search (requests-refused, needs)
+add-t13 : tie.Need-add-t13
+add-t13 c = search (requests-over, needs)
 
-returns-3 : tie.Need-returns-3
-returns-3 c = search (requests-whole, needs)
+returns : tie.Need-returns
+returns c = search (requests-refused, needs)
+
+returns-2 : tie.Need-returns-2
+returns-2 c = search (requests-found, needs)
 
 pub find-last-spec : {M : Type 1} → statement M
 find-last-spec =
@@ -40,8 +37,7 @@ find-last-spec =
     enum-known-section
     add-t11
     enum-known-section-2
-    add-t14
-    returns
     add-t12
-    returns-2
-    returns-3)
+    add-t13
+    returns
+    returns-2)

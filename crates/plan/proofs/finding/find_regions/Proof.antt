@@ -5,17 +5,14 @@ use borrow.Author.Needs.{needs}
 use Rattle.plan.proofs.finding.find_regions.Statement.{statement}
 use Rattle.plan.proofs.finding.find_regions.Tie as tie
 
-cast-pass-regions : tie.Need-cast-pass-regions
-cast-pass-regions c = search needs
-
 pass-regions-requires : tie.Need-pass-regions-requires
 pass-regions-requires c κs = search needs
 
 enum-known-section : tie.Need-enum-known-section
 enum-known-section c = search needs
 
-add-t11 : tie.Need-add-t11
-add-t11 c = search (regions-place, needs)
+add-t10 : tie.Need-add-t10
+add-t10 c = search (regions-place, needs)
 
 enum-known-section-2 : tie.Need-enum-known-section-2
 enum-known-section-2 c = search needs
@@ -45,10 +42,9 @@ pub find-regions-spec : {M : Type 1} → statement M
 find-regions-spec =
     tie.close
     (tie.spec
-    cast-pass-regions
     pass-regions-requires
     enum-known-section
-    add-t11
+    add-t10
     enum-known-section-2
     sub-find-zones
     part-find-zones-start

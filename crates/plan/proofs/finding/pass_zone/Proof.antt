@@ -10,14 +10,14 @@ sub-if1 c = search needs
 returns : tie.Need-returns
 returns c = search (zone-none, needs)
 
-add-pass-regions : tie.Need-add-pass-regions
-add-pass-regions c = search needs
+add-pass-list : tie.Need-add-pass-list
+add-pass-list c = search needs
 
-cast-pass-regions : tie.Need-cast-pass-regions
-cast-pass-regions c = search needs
+cast-pass-list : tie.Need-cast-pass-list
+cast-pass-list c = search needs
 
-pass-regions-requires : tie.Need-pass-regions-requires
-pass-regions-requires c κs = search needs
+pass-list-requires : tie.Need-pass-list-requires
+pass-list-requires c κs = search needs
 
 enum-known-cpu : tie.Need-enum-known-cpu
 enum-known-cpu c = search needs
@@ -28,11 +28,11 @@ enum-told c = search needs
 returns-2 : tie.Need-returns-2
 returns-2 c = search (zone-stops, needs)
 
-cast-pass-regions-2 : tie.Need-cast-pass-regions-2
-cast-pass-regions-2 c = search needs
+cast-pass-list-2 : tie.Need-cast-pass-list-2
+cast-pass-list-2 c = search needs
 
-pass-regions-requires-2 : tie.Need-pass-regions-requires-2
-pass-regions-requires-2 c κs = search (second-there, needs)
+pass-list-requires-2 : tie.Need-pass-list-requires-2
+pass-list-requires-2 c κs = search (second-there, needs)
 
 returns-3 : tie.Need-returns-3
 returns-3 c = search (zone-ends, needs)
@@ -43,12 +43,12 @@ pass-zone-spec =
     (tie.spec
     sub-if1
     returns
-    add-pass-regions
-    cast-pass-regions
-    pass-regions-requires
+    add-pass-list
+    cast-pass-list
+    pass-list-requires
     enum-known-cpu
     enum-told
     returns-2
-    cast-pass-regions-2
-    pass-regions-requires-2
+    cast-pass-list-2
+    pass-list-requires-2
     returns-3)

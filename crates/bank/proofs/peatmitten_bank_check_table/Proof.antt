@@ -1,0 +1,18 @@
+-- What the check says, as a number.
+use borrow.Author.Needs.{needs}
+use Rattle.lent.proofs.Answers.{yes-told}
+use Rattle.bank.proofs.peatmitten_bank_check_table.Statement.{statement}
+use Rattle.bank.proofs.peatmitten_bank_check_table.Tie as tie
+
+is-sound-requires : tie.Need-is-sound-requires
+is-sound-requires c κs = search needs
+
+yes-or-no-requires : tie.Need-yes-or-no-requires
+yes-or-no-requires c κs = search needs
+
+returns : tie.Need-returns
+returns c = search (yes-told, needs)
+
+pub peatmitten-bank-check-table-spec : {M : Type 1} → statement M
+peatmitten-bank-check-table-spec =
+    tie.close (tie.spec is-sound-requires yes-or-no-requires returns)

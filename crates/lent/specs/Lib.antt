@@ -1,0 +1,2 @@
+-- Answers in numbers that C can hold.
+pub mod Lent

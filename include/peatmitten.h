@@ -53,7 +53,8 @@ enum {
     PEATMITTEN_MOST_REQUESTS = 512, /* requests of a plan */
     PEATMITTEN_HIGHEST_ID = 255,    /* the highest zone id */
     PEATMITTEN_LONGEST_PLAN = 61852, /* bytes; a longer file is no plan */
-    PEATMITTEN_LONGEST_LISTING = 81920 /* bytes; no listing is longer */
+    PEATMITTEN_LONGEST_LISTING = 81920, /* bytes; no listing is longer */
+    PEATMITTEN_LONGEST_LOG = 63904 /* bytes; a longer file is no log */
 };
 
 /* Bytes of stack that are enough for every function. */
@@ -145,6 +146,14 @@ typedef struct peatmitten_difference {
 /* What is said of a place that has no byte. */
 enum { PEATMITTEN_NO_BYTE = 256 };
 
+/* What peatmitten_audit answers, and peatmitten_check_log in four numbers. */
+typedef struct peatmitten_audited {
+    uint32_t number;  /* a peatmitten_answer: 0, 1, 2, 20, 21, 22, 28 or 30 */
+    size_t place;     /* on 0 how many bytes the section of the end zones has, on 20 to 22 an offset, on 30 the index of the false claim, else 0 */
+    uint32_t right;   /* on 30 what the rules answer to that request, else 0 */
+    uint32_t claimed; /* on 30 what the log claims, which may be any number, else 0 */
+} peatmitten_audited;
+
 /*
  * Header and library belong together. The name of this function has the most regions, zones, regions of a set and requests, and the words
  * of a region; each file that includes this header refers to it, so that with the library of another layout a program does not link.
@@ -160,7 +169,8 @@ enum peatmitten_layout_number {
     PEATMITTEN_LAYOUT_REQUESTS = 3,
     PEATMITTEN_LAYOUT_REGION_WORDS = 4,
     PEATMITTEN_LAYOUT_LONGEST_PLAN = 5,
-    PEATMITTEN_LAYOUT_LONGEST_LISTING = 6
+    PEATMITTEN_LAYOUT_LONGEST_LISTING = 6,
+    PEATMITTEN_LAYOUT_LONGEST_LOG = 7
 };
 
 /* What peatmitten_check_config answers: the first fault, C1 to C6. C4 to C6 are looked for position by position. */
@@ -212,16 +222,17 @@ enum peatmitten_answer {
     PEATMITTEN_NO_REGION = 17,        /* the region is not in that set */
     PEATMITTEN_NOT_COVERED = 18,      /* (translation) no region covers the address */
     PEATMITTEN_TOO_MANY_RIGHTS = 19,  /* a CPU region with write and execute, or an IOMMU region with execute */
-    PEATMITTEN_CUT = 20,              /* (plan) a field is not wholly there; place: its offset */
-    PEATMITTEN_COUNT = 21,            /* (plan) a count is out of range, or another format's third mark; place: its offset */
-    PEATMITTEN_TRAILING = 22,         /* (plan) bytes after the last section; place: the first one's offset */
+    PEATMITTEN_CUT = 20,              /* (plan, log) a field is not wholly there; place: its offset */
+    PEATMITTEN_COUNT = 21,            /* (plan, log) a count is out of range, or another format's third mark; place: its offset */
+    PEATMITTEN_TRAILING = 22,         /* (plan, log) bytes after the last section; place: the first one's offset */
     PEATMITTEN_OTHER_CONFIG = 23,     /* (plan) configuration or GIC position differs from the terminal's */
     PEATMITTEN_OTHER_EDITION = 24,    /* (plan) the edition differs: most often a repeated or an overtaken plan */
     PEATMITTEN_NO_NEXT_EDITION = 25,  /* (plan) the edition is 2^32 - 1: there is no next one */
     PEATMITTEN_OTHER_ZONES = 26,      /* (plan) the base zones differ, order included */
     PEATMITTEN_REQUEST_REFUSED = 27,  /* (plan) a request is refused; place: its index from 0; inner: its number, 3 to 17 or 19 */
     PEATMITTEN_BUFFER_SHORT = 28,     /* (lent buffer) it is too short */
-    PEATMITTEN_TOO_MANY_REQUESTS = 29 /* (writer, list) there are more than PEATMITTEN_MOST_REQUESTS requests */
+    PEATMITTEN_TOO_MANY_REQUESTS = 29, /* (writer, list) there are more than PEATMITTEN_MOST_REQUESTS requests */
+    PEATMITTEN_FALSE_CLAIM = 30       /* (log) a claim is false; place: its index from 0 */
 };
 
 /*
@@ -482,6 +493,36 @@ static inline uint32_t peatmitten_wanted(const peatmitten_state *state, const ui
  */
 uint32_t peatmitten_list(const uint64_t config[PEATMITTEN_CONFIG_WORDS], const uint64_t table[PEATMITTEN_TABLE_WORDS], uint8_t *buffer,
                          size_t buffer_length, uint64_t length[1]);
+
+/*
+ * Checks a log that a terminal sends back: a plan's four sections with 3 as third mark, then as many claimed answers as there are requests, after
+ * their count. The requests are made in turn by the rules, from the log's own configuration and zones, and each claim is held against the
+ * answer; a refused request leaves the table, and the log goes on. Answers a peatmitten_answer: 0, 1, 2, 20, 21, 22, 28 or 30, the first that
+ * applies in the order 20 or 21, 22, 1, 2, 30, 28; 25 is not judged. places[0] is the place, places[1] what the rules say and places[2] what was
+ * claimed, as in a peatmitten_audited.
+ * On 0 all claims hold: so many bytes from the buffer's start are the zones after all requests, a section with its count, and those behind them
+ * are what they were. Else no byte of the buffer is changed. A buffer of PEATMITTEN_LONGEST_PLAN bytes is never too short.
+ * `config` and `table` are room to work in, whatever they hold. On 20 to 22 they are, when the call returns, what they were. Else they hold the
+ * log's configuration and the table at which the check ended: on 0 and 28 that after all requests, on 30 that before the request whose claim is
+ * false, on 1 and 2 the one that the log begins with. So whoever keeps a terminal's state lends other room.
+ * `log` and `buffer` are not null even where their lengths are 0.
+ */
+uint32_t peatmitten_check_log(uint64_t config[PEATMITTEN_CONFIG_WORDS], uint64_t table[PEATMITTEN_TABLE_WORDS], const uint8_t *log,
+                              size_t log_length, uint8_t *buffer, size_t buffer_length, uint64_t places[3]);
+
+/* The same with a state as room to work in, of which the edition is left as it is, and the answer in one piece. */
+static inline peatmitten_audited peatmitten_audit(peatmitten_state *room, const uint8_t *log, size_t log_length, uint8_t *buffer,
+                                                  size_t buffer_length)
+{
+    uint64_t places[3];
+    peatmitten_audited audited;
+
+    audited.number = peatmitten_check_log(room->config, room->table, log, log_length, buffer, buffer_length, places);
+    audited.place = (size_t)places[0];
+    audited.right = (uint32_t)places[1];
+    audited.claimed = (uint32_t)places[2];
+    return audited;
+}
 
 #ifdef __cplusplus
 }

@@ -55,11 +55,11 @@ static inline const char *peatmitten_words(uint32_t number)
         return "the region has too many rights: a CPU region both writable and executable, or an IOMMU region "
                "executable";
     case PEATMITTEN_CUT:
-        return "the plan ends before a field is wholly there";
+        return "the plan or the log ends before a field is wholly there";
     case PEATMITTEN_COUNT:
         return "a count is out of range, or the third mark is another format's";
     case PEATMITTEN_TRAILING:
-        return "the plan goes on after its last section";
+        return "the plan or the log goes on after its last section";
     case PEATMITTEN_OTHER_CONFIG:
         return "the plan is for another configuration, or for another position of the GIC";
     case PEATMITTEN_OTHER_EDITION:
@@ -74,6 +74,8 @@ static inline const char *peatmitten_words(uint32_t number)
         return "the buffer that was lent is too short";
     case PEATMITTEN_TOO_MANY_REQUESTS:
         return "there are more requests than a plan can have";
+    case PEATMITTEN_FALSE_CLAIM:
+        return "a claim of the log is false: the rules answer that request otherwise";
     default:
         return "no number of the library";
     }

@@ -13,7 +13,7 @@ build() {
     local folder=$1 example
     shift
     mkdir "$folder"
-    for example in apply_plan copy_stretch receive_plan differ_plan list_zones; do
+    for example in apply_plan copy_stretch receive_plan differ_plan list_zones check_log; do
         build_example "$folder/$example" "$ARCHIVE" "$@"
     done
     build_example "$folder/bank_plan" "$BANK_ARCHIVE" "$@"
@@ -94,6 +94,16 @@ run_cases() {
     expect 0 $'5 CPU 0x0000000040000000 0x0000000080000000 0x0000000000200000 3 262144
 5 IOMMU 0x0000000008000000 0x0000000008000000 0x0000000000010000 3 0' "$1/list_zones"
 
+    program=$1/check_log
+    expect 0 '0 168 0 0: all claims hold' "$program" <"$plans/true.log"
+    expect 1 "30 2 14 0: a claim of the log is false: the rules answer that request otherwise
+claimed: accepted
+right: a forbidden physical overlap: with a region that another zone holds, or of a CPU region with one in the zone's own CPU set; only the GIC \
+may be in the IOMMU sets of several zones" "$program" <"$plans/false.log"
+    expect 1 "21 12 0 0: a count is out of range, or the third mark is another format's" "$program" <"$plans/first.plan"
+    expect 1 '20 0 0 0: the plan or the log ends before a field is wholly there' "$program" </dev/null
+    expect 1 '22 63904 0 0: the plan or the log goes on after its last section' "$program" <"$root/vectors/logs/longest-and-one-byte.log"
+
     program=$1/bank_plan
     expect 0 '0 3 0, edition 8' "$program" "$plans/bank/own.plan"
     expect 1 $'0 3 0, edition 8\n24 0 0, edition 8\n  the plan is for another edition' "$program" "$plans/bank/own.plan" "$plans/bank/own.plan"
@@ -134,7 +144,8 @@ int main(void)
            differs("requests", PEATMITTEN_MOST_REQUESTS, PEATMITTEN_LAYOUT_REQUESTS) |
            differs("words of a region", PEATMITTEN_REGION_WORDS, PEATMITTEN_LAYOUT_REGION_WORDS) |
            differs("longest plan", PEATMITTEN_LONGEST_PLAN, PEATMITTEN_LAYOUT_LONGEST_PLAN) |
-           differs("longest listing", PEATMITTEN_LONGEST_LISTING, PEATMITTEN_LAYOUT_LONGEST_LISTING) | (peatmitten_layout(7) != 0);
+           differs("longest listing", PEATMITTEN_LONGEST_LISTING, PEATMITTEN_LAYOUT_LONGEST_LISTING) |
+           differs("longest log", PEATMITTEN_LONGEST_LOG, PEATMITTEN_LAYOUT_LONGEST_LOG) | (peatmitten_layout(8) != 0);
 }
 TEXT
     "$CC" -std=c11 -Wall -Wextra -Wpedantic -Werror -I"$root/include" "$work/layout.c" "$ARCHIVE" -o "$work/layout" ||

@@ -1,7 +1,7 @@
 #!/usr/bin/env bash
 # Holds documents against the project. docs/RULES.md: each definition that it names is there, the limits are those of the definitions,
 # and the annotated plan is examples/first.plan. README.md: it lists the functions of the header, and how much stack is enough for them. Both
-# say how long a plan can be. Where it is said how many cases are stored, it is so.
+# say how long a plan can be, and docs/RULES.md how long a log. Where it is said how many cases are stored, it is so.
 # docs/PROMISES.md: it names the must-fail edits that there are. Needs no library.
 set -euo pipefail
 test_name=documents
@@ -57,9 +57,10 @@ said_sizes() {
 check_sizes() {
     said_sizes SizesShown Sizes.antt 'a plan' README.md docs/RULES.md
     said_sizes OwnedSizesShown OwnedSizes.antt 'a plan with owners' README.md docs/RULES.md
+    said_sizes LogSizesShown Logs.antt 'a log' docs/RULES.md
 }
 
-# How many plan files and named cases there are, wherever it is said.
+# How many plan files, log files and named cases there are, wherever it is said.
 check_counts() {
     local count document
     count=$(grouped "$(wc -l <"$root/vectors/cases.txt")")
@@ -75,6 +76,8 @@ check_counts() {
             grep -Eq "(^|[^0-9,])$count with owners" "$root/$document" || say_failed "$document does not say that there are $count with owners"
         done
     done
+    count=$(wc -l <"$root/vectors/logs/answers.txt")
+    grep -Eq "(^|[^0-9,])$count stored logs" "$root/tests/README.md" || say_failed "tests/README.md does not say that there are $count log files"
 }
 
 # The rows of the annotated plan: each begins where the one before it ends, and together they are the file.

@@ -1,6 +1,6 @@
 #!/usr/bin/env bash
 # What ./peatmitten prints and says, and with which status: its commands for the shell, by a symbolic link too, with two commands that
-# build at once, and where the answer cannot be written. It proves and builds `apply`, `list` and `bank_apply` if that was not done.
+# build at once, and where the answer cannot be written. It proves and builds `apply`, `list`, `log` and `bank_apply` if that was not done.
 set -euo pipefail
 test_name=launcher
 . "$(dirname "$0")/host.sh"
@@ -43,6 +43,22 @@ check_list() {
     expect 2 '' 'peatmitten: list takes one file: *' list
 }
 
+# What the proved program prints of logs, each stored one among them, is as it is stored; the status says whether all claims hold.
+check_log() {
+    local name answer status
+    expect 0 '0 168 0 0' '' log --numbers "$plans/true.log"
+    expect 1 '30 2 14 0' '' log --numbers "$plans/false.log"
+    expect 1 '21 12 0 0' '' log --numbers -
+    while read -r name answer; do
+        status=1
+        [[ $answer != 0\ * ]] || status=0
+        expect "$status" "$answer" '' log --numbers "$root/vectors/logs/$name"
+    done <"$root/vectors/logs/answers.txt"
+    expect 2 '' "peatmitten: cannot read $plans: Is a directory" log --numbers "$plans"
+    expect 2 '' "log: cannot open $work/none: No such file or directory" log --numbers "$work/none"
+    expect 2 '' 'peatmitten: log --numbers takes one file: *' log --numbers
+}
+
 # What docs/RULES.md says of first.plan with a byte changed, or with one more.
 check_changed_plans() {
     local answer at byte
@@ -77,11 +93,22 @@ check_explain() {
     expect 0 '24: the plan is for another edition' '' explain 24 0 0
     expect 0 'C6: a region overlaps*' '' explain C6
     expect 0 '19: the region has too many rights*' '' explain 19
-    expect 2 '' 'peatmitten: no number 30; *' explain 30
+    expect 2 '' 'peatmitten: no number 31; *' explain 31
     expect 2 '' 'peatmitten: the place at 24 is always 0' explain 24 3 0
-    expect 2 '' 'peatmitten: only 27 has an inner number*' explain 24 0 5
+    expect 2 '' 'peatmitten: only 27 and 30 have an inner number*' explain 24 0 5
     expect 2 '' 'peatmitten: no inner number 18; *' explain 27 0 18
     expect 0 $'27: a request is refused*\nplace 0: *\n19: the region has*' '' explain 27 0 19
+    answer=$("$launcher" log --numbers "$plans/false.log" || true)
+    # shellcheck disable=SC2086 # four numbers
+    expect 0 $'30: a claim of the log is false*\nplace 2: the index *\nthe rules say 14: a forbidden*\nthe log claims 0: accepted' '' explain $answer
+    expect 0 $'30: *\nplace 2: *\nthe rules say 0: accepted\nthe log claims 77: no number that is answered' '' explain 30 2 0 77
+    expect 0 $'30: *; place: the index *\nthe rules say 14: *' '' explain 30 14
+    expect 0 '30: a claim of the log is false*; place: the index of that claim, from 0' '' explain 30
+    expect 0 $'0: accepted\nplace 168: *of a log, how many bytes*' '' explain 0 168 0 0
+    expect 2 '' 'peatmitten: no inner number 18; *' explain 30 2 18 0
+    expect 2 '' 'peatmitten: no claim x: *' explain 30 2 0 x
+    expect 2 '' 'peatmitten: only 30 has a claim other than 0' explain 27 2 14 5
+    expect 2 '' 'peatmitten: explain takes one to four numbers: *' explain 1 2 3 4 5
 }
 
 # For terminals with owners: the same plan is one for a machine or none.
@@ -118,7 +145,8 @@ check_rest() {
 # What cannot be written is told, for an answer and for a text.
 check_full_output() {
     local arguments
-    for arguments in "apply $plans/first.plan" "list $plans/map.plan" "bank apply $plans/bank/own.plan" 'explain 0' help --version; do
+    for arguments in "apply $plans/first.plan" "list $plans/map.plan" "log --numbers $plans/true.log" "bank apply $plans/bank/own.plan" 'explain 0' \
+        help --version; do
         # shellcheck disable=SC2086 # the arguments are words
         if "$launcher" $arguments >/dev/full 2>"$work/errors"; then
             say_failed "peatmitten $arguments: status 0 where standard output is full"
@@ -156,9 +184,11 @@ check_two_at_once() {
 
 "$launcher" apply "$plans/first.plan" >/dev/null
 "$launcher" list "$plans/map.plan" >/dev/null
+"$launcher" log --numbers "$plans/true.log" >/dev/null
 "$launcher" bank apply "$plans/bank/own.plan" >/dev/null
 check_apply
 check_list
+check_log
 check_bank
 check_explain
 check_rest

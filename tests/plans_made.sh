@@ -1,5 +1,5 @@
 #!/usr/bin/env bash
-# Makes the stored plan files and the answers to the named cases again, by the ordinary implementation, and compares them with the
+# Makes the stored plan and log files and the answers to the named cases again, by the ordinary implementation, and compares them with the
 # stored ones byte by byte. It runs on any processor, without the library.
 set -euo pipefail
 test_name=plans_made

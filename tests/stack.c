@@ -10,23 +10,26 @@
 #include "peatmitten.h"
 #include "stack_measured.h"
 
-enum { CHECK_CONFIG, CHECK_TABLE, REQUEST, TRANSLATE, EDITION, READ, APPLY, TAKE, END, WRITE, LIST, ZONES, BASE, LACKING, LISTING, LAYOUT,
+enum { CHECK_CONFIG, CHECK_TABLE, REQUEST, TRANSLATE, EDITION, READ, APPLY, TAKE, END, WRITE, LIST, ZONES, BASE, LACKING, LISTING, LOG, LAYOUT,
        FUNCTIONS };
 
 static const char *const names[FUNCTIONS] = {
     "peatmitten_check_config", "peatmitten_check_table", "peatmitten_request",     "peatmitten_translate_words",
     "peatmitten_edition",      "peatmitten_read",        "peatmitten_apply_words", "peatmitten_take_piece",
     "peatmitten_end_words",    "peatmitten_write_words", "peatmitten_wanted_words", "peatmitten_zones_words",
-    "peatmitten_base_zones",   "peatmitten_lacking",     "peatmitten_list",        TEXT_OF(peatmitten_layout)};
+    "peatmitten_base_zones",   "peatmitten_lacking",     "peatmitten_list",        "peatmitten_check_log",
+    TEXT_OF(peatmitten_layout)};
 
 static peatmitten_state state;
 static uint8_t plan[PEATMITTEN_LONGEST_PLAN + 1];
 static size_t length;
 static uint32_t kind;
-static uint64_t answers[2];
+static uint64_t answers[3];
 static uint64_t receiver[2];
 static uint8_t buffer[PEATMITTEN_LONGEST_PLAN];
 static const uint64_t no_zones[PEATMITTEN_TABLE_WORDS];
+static uint8_t log_bytes[PEATMITTEN_LONGEST_LOG + 1];
+static size_t log_length;
 
 static void check_config(void)
 {
@@ -123,9 +126,39 @@ static void map_listing(void)
     peatmitten_list(state.config, state.table, text, sizeof text, answers);
 }
 
+static void check_log(void)
+{
+    static peatmitten_state room;
+
+    peatmitten_check_log(room.config, room.table, log_bytes, log_length, buffer, sizeof buffer, answers);
+}
+
 static void layout(void)
 {
     answers[0] = peatmitten_layout(kind);
+}
+
+/*
+ * The plan as the log of a terminal that claims to have accepted every request: its third mark is a log's, and as many zeros stand behind it as it
+ * has requests. Bytes that are no plan are no log either.
+ */
+static void make_log(void)
+{
+    enum { THIRD_MARK = 12, LOG_FORMAT = 3 };
+    uint64_t first[1];
+    uint32_t number = peatmitten_read(plan, length, first);
+    size_t claims;
+
+    memcpy(log_bytes, plan, length);
+    log_length = length;
+    if (number != PEATMITTEN_ACCEPTED)
+        return;
+    claims = (length - (size_t)first[0]) / sizeof(peatmitten_record);
+    log_bytes[THIRD_MARK] = LOG_FORMAT;
+    memset(log_bytes + length, 0, 4 + 4 * claims);
+    log_bytes[length] = claims & 0xff;
+    log_bytes[length + 1] = (claims >> 8) & 0xff;
+    log_length = length + 4 + 4 * claims;
 }
 
 static void measure(size_t most[FUNCTIONS], const char *state_path, const char *plan_path)
@@ -137,6 +170,7 @@ static void measure(size_t most[FUNCTIONS], const char *state_path, const char *
         exit(2);
     }
     length = read_file(plan_path, plan, sizeof plan);
+    make_log();
     before = state;
     keep_most(most, CHECK_CONFIG, check_config);
     keep_most(most, CHECK_TABLE, check_table);
@@ -154,6 +188,7 @@ static void measure(size_t most[FUNCTIONS], const char *state_path, const char *
     keep_most(most, ZONES, zones_words);
     keep_most(most, BASE, base_zones);
     keep_most(most, LIST, list_words);
+    keep_most(most, LOG, check_log);
     keep_most(most, APPLY, apply);
     state = before;
     keep_most(most, TAKE, take_piece);

@@ -1,7 +1,7 @@
 #!/usr/bin/env bash
-# The tool for plans and state files, by ./peatmitten base, run, show, write, plan, differ and map: what it prints, says and keeps, and with which
-# status. Each stored plan is run at its own base, and shown, and must be answered as it is stored; one that is accepted is written back, byte for byte,
-# from what show prints, and drawn. A state file is the same from C.
+# The tool for plans, logs and state files, by ./peatmitten base, run, show, write, plan, differ, map and log: what it prints, says and keeps, and with
+# which status. Each stored plan is run at its own base, and shown, and must be answered as it is stored; one that is accepted is written back, byte for
+# byte, from what show prints, and drawn. Each stored log is answered as it is stored. A state file is the same from C.
 set -euo pipefail
 test_name=tool
 . "$(dirname "$0")/host.sh"
@@ -244,6 +244,78 @@ check_map() {
     expect 2 '' "peatmitten: cannot open $work/none: No such file *" map "$work/none"
 }
 
+# In words, what the check of a log finds; and the file of the end zones, which only a log whose claims all hold replaces.
+check_log() {
+    local a='v 0x40000000, p 0x80000000, size 0x200000, rights 3'
+    expect 0 "0 168 0 0: all 4 claims hold
+at the end there are 3 zones
+zone 5
+  CPU regions: 1
+    region 0: $a
+  IOMMU regions: 2
+    region 0: $a
+    region 1: v 0x8000000, p 0x8000000, size 0x10000, rights 3
+zone 6
+*
+zone 7
+  CPU regions: 0
+  IOMMU regions: 0" '' log "$plans/true.log"
+    expect 1 "30 2 14 0: the claim for request 2 is false
+request 2: zone 6, IOMMU insert: $a
+the log claims 0: accepted
+the rules say $("$launcher" explain 14)" '' log "$plans/false.log"
+    expect 0 $'0 168 0 0: all 4 claims hold\n*' '' log - <"$plans/true.log"
+    expect 0 $'0 4 0 0: there are no claims, so all hold\nat the end there is no zone' '' log "$root/vectors/logs/least.log"
+    expect 0 $'0 16 0 0: the claim holds\nat the end there is 1 zone\nzone 5\n*' '' log "$root/vectors/logs/first-of-document-01.log"
+    expect 1 $'30 9 0 4294967295: *\nrequest 9: add zone 7\nthe log claims 4294967295: no number that is answered\nthe rules say 0: accepted' '' \
+        log "$root/vectors/logs/highest-number-claimed.log"
+    expect 1 $'21 12 0 0: the count or mark at offset 12 is out of range\nits marks are those of a plan' '' log "$plans/first.plan"
+    expect 1 '20 0 0 0: the field at offset 0 is not wholly there' '' log - </dev/null
+    expect 1 "1 0 0 0: the log's own configuration is unsound" '' log "$root/vectors/logs/unsound-configuration.log"
+    expect 1 '22 708 0 0: the log ends at offset 708, but there are bytes after it' '' log "$root/vectors/logs/byte-after-the-end.log"
+    check_log_zones
+    check_stored_logs
+}
+
+# The section in the file is the zones of a plan: with the log's own beginning before it and no request behind, it is what show reads. What cannot or
+# must not be replaced stays, and so does the log.
+check_log_zones() {
+    local zones=$work/zones log=$work/true.log
+    cp "$plans/true.log" "$log"
+    expect 0 '0 168 0 0: *' '' log "$log" "$zones"
+    { head -c 12 "$log" && printf '\2\0\0\0' && head -c 148 "$log" | tail -c +17 && cat "$zones" && printf '\0\0\0\0'; } >"$work/end.plan"
+    expect 0 '*base zones: 3*zone 5*zone 6*zone 7*requests: 0*reads whole' '' show "$work/end.plan"
+    printf 'kept' >"$zones"
+    expect 1 '30 2 14 0: *' '' log "$plans/false.log" "$zones"
+    expect 1 '21 12 0 0: *' '' log "$plans/first.plan" "$zones"
+    expect 2 '' "peatmitten: cannot open $work/none: No such file *" log "$work/none" "$zones"
+    [ "$(cat "$zones")" = kept ] || say_failed "a log that does not hold changed the file of the zones"
+    expect 0 '0 168 0 0: *' '' log "$log" "$zones"
+    [ "$(stat -c %s "$zones")" = 168 ] || say_failed "the file of the zones was not replaced whole"
+    [ ! -e "$zones.new" ] || say_failed "a file is left beside the zones"
+    expect 2 '' "peatmitten: cannot open $work/none/zones.new: No such file *" log "$log" "$work/none/zones"
+    expect 2 '' 'peatmitten: the zones go into a file: *' log "$log" -
+    expect 2 '' "peatmitten: cannot replace $work: it is no file" log "$log" "$work"
+    expect 2 '' 'peatmitten: cannot replace /dev/null: it is no file' log "$log" /dev/null
+    expect 2 '' "peatmitten: $log is the log, and would be lost" log "$log" "$log"
+    expect 2 '' "peatmitten: $log is the log, and would be lost" log - "$log" <"$log"
+    ln "$log" "$work/other.new"
+    expect 2 '' "peatmitten: $work/other.new is the log, and would be lost" log "$log" "$work/other"
+    cmp "$log" "$plans/true.log" || say_failed "a log was lost"
+    expect 2 '' 'peatmitten: usage: *' log
+    expect 2 '' 'peatmitten: usage: *' log "$log" "$zones" "$zones"
+}
+
+check_stored_logs() {
+    local name answer status
+    while read -r name answer; do
+        status=0
+        said=$("${TOOL[@]}" log "$root/vectors/logs/$name") || status=$?
+        [[ $said == "$answer: "* ]] || say_failed "$name is $answer; log printed '$said'"
+        [ "$status" = "$([[ $answer == 0\ * ]] && echo 0 || echo 1)" ] || say_failed "$name is $answer; log ended with status $status"
+    done <"$root/vectors/logs/answers.txt"
+}
+
 # Each stored plan at its own base: what it answers, or why it has none; and where it stops reading. One that is accepted is written back from
 # what show prints of it.
 check_stored_plans() {
@@ -310,6 +382,7 @@ check_show
 check_write
 check_plan
 check_map
+check_log
 check_stored_plans
 check_same_from_c
 check_isolation

@@ -38,15 +38,16 @@ use Rattle.agent.specs.Agent.{readingPlace, editionNumber, editionValue,
 
 -- what stands past the last number of the layout
 pub past-layout : (n : ℕ) → (n ≡ 0 → ⊥) → (n ≡ 1 → ⊥) → (n ≡ 2 → ⊥) → (n ≡ 3 → ⊥) → (n ≡ 4 → ⊥) → (n ≡ 5 → ⊥)
-    → (n ≡ 6 → ⊥) → 0 ≡ getD layout n 0
-past-layout zero a b c d e f g = absurd (a refl)
-past-layout (suc zero) a b c d e f g = absurd (b refl)
-past-layout (suc (suc zero)) a b c d e f g = absurd (c refl)
-past-layout (suc (suc (suc zero))) a b c d e f g = absurd (d refl)
-past-layout (suc (suc (suc (suc zero)))) a b c d e f g = absurd (e refl)
-past-layout (suc (suc (suc (suc (suc zero))))) a b c d e f g = absurd (f refl)
-past-layout (suc (suc (suc (suc (suc (suc zero)))))) a b c d e f g = absurd (g refl)
-past-layout (suc (suc (suc (suc (suc (suc (suc n))))))) a b c d e f g = refl
+    → (n ≡ 6 → ⊥) → (n ≡ 7 → ⊥) → 0 ≡ getD layout n 0
+past-layout zero a b c d e f g h = absurd (a refl)
+past-layout (suc zero) a b c d e f g h = absurd (b refl)
+past-layout (suc (suc zero)) a b c d e f g h = absurd (c refl)
+past-layout (suc (suc (suc zero))) a b c d e f g h = absurd (d refl)
+past-layout (suc (suc (suc (suc zero)))) a b c d e f g h = absurd (e refl)
+past-layout (suc (suc (suc (suc (suc zero))))) a b c d e f g h = absurd (f refl)
+past-layout (suc (suc (suc (suc (suc (suc zero)))))) a b c d e f g h = absurd (g refl)
+past-layout (suc (suc (suc (suc (suc (suc (suc zero))))))) a b c d e f g h = absurd (h refl)
+past-layout (suc (suc (suc (suc (suc (suc (suc (suc n)))))))) a b c d e f g h = refl
 
 pub places-told : (u : List ℕ) (x y : ℕ) (f g : Checked) → u ≡ x ∷ y ∷ [] → f ≡ g → x ≡ checkPlace f
     → y ≡ checkEarlier f → u ≡ placesOf g

@@ -5,3 +5,4 @@ pub mod Writing
 pub mod Differing
 pub mod Listing
 pub mod MapListing
+pub mod Checking

@@ -9,6 +9,7 @@ use Rattle.rules.specs.Differing.{zonesOf}
 use Rattle.rules.specs.Filling.{Filled}
 use Rattle.rules.specs.Limits.{mostRegions, mostZones, mostInSet, mostRequests, limits}
 use Rattle.rules.specs.Listing.{list, longestListing}
+use Rattle.rules.specs.Logs.{readLog, longestLog, checkLog}
 use Rattle.rules.specs.Plan.{readPlan, Plan}
 use Rattle.rules.specs.Receiving.{takePiece}
 use Rattle.rules.specs.Sizes.{longestSize, zonesAt}
@@ -16,6 +17,7 @@ use Rattle.rules.specs.declared.Checked.{Checked}
 use Rattle.rules.specs.declared.Receiver.{Receiver}
 use Rattle.zones.specs.Layout.{regionWords}
 use Rattle.zones.specs.View.{storedConfig, storedTable}
+use Rattle.logs.specs.Logs.{configLeft, tableLeft, CheckedIn}
 use Rattle.plan.specs.Applying.{applied, stateIn}
 use Rattle.plan.specs.Into.{sectionPlace}
 use Rattle.plan.specs.Read.{readAnswer}
@@ -29,10 +31,10 @@ use Rattle.wanted.specs.Wanted.{listedIn, ListsIn}
 use Rattle.writer.specs.Writer.{writesIn, WritesIn, writesZonesIn, WritesZonesIn}
 
 -- what a header must have for the library: the most regions, zones, regions in a set and requests, the words of a
--- region, the longest plan, the longest listing
+-- region, the longest plan, the longest listing, the longest log
 abbrev pub layout : List ℕ
 layout =
-    mostRegions ∷ mostZones ∷ mostInSet ∷ mostRequests ∷ regionWords ∷ longestSize limits ∷ longestListing limits ∷ []
+    mostRegions ∷ mostZones ∷ mostInSet ∷ mostRequests ∷ regionWords ∷ longestSize limits ∷ longestListing limits ∷ longestLog limits ∷ []
 
 -- the two places of a configuration's check
 unfoldable pub placesOf : Checked → List ℕ
@@ -174,3 +176,23 @@ pub record ListingWords (c t w : List ℕ) (n : ℕ) (v a : List ℕ) : Type 0 w
   pub number : n ≡ listingIn c t w .outcome .number
   pub buffer : v ≡ listingIn c t w .buffer
   pub place : a ≡ listingIn c t w .outcome .place ∷ []
+
+-- ---- the check of a log: the number, what then lies at the configuration, at the table and in the buffer, and the place,
+-- what the rules answer and what was claimed
+pub record ChecksWords (c t b w : List ℕ) (n : ℕ) (d u v a : List ℕ) : Type 0 where
+  pub number : n ≡ checkLog limits b w .answer .outcome .number
+  pub config : d ≡ configLeft c (readLog limits b)
+  pub table : u ≡ tableLeft t (readLog limits b)
+  pub buffer : v ≡ checkLog limits b w .buffer
+  pub places : a
+      ≡ checkLog limits b w .answer .outcome .place
+      ∷ checkLog limits b w .answer .outcome .inner
+      ∷ checkLog limits b w .answer .claimed
+      ∷ []
+
+-- so what is proved of any code that meets `CheckedIn` is true of such calls
+abbrev pub WordsAreACheck : Type 0
+WordsAreACheck =
+    (c t b w : List ℕ) (n : ℕ) (d u v a : List ℕ) → ChecksWords c t b w n d u v a
+    → CheckedIn c t b w
+    (record { outcome = record { number = n; place = getD a 0 0; inner = getD a 1 0 }; claimed = getD a 2 0 }) d u v

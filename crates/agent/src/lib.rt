@@ -2,11 +2,14 @@
 // answers on every argument; nothing is asked of the caller beyond pointers and lengths that are valid.
 use differing::lacking_part;
 use lent::put_one;
+use lent::put_three;
 use lent::put_two;
 use lent::side_asked;
 use lent::yes_or_no;
 use listing::LONGEST_LISTING;
 use listing::list_table;
+use logs::LONGEST_LOG;
+use logs::check_log;
 use plan::Found;
 use plan::LONGEST_PLAN;
 use plan::apply_words;
@@ -54,7 +57,7 @@ ghost use Rattle.zones.specs.Step.{Stepped};
 ghost use Rattle.zones.specs.View.{storedConfig, storedTable};
 ghost use Rattle.walker.specs.Edition.{editionOf};
 ghost use Rattle.agent.specs.Agent.{layout, placesOf, readingNumber, readingPlace, editionNumber, editionValue, receiverIn, AppliesWords, TakesWords, EndsWords, WritesWords, WritesZonesWords};
-ghost use Rattle.agent.specs.Agent.{baseStretch, noByte, ListsWords, ListingWords};
+ghost use Rattle.agent.specs.Agent.{baseStretch, noByte, ListsWords, ListingWords, ChecksWords};
 
 // What is said of a place that has no byte.
 const NO_BYTE: u64 = 256;
@@ -85,6 +88,9 @@ pub extern "C" fn peatmitten_layout_256_32_16_512_4(which: u32) -> u64
     }
     if which == 6 {
         return LONGEST_LISTING as u64;
+    }
+    if which == 7 {
+        return LONGEST_LOG as u64;
     }
     0
 }
@@ -332,6 +338,30 @@ pub extern "C" fn peatmitten_list(
 {
     let outcome = list_table(config, table, buffer);
     put_one(length, outcome.place as u64);
+    outcome.number
+}
+
+// Checks a log: the number, its place, at a false claim what the rules answer and what was claimed. The configuration and the table are room to
+// work in: of a log that reads whole they hold afterwards its configuration and the table at which the check ended. Only on 0 is the buffer
+// changed: it begins with the end zones, and the place is how many bytes they are.
+#[no_mangle]
+pub extern "C" fn peatmitten_check_log(
+    config: &mut [u64; CONFIG_WORDS],
+    table: &mut [u64; TABLE_WORDS],
+    log: &[u8],
+    buffer: &mut [u8],
+    places: &mut [u64; 3],
+) -> u32
+    ensures { λ n. ⌜ ChecksWords (now (config .entry)) (now (table .entry)) (now (log .entry)) (now (buffer .entry)) n (now (config .exit)) (now (table .exit)) (now (buffer .exit)) (now (places .exit)) ⌝ }
+{
+    let answer = check_log(config, table, log, buffer);
+    let outcome = answer.outcome;
+    put_three(
+        places,
+        outcome.place as u64,
+        outcome.inner as u64,
+        answer.claimed as u64,
+    );
     outcome.number
 }
 

@@ -9,7 +9,7 @@ use lib.ListN.{length, set}
 use Rattle.rules.specs.declared.Side.the-variants.{Cpu, Iommu}
 use Rattle.lent.specs.Lent.{yesOrNo, sideAsked}
 
--- one word, and two
+-- one word, two, and three
 pub one-word : (w : List ℕ) (x : ℕ) → length w ≡ 1 → set w 0 x ≡ x ∷ []
 one-word [] x e = absurd (omega arith)
 one-word (a ∷ []) x e = refl
@@ -20,6 +20,13 @@ two-words [] x y e = absurd (omega arith)
 two-words (a ∷ []) x y e = absurd (omega arith)
 two-words (a ∷ (b ∷ [])) x y e = refl
 two-words (a ∷ (b ∷ (c ∷ w))) x y e = absurd (omega arith)
+
+pub three-words : (w : List ℕ) (x y z : ℕ) → length w ≡ 3 → set (set (set w 0 x) 1 y) 2 z ≡ x ∷ y ∷ z ∷ []
+three-words [] x y z e = absurd (omega arith)
+three-words (a ∷ []) x y z e = absurd (omega arith)
+three-words (a ∷ (b ∷ [])) x y z e = absurd (omega arith)
+three-words (a ∷ (b ∷ (c ∷ []))) x y z e = refl
+three-words (a ∷ (b ∷ (c ∷ (d ∷ w)))) x y z e = absurd (omega arith)
 
 pub yes : (t : Bool) → t ≡ true → 1 ≡ yesOrNo t
 unfolding yesOrNo

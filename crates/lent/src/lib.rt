@@ -39,6 +39,13 @@ pub fn put_two(w: &mut [u64; 2], x: u64, y: u64)
     fill_two(w, x, y);
 }
 
+// The words are x, y and z.
+pub fn put_three(w: &mut [u64; 3], x: u64, y: u64, z: u64)
+    ensures { λ r. ⌜ now (w .exit) ≡ x ∷ y ∷ z ∷ [] ⌝ }
+{
+    fill_three(w, x, y, z);
+}
+
 // The same of a slice: an array behind `&mut` does not tell the proof its length, and one that is lent as a slice does.
 fn fill_one(w: &mut [u64], x: u64)
     requires { ⌜ length (now w) ≡ 1 ⌝ }
@@ -53,4 +60,13 @@ fn fill_two(w: &mut [u64], x: u64, y: u64)
 {
     w[0] = x;
     w[1] = y;
+}
+
+fn fill_three(w: &mut [u64], x: u64, y: u64, z: u64)
+    requires { ⌜ length (now w) ≡ 3 ⌝ }
+    ensures { λ r. ⌜ now (w .exit) ≡ x ∷ y ∷ z ∷ [] ⌝ }
+{
+    w[0] = x;
+    w[1] = y;
+    w[2] = z;
 }

@@ -21,6 +21,7 @@ pub mod Wanted
 pub mod WantedOrder
 pub mod WantedPlans
 pub mod Listing
+pub mod Logs
 pub mod Families
 pub mod OwnedConfiguration
 pub mod Owned

@@ -22,6 +22,7 @@ pub mod Filling
 pub mod Writing
 pub mod Differing
 pub mod Listing
+pub mod Logs
 pub mod Families
 pub mod OwnedConfiguration
 pub mod Owned

@@ -29,6 +29,7 @@ pub mod WantedOrder
 pub mod Records
 pub mod WantedBytes
 pub mod Listing
+pub mod Logs
 pub mod Computing
 pub mod Desk
 pub mod Story
@@ -40,6 +41,7 @@ pub mod WriterExamples
 pub mod WantedExamples
 pub mod OneZone
 pub mod ListingExamples
+pub mod LogExamples
 pub mod Closure
 pub mod Inductive
 pub mod Budget

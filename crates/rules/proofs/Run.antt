@@ -77,7 +77,7 @@ module _ (number : List Zone → Request → ℕ) (after : List Zone → Request
 
   module _ (d : Request) where
     -- the number of request i, at the table that the requests before it leave
-    abbrev numberOf : List Zone → List Request → ℕ → ℕ
+    abbrev pub numberOf : List Zone → List Request → ℕ → ℕ
     numberOf t qs i = number (runs after t (take i qs)) (getD qs i d)
 
     -- all are accepted

@@ -9,7 +9,7 @@ use Rattle.formats.proofs.Formats.{both-got, as-got, file-got, listed-got}
 use Rattle.rules.specs.Applying.{baseOf}
 use Rattle.rules.specs.Configuration.{configOf}
 use Rattle.rules.specs.Limits.{Limits}
-use Rattle.rules.specs.Plan.{short, regionField, setFormat, zoneTo, zoneFrom, zoneFormat, planTo, planFrom}
+use Rattle.rules.specs.Plan.{short, regionField, askedField, setFormat, zoneTo, zoneFrom, zoneFormat, planTo, planFrom}
 use Rattle.rules.specs.Plan.{marksSection, regionsSection, zonesSection, requestsSection, planFormat, readPlan}
 use Rattle.rules.specs.Plan.{Plan}
 use Rattle.rules.specs.Tables.{tableOf, Zone}
@@ -71,6 +71,9 @@ module _ (l : Limits) where
 
     pub few-zones : (length (p .zones) ≤ l .zones) × All (SetsFew l) (p .zones)
     few-zones = listed-got (zoneFormat l) (SetsFew l) sets-few 4 0 (l .zones) _ _ _ (sections .zones)
+
+    pub few-requests : length (p .asked) ≤ l .requests
+    few-requests = listed-got askedField (λ x. Unit {0}) (λ b x t e. tt) 4 0 (l .requests) _ _ _ (sections .requests) .0
 
     -- ---- its own base
     pub own-config : configOf (baseOf l p .config) ≡ record { regions = p .regions; gic = p .marks .gic }

@@ -23,6 +23,7 @@ pub mod Writer
 pub mod Differing
 pub mod Wanted
 pub mod Listing
+pub mod Logs
 pub mod Desk
 pub mod Story
 pub mod OwnedDesk
@@ -32,5 +33,6 @@ pub mod PlanExamples
 pub mod WriterExamples
 pub mod WantedExamples
 pub mod ListingExamples
+pub mod LogExamples
 pub mod Closure
 pub mod Budget

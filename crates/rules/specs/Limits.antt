@@ -42,6 +42,10 @@ firstFormat = []
 abbrev pub secondFormat : List ℕ
 secondFormat = 2 ∷ []
 
+-- those of a log that a terminal sends back
+abbrev pub logMarks : List ℕ
+logMarks = 3 ∷ []
+
 -- ---- the limits of a family of terminals, and the format of its plans: every rule goes by them
 pub record Limits : Type 0 where
   pub page : ℕ

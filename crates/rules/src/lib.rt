@@ -60,6 +60,13 @@ pub struct Outcome {
     pub inner: u32,
 }
 
+// What the check of a log answers: the outcome, whose inner number at a false claim is what the rules answer; and what was claimed there, or
+// 0.
+pub struct LogAnswer {
+    pub outcome: Outcome,
+    pub claimed: u32,
+}
+
 // What a translation answers: 0, the physical address and how many bytes of the covering region there are from it on; or a number, and
 // 0 for both.
 pub struct Translated {

@@ -22,3 +22,6 @@ pub const MOST_REQUESTS: u32 = 512;
 pub const MARKS: u32 = 3;
 
 pub const FORMAT: u32 = 2;
+
+// The mark of a log in the place of a plan's.
+pub const LOG_FORMAT: u32 = 3;

@@ -63,6 +63,9 @@ pub const BUFFER_SHORT: u32 = 28;
 // A list of requests.
 pub const TOO_MANY_REQUESTS: u32 = 29;
 
+// A log: what a terminal claims is not what the rules answer.
+pub const FALSE_CLAIM: u32 = 30;
+
 // C1 to C6, of a configuration, and C7, of its owners.
 pub const C1_COUNT: u32 = 1;
 

@@ -22,6 +22,7 @@ pub mod Deciding
 pub mod Committing
 pub mod Stepping
 pub mod Running
+pub mod Auditing
 pub mod Undoing
 pub mod Trying
 pub mod Spelling

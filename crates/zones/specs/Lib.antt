@@ -12,6 +12,7 @@ pub mod Owners
 pub mod Decide
 pub mod Step
 pub mod Run
+pub mod Audit
 pub mod Kept
 pub mod Trial
 pub mod Translate

@@ -1,5 +1,6 @@
 // The configuration and the zone table as words of memory, and what is checked and done there.
 mod apart;
+mod claims;
 mod commit;
 mod config;
 mod decide;
@@ -15,6 +16,7 @@ mod translation;
 mod trial;
 mod words;
 
+pub use claims::audit_in;
 pub use config::Config;
 pub use config::check_config;
 pub use config::check_earlier;

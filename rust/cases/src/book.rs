@@ -4,15 +4,17 @@ use ordinary::bank::Owners;
 use ordinary::layout::TABLE_COUNT;
 use ordinary::{ConfigWords, Record, TableWords, CONFIG_WORDS, TABLE_WORDS};
 
-use crate::case::{Answer, Case, Question};
+use crate::case::{Answer, Case, Left, Question};
 
-/// A case with its name and, where they are known without any implementation, the number that must be answered and the two places with it.
+/// A case with its name and, where they are known without any implementation, the number that must be answered, the two places with it, and of
+/// a log what was claimed.
 #[derive(Clone, Debug)]
 pub struct Named {
     pub name: String,
     pub case: Case,
     pub known: Option<u32>,
     pub known_places: Option<[u64; 2]>,
+    pub known_claim: Option<u64>,
 }
 
 impl Named {
@@ -25,6 +27,12 @@ impl Named {
     pub fn known_with(&mut self, number: u32, places: [u64; 2]) {
         self.known(number);
         self.known_places = Some(places);
+    }
+
+    /// The same of a log: its number, the place, what the rules say and what was claimed.
+    pub fn known_of_log(&mut self, number: u32, place: u64, right: u32, claimed: u32) {
+        self.known_with(number, [place, right.into()]);
+        self.known_claim = Some(claimed.into());
     }
 
     /// The case and its answer on a line. Of a table afterwards it has the count of zones and a fingerprint of all words.
@@ -43,16 +51,21 @@ impl Named {
             Question::Lacking => format!("{place} {:?}", after.left[0].words),
             Question::List => format!("{number} {place} {}", mixed(&after.left[0].buffer)),
             Question::Listing => format!("{number} {place} {}", mixed(&after.left[0].buffer)),
+            Question::Log => {
+                let Left { words: [claimed, _], buffer, .. } = &after.left[0];
+                format!("{number} {place} {other} {claimed} {} {} {left}", mixed(buffer), fingerprint(&after.config))
+            }
         };
         format!("{}: {answer}", self.name)
     }
 
     /// What is wrong, if the ordinary implementation does not answer what was worked out by hand.
     pub fn fault(&self) -> Option<String> {
-        let Answer { number, places, .. } = self.case.ordinary();
-        let (known, known_places) = (self.known.unwrap_or(number), self.known_places.unwrap_or(places));
-        ((known, known_places) != (number, places))
-            .then(|| format!("{}: {known} {known_places:?} by hand, {number} {places:?} by rust/ordinary", self.name))
+        let Answer { number, places, left, .. } = self.case.ordinary();
+        let claim = left.first().map_or(0, |left| left.words[0]);
+        let answered = (number, places, claim);
+        let known = (self.known.unwrap_or(number), self.known_places.unwrap_or(places), self.known_claim.unwrap_or(claim));
+        (known != answered).then(|| format!("{}: {known:?} by hand, {answered:?} by rust/ordinary", self.name))
     }
 }
 
@@ -132,6 +145,11 @@ impl Book {
         self.ask(name.into(), Case::listing(self.config, self.table, vec![0xa5; room]))
     }
 
+    /// The check of a log, with the state's words as room to work in, into a buffer of so many bytes.
+    pub fn ask_log(&mut self, name: impl Into<String>, log: Vec<u8>, room: usize) -> &mut Named {
+        self.ask(name.into(), Case::log(self.config, self.table, log, vec![0xa5; room]))
+    }
+
     /// The writer with these requests' records, into a buffer of so many bytes.
     pub fn ask_writer(&mut self, name: impl Into<String>, requests: Vec<u8>, room: usize) -> &mut Named {
         self.ask(name.into(), Case::write(self.config, self.table, self.edition, requests, vec![0xa5; room]))
@@ -168,7 +186,7 @@ impl Book {
 
     fn ask(&mut self, name: String, case: Case) -> &mut Named {
         let case = Case { owners: self.owners, ..case };
-        self.named.push(Named { name, case, known: None, known_places: None });
+        self.named.push(Named { name, case, known: None, known_places: None, known_claim: None });
         self.named.last_mut().expect("the case just written down")
     }
 }

@@ -5,8 +5,8 @@ use std::fmt;
 use ordinary::bank::Owners;
 use ordinary::TableWords;
 use ordinary::{
-    base_edition, base_zones, lacking_part, BufferShort, Config, ConfigWords, Guest, Plan, PlanRefusal, Receiver, Record, Region,
-    Side, State, Table,
+    base_edition, base_zones, lacking_part, BufferShort, Config, ConfigWords, Guest, Log, LogRefusal, Plan, PlanRefusal, Receiver,
+    Record, Region, Side, State, Table,
 };
 use ordinary::{CONFIG_WORDS, TABLE_WORDS};
 
@@ -29,6 +29,7 @@ pub enum Question {
     Lacking,
     List,
     Listing,
+    Log,
 }
 
 /// How many numbers a question can take: a request has its kind, its zone and those of its region.
@@ -45,7 +46,7 @@ pub struct Case {
     /// Of a request its kind, its zone and its region's numbers; of a translation its zone, side and address; of a plan the terminal's edition,
     /// and where it comes in pieces also the two words of the receiver.
     pub numbers: [u64; NUMBERS],
-    /// Of two stretches of bytes the first.
+    /// Of two stretches of bytes the first; or a log.
     pub plan: Vec<u8>,
     /// Where requests are listed: the words of the wanted table.
     pub wanted: Vec<u64>,
@@ -55,7 +56,8 @@ pub struct Case {
     pub buffer: Vec<u8>,
 }
 
-/// What a call leaves: its number, two words (the receiver's, or of two stretches the byte that each has at the place), and the buffer.
+/// What a call leaves: its number, two words (the receiver's, of two stretches the byte that each has at the place, or of a log what was claimed),
+/// and the buffer.
 #[derive(Clone, Debug, PartialEq, Eq)]
 pub struct Left {
     pub number: u32,
@@ -74,7 +76,7 @@ pub struct Answer {
     pub config: ConfigWords,
     pub table: TableWords,
     pub edition: u32,
-    /// Of a plan in pieces what each call leaves, the end call last; of what is written or compared what the one call leaves.
+    /// Of a plan in pieces what each call leaves, the end call last; of what is written, compared or checked what the one call leaves.
     pub left: Vec<Left>,
 }
 
@@ -192,6 +194,11 @@ impl Case {
         Case { buffer, ..Case::new(Question::Listing, config, table, &[], Vec::new()) }
     }
 
+    /// The check of a log, with any words as room to work in, and a buffer.
+    pub fn log(config: ConfigWords, table: TableWords, log: Vec<u8>, buffer: Vec<u8>) -> Case {
+        Case { buffer, ..Case::new(Question::Log, config, table, &[], log) }
+    }
+
     /// The pieces, which together are the plan.
     pub fn cut(&self) -> Vec<&[u8]> {
         let mut rest = &self.plan[..];
@@ -280,7 +287,28 @@ impl Case {
             Question::Listing => {
                 self.written_ordinary(|state, buffer| state.table.list(&state.config, buffer).map_err(|refusal| refusal.number()))
             }
+            Question::Log => self.log_ordinary(),
         }
+    }
+
+    /// The log checked, and its end zones in the buffer. What was there to work in is kept where the bytes are no log; else it holds the log's
+    /// configuration, and the table at which the check ended.
+    fn log_ordinary(&self) -> Answer {
+        let mut buffer = self.buffer.clone();
+        let (room, checked) = match Log::read(&self.plan) {
+            Err(fault) => (None, Err(LogRefusal::Read(fault))),
+            Ok(log) => {
+                let audit = log.audit();
+                (Some((log.plan.config.to_words(), audit.table.to_words())), audit.write_zones(&mut buffer))
+            }
+        };
+        let (number, (place, right, claimed)) = match checked {
+            Ok(length) => (0, (length, 0, 0)),
+            Err(refusal) => (refusal.number(), refusal.found()),
+        };
+        let (config, table) = room.unwrap_or((self.config, self.table));
+        let left = vec![Left { number, words: [claimed.into(), 0], buffer }];
+        Answer { config, table, left, ..self.unchanged(number, [place as u64, right.into()]) }
     }
 
     /// The plan taken in pieces, and then applied whole.
@@ -418,7 +446,9 @@ impl fmt::Display for Case {
             writeln!(f, "  as requests, into a buffer of {}: {}", self.buffer.len(), hex(&self.buffer))?;
         }
         match self.question {
-            Question::Zones | Question::Listing => writeln!(f, "  into a buffer of {}: {}", self.buffer.len(), hex(&self.buffer))?,
+            Question::Zones | Question::Listing | Question::Log => {
+                writeln!(f, "  into a buffer of {}: {}", self.buffer.len(), hex(&self.buffer))?
+            }
             Question::Lacking => writeln!(f, "  beside a stretch of {}: {}", self.buffer.len(), hex(&self.buffer))?,
             _ => {}
         }

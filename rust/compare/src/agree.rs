@@ -146,6 +146,13 @@ fn ask_library(case: &Case, state: &mut Lent, left: &mut Vec<Left>) -> (u32, [u6
             left.push(Left { number, words: [0, 0], buffer });
             (number, [length, 0])
         }
+        Question::Log => {
+            let mut buffer = case.buffer.clone();
+            let (number, [place, right, claimed]) =
+                raw::check_log(&mut state.config, &mut state.table, &case.plan, black_box(&mut buffer));
+            left.push(Left { number, words: [claimed, 0], buffer });
+            (number, [place, right])
+        }
     }
 }
 

@@ -2,13 +2,13 @@
 
 use cases::Case;
 use ordinary::layout::{
-    config_record, set_count, set_record, zone_id, CONFIG_COUNT, CONFIG_GIC, LONGEST_LISTING, LONGEST_PLAN, REQUEST_BYTES,
-    TABLE_COUNT,
+    config_record, set_count, set_record, zone_id, CONFIG_COUNT, CONFIG_GIC, LONGEST_LISTING, LONGEST_LOG, LONGEST_PLAN,
+    REQUEST_BYTES, TABLE_COUNT,
 };
 use ordinary::limits::{GUEST_REACH, MAX_IN_SET, MAX_REGIONS, MAX_REQUESTS, MAX_ZONES, PAGE, PHYS_REACH};
 use ordinary::{
-    encode, encode_zones, Config, ConfigWords, Record, Region, Rights, Side, State, Table, TableWords, Zone, CONFIG_WORDS,
-    TABLE_WORDS,
+    encode, encode_log, encode_zones, true_claims, Config, ConfigWords, Record, Region, Rights, Side, State, Table, TableWords,
+    Zone, CONFIG_WORDS, TABLE_WORDS,
 };
 
 use crate::random::{EDGES, EDITIONS};
@@ -19,7 +19,7 @@ const C: Region = Region::new(0x4010_0000, 0x9000_0000, 0x20_0000, 3);
 const G: Region = Region::new(0x0800_0000, 0x0800_0000, 0x1_0000, 3);
 
 /// All cases, in parts: of all at once the words would take a gigabyte.
-pub const PARTS: [fn() -> Vec<Case>; 18] = [
+pub const PARTS: [fn() -> Vec<Case>; 22] = [
     config_cases,
     table_cases,
     request_cases,
@@ -38,6 +38,10 @@ pub const PARTS: [fn() -> Vec<Case>; 18] = [
     stretches,
     lists_between_tables,
     tables_listed,
+    true_logs,
+    false_claims,
+    damaged_logs,
+    logs_at_limits,
 ];
 
 fn zone(id: u32, cpu: &[Region], iommu: &[Region]) -> Zone {
@@ -739,11 +743,167 @@ fn shifts() -> Vec<State> {
         .collect()
 }
 
-/// A plan with as many of everything as there can be.
-fn longest_plan() -> Vec<u8> {
+/// The log of a terminal that answers by the rules.
+fn honest_log(base: &State, requests: &[Record]) -> Vec<u8> {
+    encode_log(base, requests, &true_claims(&base.config, &base.table, requests))
+}
+
+/// The check of a log, with words that are no configuration and no table as room to work in.
+fn log_case(log: Vec<u8>, room: usize) -> Case {
+    Case::log([u64::MAX; CONFIG_WORDS], [0x5a; TABLE_WORDS], log, vec![0xa5; room])
+}
+
+/// Requests of a state some at a time, of which many are refused.
+fn requests_in_turn(state: &State) -> Vec<Vec<Record>> {
+    let some: Vec<Record> = requests(state).into_iter().step_by(3).collect();
+    some.chunks(24).map(<[Record]>::to_vec).collect()
+}
+
+/// Logs whose claims all hold, at every state, into buffers on every side of the end zones' length: of requests of which many are refused, of all
+/// that takes the zones apart, and of none; also at the last edition, and with other words as room to work in.
+fn true_logs() -> Vec<Case> {
+    let mut cases = Vec::new();
+    for state in states() {
+        let mut lists = requests_in_turn(&state);
+        lists.extend([emptying(&state, false), emptying(&state, true), Vec::new()]);
+        for requests in lists {
+            let most = log_case(honest_log(&state, &requests), LONGEST_PLAN);
+            let length = most.ordinary().places[0] as usize;
+            for room in [0, 1, 3, 4, length - 1, length, length + 1, length + 40] {
+                cases.push(Case { buffer: vec![0xa5; room], ..most.clone() });
+            }
+        }
+        let last = State { edition: u32::MAX, ..state.clone() };
+        let log = honest_log(&last, &[record(1, 77, Region::ZERO), record(1, 77, Region::ZERO)]);
+        cases.push(log_case(log.clone(), LONGEST_PLAN));
+        cases.push(Case::log([0; CONFIG_WORDS], [0; TABLE_WORDS], log.clone(), vec![0; LONGEST_PLAN]));
+        cases.push(Case::log(state.config.to_words(), state.table.to_words(), log, vec![0; LONGEST_PLAN]));
+    }
+    let log = honest_log(&desk(&[zone(5, &[A], &[])]), &[record(3, 5, A), record(5, 5, G), record(1, 6, Region::ZERO)]);
+    let length = log_case(log.clone(), LONGEST_PLAN).ordinary().places[0] as usize;
+    cases.extend((0..length + 3).map(|room| log_case(log.clone(), room)));
+    cases
+}
+
+/// Each claim falsified in turn, at every state and of requests with numbers at edges: a refusal where the rules accept, and where they refuse
+/// either none or another, with and without room for the end zones; and each edge claimed of one that is accepted and of one that is refused.
+fn false_claims() -> Vec<Case> {
+    let mut cases = Vec::new();
+    let mut falsify = |base: &State, requests: &[Record]| {
+        let claims = true_claims(&base.config, &base.table, requests);
+        for (index, right) in claims.iter().enumerate() {
+            let mut wrong = claims.clone();
+            wrong[index] = match (right, index % 3) {
+                (0, _) => 1 + index as u32 % 30,
+                (_, 0) => 0,
+                (_, 1) => right + 1,
+                _ => right ^ 1 << (index % 32),
+            };
+            let room = if index % 2 == 0 { 0 } else { LONGEST_PLAN };
+            cases.push(log_case(encode_log(base, requests, &wrong), room));
+        }
+    };
+    for state in states() {
+        requests_in_turn(&state).iter().for_each(|requests| falsify(&state, requests));
+    }
+    let state = desk(&[zone(5, &[], &[]), zone(6, &[], &[])]);
+    edge_requests().chunks(16).for_each(|requests| falsify(&state, requests));
+    let taken_apart = desk(&[zone(5, &[A], &[A, G]), zone(6, &[B], &[G])]);
+    falsify(&taken_apart, &emptying(&taken_apart, true));
+    let requests = [record(1, 9, Region::ZERO), record(1, 9, Region::ZERO), record(3, 9, A)];
+    for (index, edge) in [0, 1, 2].into_iter().flat_map(|index| EDGES.map(|edge| (index, edge as u32))) {
+        let mut claims = [0, 5, 0];
+        claims[index] = edge;
+        cases.push(log_case(encode_log(&state, &requests, &claims), 300));
+    }
+    cases
+}
+
+/// A log cut at every length and made longer; with each of its fields of four bytes, marks, counts and claims among them, set to each edge; with
+/// other counts of claims, all of them there; and from zones and configurations that are unsound, with and without room, with claims that hold
+/// nowhere.
+fn damaged_logs() -> Vec<Case> {
+    let state = desk(&[zone(5, &[A], &[G])]);
+    let requests = [record(5, 5, A), record(5, 5, A)];
+    let log = honest_log(&state, &requests);
+    let mut cases: Vec<Case> = (0..log.len()).map(|length| log_case(log[..length].to_vec(), 300)).collect();
+    for more in [1, 3, 4, 5, 40, LONGEST_LOG] {
+        cases.push(log_case([&log[..], &vec![0; more]].concat(), 300));
+    }
+    for at in (0..log.len()).step_by(4) {
+        for edge in EDGES {
+            let mut changed = log.clone();
+            changed[at..at + 4].copy_from_slice(&(edge as u32).to_le_bytes());
+            cases.push(log_case(changed, 300));
+        }
+    }
+    for claims in 0..8 {
+        for asked in 0..4 {
+            let add = vec![record(1, 9, Region::ZERO); asked];
+            let claimed = [&[0][..], &[5; 7]].concat();
+            cases.push(log_case(encode_log(&state, &add, &claimed[..claims]), 300));
+        }
+    }
+    for room in [0, 300] {
+        for table in broken_tables().iter().filter_map(Table::from_words) {
+            let base = State { table, ..state.clone() };
+            cases.push(log_case(encode_log(&base, &requests, &[77, 77]), room));
+            cases.push(log_case(honest_log(&base, &[]), room));
+            let both = State { config: Config { gic: 9, ..base.config.clone() }, ..base };
+            cases.push(log_case(honest_log(&both, &[]), room));
+        }
+        for base in edge_regions().into_iter().map(beside_the_gic) {
+            cases.push(log_case(encode_log(&base, &[record(1, 9, Region::ZERO)], &[0]), room));
+        }
+    }
+    cases
+}
+
+/// Logs with as few and as many of everything as there can be, and with one more; and logs as plans, and plans as logs.
+fn logs_at_limits() -> Vec<Case> {
+    let mut cases = Vec::new();
+    let state = desk(&[zone(5, &[A], &[A, G])]);
+    let there_and_back = [record(1, 9, Region::ZERO), record(2, 9, Region::ZERO)].repeat(MAX_REQUESTS);
+    for count in [0, 1, 2, MAX_REQUESTS - 1, MAX_REQUESTS, MAX_REQUESTS + 1] {
+        let (log, mut last_false) = (honest_log(&state, &there_and_back[..count]), vec![0; count]);
+        cases.extend([0, 200].map(|room| log_case(log.clone(), room)));
+        if let Some(last) = last_false.last_mut() {
+            *last = 17;
+        }
+        cases.push(log_case(encode_log(&state, &there_and_back[..count], &last_false), 200));
+    }
+    let full = all_held(MAX_REGIONS);
+    let emptied = emptying(&full, false);
+    cases.push(log_case(honest_log(&full, &emptied[..emptied.len().min(MAX_REQUESTS)]), LONGEST_PLAN));
+    cases.push(log_case(honest_log(&full, &[record(1, 99, Region::ZERO); MAX_REQUESTS]), LONGEST_PLAN));
+    let longest = longest_log();
+    for length in LONGEST_LOG - 9..=LONGEST_LOG + 3 {
+        let mut log = longest.clone();
+        log.resize(length, 0);
+        cases.push(log_case(log, 0));
+    }
+    for plan in [whole_plans(), cut_plans(), plans_for_others()].concat() {
+        cases.push(log_case(plan.plan, 100));
+    }
+    cases.extend(states().iter().map(|state| Case::read(honest_log(state, &emptied[..9]))));
+    cases
+}
+
+/// A plan's contents with as many of everything as there can be.
+fn most_of_all() -> (State, [Record; MAX_REQUESTS]) {
     let zones = vec![zone(0, &[A; MAX_IN_SET], &[A; MAX_IN_SET]); MAX_ZONES];
     let base = State { config: Config { regions: vec![A; MAX_REGIONS], gic: 0 }, table: Table { zones }, edition: 0 };
-    encode(&base, &[record(1, 9, Region::ZERO); MAX_REQUESTS])
+    (base, [record(1, 9, Region::ZERO); MAX_REQUESTS])
+}
+
+fn longest_plan() -> Vec<u8> {
+    let (base, requests) = most_of_all();
+    encode(&base, &requests)
+}
+
+fn longest_log() -> Vec<u8> {
+    let (base, requests) = most_of_all();
+    encode_log(&base, &requests, &[0; MAX_REQUESTS])
 }
 
 #[cfg(test)]
@@ -756,7 +916,8 @@ mod tests {
     }
 
     #[test]
-    fn the_longest_plan_is_as_long_as_it_can_be() {
+    fn the_longest_plan_and_the_longest_log_are_as_long_as_they_can_be() {
         assert_eq!(longest_plan().len(), LONGEST_PLAN);
+        assert_eq!(longest_log().len(), LONGEST_LOG);
     }
 }

@@ -5,7 +5,8 @@ use cases::Case;
 use ordinary::layout::{LONGEST_LISTING, LONGEST_PLAN, REQUEST_BYTES};
 use ordinary::limits::{GUEST_REACH, MAX_IN_SET, MAX_REGIONS, MAX_REQUESTS, MAX_ZONES, PAGE, PHYS_REACH};
 use ordinary::{
-    base_zones, encode, encode_zones, Config, ConfigWords, Plan, Record, Region, Rights, State, Table, TableWords, Zone,
+    base_zones, encode, encode_log, encode_zones, true_claims, Config, ConfigWords, Plan, Record, Region, Rights, State, Table,
+    TableWords, Zone, CONFIG_WORDS, TABLE_WORDS,
 };
 
 use crate::damage::{damage_bytes, damage_words};
@@ -213,6 +214,25 @@ pub fn requests(rng: &mut Rng, config: &Config, table: &Table) -> Vec<Record> {
     requests
 }
 
+/// Requests for a log, accepted or not.
+fn requests_of_log(rng: &mut Rng, config: &Config, table: &Table) -> Vec<Record> {
+    let wanted = match rng.below(100) {
+        0 => MAX_REQUESTS,
+        1 => MAX_REQUESTS + 1,
+        _ => rng.below(16),
+    };
+    let mut table = table.clone();
+    let mut requests = Vec::new();
+    while requests.len() < wanted.min(16) {
+        let request = request(rng, config, &table);
+        // A refused request leaves the table, and the log goes on.
+        let _ = table.perform(config, &request);
+        requests.push(request);
+    }
+    fill_up(&table, &mut requests, wanted);
+    requests
+}
+
 /// Adds and removes a zone until there are as many requests as wanted.
 fn fill_up(table: &Table, requests: &mut Vec<Record>, wanted: usize) {
     let free = (0..).find(|&id| table.zones.iter().all(|zone| zone.id != id)).expect("a free id");
@@ -360,7 +380,7 @@ impl World {
 
     pub fn case(&mut self, rng: &mut Rng) -> Case {
         self.go_on(rng);
-        match rng.below(27) {
+        match rng.below(28) {
             0..=2 => self.config_case(rng),
             3..=5 => self.table_case(rng),
             6..=10 => self.request_case(rng),
@@ -374,6 +394,7 @@ impl World {
             19 => self.lacking_case(rng),
             20 => self.list_case(rng),
             21 => self.listing_case(rng),
+            22 => self.log_case(rng),
             _ => self.apply_case(rng),
         }
     }
@@ -521,6 +542,31 @@ impl World {
     fn listing_case(&self, rng: &mut Rng) -> Case {
         let (config, table) = self.base(rng);
         let case = Case::listing(config, table, vec![0; LONGEST_LISTING]);
+        let length = case.ordinary().places[0] as usize;
+        Case { buffer: buffer_about(rng, length), ..case }
+    }
+
+    /// A log, most often an honest one or one with a single false claim; now and then from another base, with a claim too many or too few, or
+    /// damaged. Any words are room to work in, and the buffer is on either side of the end zones' length.
+    fn log_case(&self, rng: &mut Rng) -> Case {
+        let requests = requests_of_log(rng, &self.state.config, &self.state.table);
+        let mut claims = true_claims(&self.state.config, &self.state.table, &requests);
+        if !claims.is_empty() && rng.one_in(3) {
+            let at = rng.below(claims.len());
+            claims[at] = if rng.one_in(2) { rng.below(31) as u32 } else { number_32(rng) };
+        }
+        match rng.below(16) {
+            0 => claims.push(0),
+            1 => claims.truncate(rng.below(1 + claims.len())),
+            _ => {}
+        }
+        let base = if rng.one_in(6) { other_base(rng, &self.state) } else { self.state.clone() };
+        let mut log = encode_log(&base, &requests, &claims);
+        if rng.one_in(5) {
+            damage_bytes(rng, &mut log);
+        }
+        let (config, table) = if rng.one_in(2) { self.base(rng) } else { ([rng.word(); CONFIG_WORDS], [rng.word(); TABLE_WORDS]) };
+        let case = Case::log(config, table, log, vec![0; LONGEST_PLAN]);
         let length = case.ordinary().places[0] as usize;
         Case { buffer: buffer_about(rng, length), ..case }
     }

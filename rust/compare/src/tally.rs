@@ -27,6 +27,7 @@ const FIRST_NUMBERS: Numbers = &[
     (Question::Lacking, &[0, 1, 2]),
     (Question::List, &[0, 1, 2, 28, 29]),
     (Question::Listing, &[0, 1, 2, 28]),
+    (Question::Log, &[0, 1, 2, 20, 21, 22, 28, 30]),
 ];
 
 /// 12 and 14 no longer occur.
@@ -40,6 +41,7 @@ const BANK_NUMBERS: Numbers = &[
 ];
 
 const REQUEST_REFUSED: u32 = 27;
+const FALSE_CLAIM: u32 = 30;
 
 /// The numbers of requests that can stand inside 27.
 const FIRST_INNER: &[u64] = &[3, 4, 5, 6, 7, 8, 9, 10, 11, 12, 13, 14, 15, 16, 17, 19];
@@ -53,10 +55,14 @@ fn answers_of(machine: Machine) -> (Numbers, &'static [u64]) {
     }
 }
 
+/// What the rules can say beside a false claim: what can stand inside 27, or that the request is accepted.
+const ACCEPTED: u64 = 0;
+
 #[derive(Default)]
 pub struct Tally {
     answers: BTreeMap<(Question, u32), usize>,
     inner: BTreeMap<u64, usize>,
+    right: BTreeMap<u64, usize>,
     events: BTreeMap<Event, usize>,
 }
 
@@ -74,6 +80,9 @@ impl Tally {
         if is_refused_request {
             *self.inner.entry(answer.places[1]).or_default() += 1;
         }
+        if answer.number == FALSE_CLAIM {
+            *self.right.entry(answer.places[1]).or_default() += 1;
+        }
         Ok(())
     }
 
@@ -85,6 +94,7 @@ impl Tally {
     pub fn merge(&mut self, other: Tally) {
         merge_counts(&mut self.answers, other.answers);
         merge_counts(&mut self.inner, other.inner);
+        merge_counts(&mut self.right, other.right);
         merge_counts(&mut self.events, other.events);
     }
 
@@ -98,9 +108,12 @@ impl Tally {
         let numbers = numbers.iter().flat_map(|(question, numbers)| numbers.iter().map(|&number| (*question, number)));
         let answers =
             numbers.filter(|key| !self.answers.contains_key(key)).map(|(question, number)| format!("{question:?} {number}"));
+        // The second machine has no logs.
+        let all_right = inner.iter().chain([&ACCEPTED]).filter(|_| machine == Machine::First);
+        let right = all_right.filter(|number| !self.right.contains_key(number)).map(|number| format!("30 beside {number}"));
         let inner = inner.iter().filter(|number| !self.inner.contains_key(number)).map(|number| format!("27 with {number}"));
         let events = Event::ALL.iter().filter(|event| !self.events.contains_key(event)).map(Event::to_string);
-        answers.chain(inner).chain(events).collect()
+        answers.chain(inner).chain(right).chain(events).collect()
     }
 }
 
@@ -112,6 +125,7 @@ impl fmt::Display for Tally {
             write_counts(f, &format!("{question:?}"), of_question.map(|((_, number), count)| (u64::from(*number), *count)))?;
         }
         write_counts(f, "inside 27", self.inner.iter().map(|(number, count)| (*number, *count)))?;
+        write_counts(f, "beside 30", self.right.iter().map(|(number, count)| (*number, *count)))?;
         self.events.iter().try_for_each(|(event, count)| writeln!(f, "simulated  {event}: {count}"))
     }
 }

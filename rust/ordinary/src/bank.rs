@@ -225,7 +225,7 @@ impl<'a> Plan<'a> {
     /// which they are is not judged.
     pub fn read(bytes: &'a [u8]) -> Result<Plan<'a>, ReadFault> {
         let mut reader = Reader::new(bytes);
-        let (gic, edition) = reader.marks()?;
+        let (gic, edition) = reader.marks(plan::FORMAT)?;
         let regions = reader.regions(1..=MAX_REGIONS as u32)?;
         let owners = reader.numbers(regions.len())?;
         let table = reader.table()?;

@@ -26,6 +26,12 @@ pub const LONGEST_PLAN: usize = {
     4 * 4 + (4 + MAX_REGIONS * REGION_BYTES) + zones + (4 + MAX_REQUESTS * REQUEST_BYTES)
 };
 
+/// How many bytes a claimed answer is in a log.
+pub const CLAIM_BYTES: usize = 4;
+
+/// How many bytes the longest log has: those of the longest plan, then the claims after their count.
+pub const LONGEST_LOG: usize = LONGEST_PLAN + 4 + MAX_REQUESTS * CLAIM_BYTES;
+
 /// How many bytes a listing can have: two full sets in as many zones as there can be, and each line the longest of its side.
 pub const LONGEST_LISTING: usize = {
     let id = "255 ".len();

@@ -1,6 +1,6 @@
 //! The rules of document 01, as the landed requests of document 02 amend them, in ordinary Rust: regions, configurations, tables,
-//! requests, translation, plans, terminals and receivers, and requests from two tables; and, in [`bank`], the second machine: terminals
-//! with owners.
+//! requests, translation, plans, terminals and receivers, requests from two tables, and field logs; and, in [`bank`], the second machine:
+//! terminals with owners.
 //!
 //! It is the second reading of the rules, written from the document alone and sharing nothing with the proved code, so that the
 //! two can be compared (`rust/compare`) and measured against each other (`rust/bench`). By it `rust/cases` makes the stored plan
@@ -14,6 +14,7 @@ mod config;
 mod differing;
 pub mod layout;
 mod listing;
+mod log;
 mod plan;
 mod receiver;
 mod region;
@@ -27,6 +28,7 @@ mod writer;
 pub use config::{Config, ConfigFault};
 pub use differing::{base_zones, lacking_part};
 pub use listing::ListingRefusal;
+pub use log::{check_log, encode_log, true_claims, Audit, Log, LogRefusal};
 pub use plan::{base_edition, encode, encode_zones, Plan, ReadFault, Requests};
 pub use receiver::{BufferShort, Receiver};
 pub use region::{Guest, Phys, Region, Rights};

@@ -8,9 +8,10 @@ use crate::request::Record;
 use crate::table::{Table, Zone};
 use crate::terminal::State;
 
-/// How many marks a plan of the second format has, and its third, by which the format is told.
+/// How many marks a plan of the second format has, and a log too; and the third, by which they are told apart.
 const MARKS: u32 = 3;
-const FORMAT: u32 = 2;
+pub(crate) const FORMAT: u32 = 2;
+pub(crate) const LOG_FORMAT: u32 = 3;
 
 /// A plan that was read whole. The requests stay where they are in its bytes.
 #[derive(Clone, Debug)]
@@ -66,21 +67,15 @@ impl<'a> Plan<'a> {
     /// Reads a plan, up to the first fault in file order.
     pub fn read(bytes: &'a [u8]) -> Result<Plan<'a>, ReadFault> {
         let mut reader = Reader::new(bytes);
-        let (gic, edition) = reader.marks()?;
-        let regions = reader.regions(1..=MAX_REGIONS as u32)?;
-        let zones_at = reader.at;
-        let table = reader.table()?;
-        let zones = zones_at..reader.at;
-        let (requests_at, requests) = reader.requests()?;
+        let plan = reader.sections(FORMAT)?;
         reader.end()?;
-        let config = Config { regions, gic: gic as usize };
-        Ok(Plan { config, edition, table, zones, requests, requests_at })
+        Ok(plan)
     }
 }
 
 /// The edition that a plan is for, by its marks alone.
 pub fn base_edition(bytes: &[u8]) -> Result<u32, ReadFault> {
-    let (_, edition) = Reader::new(bytes).marks()?;
+    let (_, edition) = Reader::new(bytes).marks(FORMAT)?;
     Ok(edition)
 }
 
@@ -110,7 +105,7 @@ impl<'a> Requests<'a> {
     }
 }
 
-/// The bytes of a plan and how far they are read.
+/// The bytes of a plan or a log and how far they are read.
 pub(crate) struct Reader<'a> {
     bytes: &'a [u8],
     at: usize,
@@ -119,6 +114,18 @@ pub(crate) struct Reader<'a> {
 impl<'a> Reader<'a> {
     pub(crate) fn new(bytes: &'a [u8]) -> Reader<'a> {
         Reader { bytes, at: 0 }
+    }
+
+    /// A plan's four sections, with this as third mark.
+    pub(crate) fn sections(&mut self, format: u32) -> Result<Plan<'a>, ReadFault> {
+        let (gic, edition) = self.marks(format)?;
+        let regions = self.regions(1..=MAX_REGIONS as u32)?;
+        let zones_at = self.at;
+        let table = self.table()?;
+        let zones = zones_at..self.at;
+        let (requests_at, requests) = self.requests()?;
+        let config = Config { regions, gic: gic as usize };
+        Ok(Plan { config, edition, table, zones, requests, requests_at })
     }
 
     /// As many numbers as are asked for, after a count that must say so.
@@ -147,10 +154,10 @@ impl<'a> Reader<'a> {
     }
 
     /// The GIC's position and the base edition. The mark behind them is judged as it is read.
-    pub(crate) fn marks(&mut self) -> Result<(u32, u32), ReadFault> {
+    pub(crate) fn marks(&mut self, format: u32) -> Result<(u32, u32), ReadFault> {
         self.count(MARKS..=MARKS)?;
         let marks = (self.number()?, self.number()?);
-        self.count(FORMAT..=FORMAT)?;
+        self.count(format..=format)?;
         Ok(marks)
     }
 
@@ -213,11 +220,16 @@ fn region_at(bytes: &[u8], at: usize) -> Region {
 
 /// The plan that asks this of a terminal in this state.
 pub fn encode(base: &State, requests: &[Record]) -> Vec<u8> {
+    encode_sections(FORMAT, base, requests)
+}
+
+/// A plan's four sections, with this as third mark.
+pub(crate) fn encode_sections(format: u32, base: &State, requests: &[Record]) -> Vec<u8> {
     let mut plan = Vec::new();
     put_u32(&mut plan, MARKS);
     put_u32(&mut plan, base.config.gic as u32);
     put_u32(&mut plan, base.edition);
-    put_u32(&mut plan, FORMAT);
+    put_u32(&mut plan, format);
     put_regions(&mut plan, &base.config.regions);
     plan.extend(encode_zones(&base.table));
     put_u32(&mut plan, requests.len() as u32);
@@ -246,7 +258,7 @@ pub(crate) fn put_request(plan: &mut Vec<u8>, request: &Record) {
     put_region(plan, &request.region);
 }
 
-fn put_u32(plan: &mut Vec<u8>, number: u32) {
+pub(crate) fn put_u32(plan: &mut Vec<u8>, number: u32) {
     plan.extend_from_slice(&number.to_le_bytes());
 }
 

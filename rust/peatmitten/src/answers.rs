@@ -524,6 +524,100 @@ impl fmt::Display for ListingRefusal {
 
 impl Error for ListingRefusal {}
 
+/// What the check of a log finds where not all is well: 20 to 22, 1, 2, 30 and 28, in this order.
+#[derive(Clone, Copy, Debug, PartialEq, Eq, Hash)]
+pub enum LogRefusal {
+    /// 20 to 22: the bytes are no log.
+    Read(ReadFault),
+    /// 1: the log's own configuration is unsound.
+    UnsoundConfig,
+    /// 2: the zones that the log begins with are unsound.
+    UnsoundTable,
+    /// 30: a claim is false, and none before it is.
+    FalseClaim {
+        /// Of which request, from 0.
+        index: u64,
+        /// The answer that the log claims: any number.
+        claimed: u32,
+        /// What the rules answer to that request, at the table that those before it leave.
+        right: Result<(), Refusal>,
+    },
+    /// 28: all claims hold, and the buffer is shorter than the section of the end zones.
+    BufferShort,
+}
+
+impl LogRefusal {
+    pub(crate) fn from_library(number: u32, [place, right, claimed]: [u64; 3]) -> Result<(), LogRefusal> {
+        Err(match number {
+            0 => return Ok(()),
+            1 => LogRefusal::UnsoundConfig,
+            2 => LogRefusal::UnsoundTable,
+            28 => LogRefusal::BufferShort,
+            30 => LogRefusal::FalseClaim { index: place, claimed: short(claimed), right: Refusal::from_library(short(right)) },
+            _ => return ReadFault::from_library(number, place).map_err(LogRefusal::Read),
+        })
+    }
+
+    /// The number.
+    pub fn number(&self) -> u32 {
+        match self {
+            LogRefusal::Read(fault) => fault.number(),
+            LogRefusal::UnsoundConfig => 1,
+            LogRefusal::UnsoundTable => 2,
+            LogRefusal::FalseClaim { .. } => 30,
+            LogRefusal::BufferShort => BufferShort.number(),
+        }
+    }
+
+    /// The place: an offset or a claim's index, else 0.
+    pub fn place(&self) -> u64 {
+        match self {
+            LogRefusal::Read(fault) => fault.offset(),
+            LogRefusal::FalseClaim { index, .. } => *index,
+            _ => 0,
+        }
+    }
+
+    /// What the rules answer where a claim is false, else 0.
+    pub fn right(&self) -> u32 {
+        match self {
+            LogRefusal::FalseClaim { right: Err(refusal), .. } => refusal.number(),
+            _ => 0,
+        }
+    }
+
+    /// What the log claims where that is false, else 0.
+    pub fn claimed(&self) -> u32 {
+        match self {
+            LogRefusal::FalseClaim { claimed, .. } => *claimed,
+            _ => 0,
+        }
+    }
+}
+
+impl fmt::Display for LogRefusal {
+    fn fmt(&self, f: &mut fmt::Formatter) -> fmt::Result {
+        match self {
+            LogRefusal::Read(ReadFault::Trailing { offset }) => {
+                write!(f, "the log ends at offset {offset}, but there are bytes after it")
+            }
+            LogRefusal::Read(fault) => fault.fmt(f),
+            LogRefusal::UnsoundConfig => write!(f, "the log's own configuration is unsound"),
+            LogRefusal::UnsoundTable => write!(f, "the zones that the log begins with are unsound"),
+            LogRefusal::FalseClaim { index, claimed, right } => {
+                write!(f, "the claim for request {index} is false: it is {claimed}, and the rules say {}: ", self.right())?;
+                match right {
+                    Ok(()) => write!(f, "accepted"),
+                    Err(refusal) => refusal.fmt(f),
+                }
+            }
+            LogRefusal::BufferShort => BufferShort.fmt(f),
+        }
+    }
+}
+
+impl Error for LogRefusal {}
+
 /// 28: a buffer that was lent is too short.
 #[derive(Clone, Copy, Debug, PartialEq, Eq, Hash)]
 pub struct BufferShort;
@@ -552,8 +646,13 @@ impl fmt::Display for BufferShort {
 impl Error for BufferShort {}
 
 fn inner_refusal(inner: u64) -> Refusal {
-    let number = u32::try_from(inner).unwrap_or(u32::MAX);
+    let number = short(inner);
     Refusal::from_library(number).err().unwrap_or_else(|| not_an_answer(number))
+}
+
+/// A number that the library gives in a word and that has 32 bits; one that has more is none of its answers.
+fn short(word: u64) -> u32 {
+    u32::try_from(word).unwrap_or_else(|_| panic!("the library answered {word}, which is none of its answers"))
 }
 
 /// The library's answers are proved, so this is a library that does not belong to this crate.

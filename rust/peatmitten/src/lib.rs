@@ -41,6 +41,7 @@ mod config;
 mod differing;
 pub mod limits;
 mod listing;
+mod log;
 mod plan;
 pub mod raw;
 mod reading;
@@ -52,13 +53,16 @@ mod table;
 mod wanted;
 mod writer;
 
-pub use answers::{BufferShort, ConfigFault, ListRefusal, ListingRefusal, PlanRefusal, ReadFault, Refusal, WriteRefusal};
+pub use answers::{
+    BufferShort, ConfigFault, ListRefusal, ListingRefusal, LogRefusal, PlanRefusal, ReadFault, Refusal, WriteRefusal,
+};
 pub use config::{Config, CONFIG_WORDS};
 pub use differing::{base_zones, first_difference, lacking_part, Difference};
+pub use log::{check_log, log_zones};
 pub use plan::{base_edition, read_plan, State};
-pub use reading::{Counted, Field, Reading};
+pub use reading::{claims_of, Counted, Field, Reading};
 pub use receiver::Receiver;
 pub use region::{ByteCount, Guest, Physical, Region, Rights};
 pub use request::{Request, Side};
-pub use store::STATE_BYTES;
+pub use store::{replace_file, STATE_BYTES};
 pub use table::{Table, Translated, Zone, TABLE_WORDS};

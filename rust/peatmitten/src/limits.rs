@@ -12,3 +12,5 @@ pub const MOST_REQUESTS: usize = 512;
 pub const LONGEST_PLAN: usize = 61852;
 /// How long a listing can be: a buffer of so many bytes is never too short for one.
 pub const LONGEST_LISTING: usize = 81920;
+/// How long a log can be; a longer file is none.
+pub const LONGEST_LOG: usize = 63904;

@@ -100,6 +100,15 @@ mod library {
             buffer_length: usize,
             length: *mut [u64; 1],
         ) -> u32;
+        pub fn peatmitten_check_log(
+            config: *mut Config,
+            table: *mut Table,
+            log: *const u8,
+            log_length: usize,
+            buffer: *mut u8,
+            buffer_length: usize,
+            places: *mut [u64; 3],
+        ) -> u32;
     }
 }
 
@@ -246,4 +255,15 @@ pub fn list(config: &Config, table: &Table, buffer: &mut [u8]) -> (u32, u64) {
     let mut length = [UNWRITTEN];
     let number = unsafe { library::peatmitten_list(config, table, buffer.as_mut_ptr(), buffer.len(), &mut length) };
     (number, length[0])
+}
+
+/// What the check of a log finds, or 0; its place, what the rules say and what was claimed. The buffer changes only where the number is 0. Of a
+/// log that reads whole, `config` and `table` are afterwards its configuration and the table at which the check ended; on 20 to 22 they are
+/// what they were.
+pub fn check_log(config: &mut Config, table: &mut Table, log: &[u8], buffer: &mut [u8]) -> (u32, [u64; 3]) {
+    let mut places = [UNWRITTEN; 3];
+    let number = unsafe {
+        library::peatmitten_check_log(config, table, log.as_ptr(), log.len(), buffer.as_mut_ptr(), buffer.len(), &mut places)
+    };
+    (number, places)
 }

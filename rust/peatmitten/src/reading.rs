@@ -1,7 +1,8 @@
 //! What a plan says, field by field. The library says how far the bytes read; up to there each field is where the format has it.
 
-use crate::answers::{PlanRefusal, ReadFault, Refusal};
-use crate::config::Config;
+use crate::answers::{LogRefusal, PlanRefusal, ReadFault, Refusal};
+use crate::config::{Config, CONFIG_WORDS};
+use crate::log::check_log;
 use crate::plan::{read_plan, State};
 use crate::region::Region;
 use crate::request::{Request, Side};
@@ -134,6 +135,27 @@ fn table_of(config: &Config, fields: &[(u64, Field)]) -> Result<Table, Refusal> 
     Ok(table)
 }
 
+/// The requests of a log, each with the answer that is claimed of it. Whether the claims hold, [`check_log`] says.
+///
+/// ```
+/// use peatmitten::{claims_of, ReadFault};
+///
+/// assert_eq!(claims_of(&[3, 0, 0, 0, 0]), Err(ReadFault::Cut { offset: 4 }));
+/// ```
+pub fn claims_of(log: &[u8]) -> Result<Vec<(Request, u32)>, ReadFault> {
+    let (mut config, mut table) = (Config::from_words([0; CONFIG_WORDS]), Table::new());
+    if let Err(LogRefusal::Read(fault)) = check_log(&mut config, &mut table, log, &mut []) {
+        return Err(fault);
+    }
+    let mut fields = Fields { left: log, at: 0, stop: log.len() as u64, found: Vec::new() };
+    let claims = fields.sections().and_then(|()| fields.claims()).expect("the library has read the log");
+    let requests = fields.found.into_iter().filter_map(|(_, field)| match field {
+        Field::Request(request) => Some(request),
+        _ => None,
+    });
+    Ok(requests.zip(claims).collect())
+}
+
 /// Reads field after field, up to where the library stops.
 struct Fields<'a> {
     left: &'a [u8],
@@ -164,6 +186,12 @@ impl Fields<'_> {
             self.request()?;
         }
         Some(())
+    }
+
+    /// What a log has behind a plan's sections: as many numbers as their count says.
+    fn claims(&mut self) -> Option<Vec<u32>> {
+        let count = u32::from_le_bytes(self.take()?);
+        (0..count).map(|_| self.take().map(u32::from_le_bytes)).collect()
     }
 
     fn count(&mut self, counted: Counted) -> Option<u32> {

@@ -61,14 +61,19 @@ impl State {
     /// state is written to a file beside, which has `.new` after its name. One process at a time may use a state file. An error names
     /// the file that could not be written.
     pub fn save(&self, path: &Path) -> io::Result<()> {
-        let beside = beside(path);
-        let mut file = File::create(&beside).map_err(because("open", &beside))?;
-        file.write_all(&self.to_bytes()).map_err(because("write", &beside))?;
-        file.sync_all().map_err(because("sync", &beside))?;
-        drop(file);
-        fs::rename(&beside, path).map_err(because("replace", path))?;
-        sync_folder_of(path)
+        replace_file(path, &self.to_bytes())
     }
+}
+
+/// Puts these bytes into a file, in the same way: the old file stays whole until the new one is.
+pub fn replace_file(path: &Path, bytes: &[u8]) -> io::Result<()> {
+    let beside = beside(path);
+    let mut file = File::create(&beside).map_err(because("open", &beside))?;
+    file.write_all(bytes).map_err(because("write", &beside))?;
+    file.sync_all().map_err(because("sync", &beside))?;
+    drop(file);
+    fs::rename(&beside, path).map_err(because("replace", path))?;
+    sync_folder_of(path)
 }
 
 fn words_in<const N: usize>(bytes: &[u8]) -> [u64; N] {

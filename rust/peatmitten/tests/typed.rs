@@ -3,9 +3,9 @@
 use std::mem::{offset_of, size_of};
 
 use peatmitten::{
-    base_edition, base_zones, first_difference, lacking_part, limits, raw, read_plan, ByteCount, Config, ConfigFault, Difference,
-    Guest, Physical, PlanRefusal, ReadFault, Refusal, Region, Request, Side, State, Table, Translated, WriteRefusal, CONFIG_WORDS,
-    STATE_BYTES, TABLE_WORDS,
+    base_edition, base_zones, check_log, claims_of, first_difference, lacking_part, limits, log_zones, raw, read_plan, ByteCount,
+    Config, ConfigFault, Difference, Guest, LogRefusal, Physical, PlanRefusal, ReadFault, Refusal, Region, Request, Side, State,
+    Table, Translated, WriteRefusal, CONFIG_WORDS, STATE_BYTES, TABLE_WORDS,
 };
 
 const A: Region = Region::new(0x4000_0000, 0x8000_0000, 0x20_0000, 3);
@@ -17,6 +17,8 @@ const FIRST_PLAN: &[u8] = include_bytes!("../../../examples/first.plan");
 const REFUSED_PLAN: &[u8] = include_bytes!("../../../examples/refused.plan");
 const CUT_PLAN: &[u8] = include_bytes!("../../../examples/cut.plan");
 const OTHER_ZONES_PLAN: &[u8] = include_bytes!("../../../examples/other_zones.plan");
+const TRUE_LOG: &[u8] = include_bytes!("../../../examples/true.log");
+const FALSE_LOG: &[u8] = include_bytes!("../../../examples/false.log");
 
 fn desk() -> (Config, Table) {
     let config = Config::new(&[A, B, C, G], 3).expect("four regions");
@@ -177,6 +179,41 @@ fn where_bases_differ() {
     assert!(short.iter().all(|&byte| byte == 7));
 }
 
+/// The claims of a plan that is refused as a whole, request by request: 14 is the third's.
+#[test]
+fn logs() {
+    let (mut config, mut table) = desk();
+    let base = State::base_of(REFUSED_PLAN).expect("sound contents");
+    let mut zones = [7; 200];
+    assert_eq!(check_log(&mut config, &mut table, TRUE_LOG, &mut zones), Ok(168));
+    assert_eq!(zones[168..], [7; 32]);
+    assert_eq!(log_zones(TRUE_LOG), Ok(zones[..168].to_vec()));
+    assert_eq!(State { config, table: table.clone(), edition: 0 }.zones_section(), Ok(zones[..168].to_vec()));
+    assert_eq!(table.zones().map(|zone| zone.id()).collect::<Vec<_>>(), [5, 6, 7]);
+    let claims = claims_of(TRUE_LOG).expect("a log").into_iter();
+    assert_eq!(claims.map(|(_, claim)| claim).collect::<Vec<_>>(), [0, 0, 14, 0]);
+
+    let (mut config, mut table) = desk();
+    let false_claim = LogRefusal::FalseClaim { index: 2, claimed: 0, right: Err(Refusal::PhysicalOverlap) };
+    assert_eq!(check_log(&mut config, &mut table, FALSE_LOG, &mut []), Err(false_claim));
+    assert_eq!([false_claim.number(), false_claim.right(), false_claim.claimed()], [30, 14, 0]);
+    assert_eq!((false_claim.place(), false_claim.to_string().ends_with("the region overlaps another one physically")), (2, true));
+    // What was lent to work in holds the table before that request.
+    assert_eq!(config, base.config);
+    assert_eq!(table.zones().map(|zone| zone.id()).collect::<Vec<_>>(), [5, 6]);
+    assert_eq!(claims_of(FALSE_LOG).expect("a log")[2], (Request::insert(6, Side::Iommu, A), 0));
+
+    assert_eq!(check_log(&mut config, &mut table, TRUE_LOG, &mut []), Err(LogRefusal::BufferShort));
+    let kept = (config.clone(), table.clone());
+    assert_eq!(check_log(&mut config, &mut table, REFUSED_PLAN, &mut []), Err(LogRefusal::Read(ReadFault::Count { offset: 12 })));
+    let more = [TRUE_LOG, &[0]].concat();
+    let trailing = LogRefusal::Read(ReadFault::Trailing { offset: TRUE_LOG.len() as u64 });
+    assert_eq!(check_log(&mut config, &mut table, &more, &mut []), Err(trailing));
+    assert_eq!(trailing.to_string(), format!("the log ends at offset {}, but there are bytes after it", TRUE_LOG.len()));
+    assert_eq!((config, table), kept);
+    assert_eq!(first_state().apply(TRUE_LOG), Err(PlanRefusal::Read(ReadFault::Count { offset: 12 })));
+}
+
 #[test]
 fn limits_are_the_librarys() {
     let shared = [
@@ -187,6 +224,7 @@ fn limits_are_the_librarys() {
         Region::WORDS,
         limits::LONGEST_PLAN,
         limits::LONGEST_LISTING,
+        limits::LONGEST_LOG,
     ];
     for (which, limit) in (0..).zip(shared) {
         assert_eq!(raw::layout(which), limit as u64, "number {which} of the layout");

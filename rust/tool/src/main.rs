@@ -1,28 +1,31 @@
-//! Plans and state files at a shell, for people who test an agent, make plans or stand at a service desk: `./peatmitten run`, `base`, `show`,
-//! `write`, `plan`, `differ` and `map`. Every number, place and byte is the library's; this program reads arguments and files, prints, and draws
-//! the map from the library's listing.
+//! Plans, logs and state files at a shell, for people who test an agent, make plans or stand at a service desk: `./peatmitten run`, `base`,
+//! `show`, `write`, `plan`, `differ`, `map` and `log`. Every number, place and byte is the library's; this program reads arguments and files, prints,
+//! and draws the map from the library's listing.
 //!
-//! The exit status is 0 for a plan that is accepted (`show`: that reads whole; `differ`: that is for the terminal's base), 1 for one that is
-//! refused, and 2 where an argument or a file is not as it should be, or what is printed cannot be written.
+//! The exit status is 0 for a plan that is accepted (`show`: that reads whole; `differ`: that is for the terminal's base) and for a log whose
+//! claims all hold, 1 for one that is refused, and 2 where an argument or a file is not as it should be, or what is printed cannot be written.
 
 mod differ;
+mod log;
 mod map;
 mod show;
 mod text;
 
 use std::env;
 use std::ffi::{OsStr, OsString};
-use std::fs::File;
+use std::fs::{self, File};
 use std::io::{self, IsTerminal, Read, Write};
+use std::os::unix::fs::MetadataExt;
 use std::path::Path;
 use std::process::ExitCode;
 
-use peatmitten::limits::LONGEST_PLAN;
-use peatmitten::{base_edition, first_difference, PlanRefusal, Reading, Region, Request, State};
+use peatmitten::limits::{LONGEST_LOG, LONGEST_PLAN};
+use peatmitten::{base_edition, check_log, first_difference, replace_file};
+use peatmitten::{Config, PlanRefusal, Reading, Region, Request, State, Table, CONFIG_WORDS};
 
 const USAGE: &str =
     "usage: peatmitten run [--words] STATE PLAN... | base PLAN >STATE | show PLAN | write TEXT >PLAN | plan FROM WANTED >PLAN | \
-    differ STATE PLAN | map PLAN >SVG";
+    differ STATE PLAN | map PLAN >SVG | log LOG [ZONES]";
 
 /// More bytes than the text of the longest plan has.
 const LONGEST_TEXT: u64 = 1 << 24;
@@ -53,6 +56,8 @@ fn answer(arguments: &[OsString]) -> Answer {
         (Some("differ"), [state, plan]) => differ(state, plan),
         (Some("plan"), [from, wanted]) => plan(from, wanted),
         (Some("map"), [plan]) => map(plan),
+        (Some("log"), [log]) => check(log, None),
+        (Some("log"), [log, zones]) => check(log, Some(zones)),
         _ => Err(USAGE.to_string()),
     }
 }
@@ -205,6 +210,44 @@ fn map(plan: &OsStr) -> Answer {
     }
 }
 
+/// Says which claim of a log is false, or that all hold and which zones there are at the end. Where a file is named for them, their section is in it
+/// before anything is printed; it stays as it was where a claim is false or the bytes are no log.
+fn check(path: &OsStr, zones: Option<&OsStr>) -> Answer {
+    if let Some(zones) = zones {
+        may_be_replaced(zones, path)?;
+    }
+    let log = at_most(path, LONGEST_LOG as u64 + 1)?;
+    let (mut config, mut table) = (Config::from_words([0; CONFIG_WORDS]), Table::new());
+    let mut section = vec![0; LONGEST_PLAN];
+    let answer = check_log(&mut config, &mut table, &log, &mut section);
+    if let (Ok(length), Some(zones)) = (&answer, zones) {
+        replace_file(Path::new(zones), &section[..*length]).map_err(|fault| fault.to_string())?;
+    }
+    print(log::lines(&log, &answer, &table).as_bytes())?;
+    Ok(answer.is_ok())
+}
+
+/// Whether a file may be put in this one's place: what is no file stays, and the log too, also where it has the name under which the new file is
+/// written first.
+fn may_be_replaced(file: &OsStr, log: &OsStr) -> Result<(), String> {
+    if file == "-" {
+        return Err("the zones go into a file: ./peatmitten log LOG ZONES".to_string());
+    }
+    let log = fs::metadata(if log == "-" { OsStr::new("/dev/stdin") } else { log });
+    let mut beside = file.to_os_string();
+    beside.push(".new");
+    for path in [file, &beside].map(Path::new) {
+        let Ok(there) = fs::metadata(path) else { continue };
+        if !there.is_file() {
+            return Err(format!("cannot replace {}: it is no file", path.display()));
+        }
+        if log.as_ref().is_ok_and(|log| (log.dev(), log.ino()) == (there.dev(), there.ino())) {
+            return Err(format!("{} is the log, and would be lost", path.display()));
+        }
+    }
+    Ok(())
+}
+
 /// Where a region lies in physical memory.
 fn stretch(region: &Region) -> (u64, u64) {
     (region.p.0, region.p.0 + region.size)
@@ -232,10 +275,10 @@ fn bytes_of(plan: &OsStr) -> Result<Vec<u8>, String> {
 }
 
 /// So many bytes of a file, or of standard input.
-fn at_most(plan: &OsStr, most: u64) -> Result<Vec<u8>, String> {
-    let because = |doing: &str, fault: io::Error| format!("cannot {doing} {}: {fault}", Path::new(plan).display());
+fn at_most(path: &OsStr, most: u64) -> Result<Vec<u8>, String> {
+    let because = |doing: &str, fault: io::Error| format!("cannot {doing} {}: {fault}", Path::new(path).display());
     let source: Box<dyn Read> =
-        if plan == "-" { Box::new(io::stdin()) } else { Box::new(File::open(plan).map_err(|fault| because("open", fault))?) };
+        if path == "-" { Box::new(io::stdin()) } else { Box::new(File::open(path).map_err(|fault| because("open", fault))?) };
     let mut bytes = Vec::new();
     source.take(most).read_to_end(&mut bytes).map_err(|fault| because("read", fault))?;
     Ok(bytes)

@@ -84,7 +84,7 @@ pub fn numbers(region: &Region) -> String {
 }
 
 /// A request by the name of its kind. Whether it may be made is not judged here, so a region that does not belong is told too.
-fn request(asked: &Request) -> String {
+pub fn request(asked: &Request) -> String {
     let zone = asked.zone();
     let region = numbers(&asked.region());
     let no_region = asked.region() == Region::new(0, 0, 0, 0);

@@ -1,6 +1,7 @@
 -- One number a test; past the last there is none.
 use borrow.Author.Needs.{needs}
 use Rattle.agent.proofs.Answers.{past-layout}
+use Rattle.agent.proofs.Checking.{log-told}
 use Rattle.agent.proofs.MapListing.{longest-told}
 use Rattle.agent.proofs.peatmitten_layout_256_32_16_512_4.Statement.{statement}
 use Rattle.agent.proofs.peatmitten_layout_256_32_16_512_4.Tie as tie
@@ -30,9 +31,12 @@ returns-7 : tie.Need-returns-7
 returns-7 c = search (longest-told, needs)
 
 returns-8 : tie.Need-returns-8
-returns-8 c = search (past-layout, needs)
+returns-8 c = search (log-told, needs)
+
+returns-9 : tie.Need-returns-9
+returns-9 c = search (past-layout, needs)
 
 pub peatmitten-layout-256-32-16-512-4-spec : {M : Type 1} → statement M
 peatmitten-layout-256-32-16-512-4-spec =
     tie.close
-    (tie.spec returns returns-2 returns-3 cast-result returns-4 returns-5 returns-6 returns-7 returns-8)
+    (tie.spec returns returns-2 returns-3 cast-result returns-4 returns-5 returns-6 returns-7 returns-8 returns-9)

@@ -1,11 +1,11 @@
 //! Makes the stored files by the ordinary implementation: the plan files in `vectors/plans` with what the program `apply` must
-//! print of each, those in `examples`, and the answers to all other cases in `vectors/cases.txt`; and for the second machine its plans and
-//! cases in `vectors/bank` and `examples/bank`.
+//! print of each, the log files in `vectors/logs` with what the program `log` must print, those in `examples`, and the answers to all
+//! other cases in `vectors/cases.txt`; and for the second machine its plans and cases in `vectors/bank` and `examples/bank`.
 //!
 //!     plans           writes them
 //!     plans --check   makes them again and compares them with the stored ones, byte by byte
 //!
-//! It ends with status 1 where a file differs, where there is a plan file that it does not make, or where the ordinary
+//! It ends with status 1 where a file differs, where there is a plan or log file that it does not make, or where the ordinary
 //! implementation does not answer what was worked out by hand.
 
 use std::collections::{BTreeMap, BTreeSet};
@@ -13,14 +13,15 @@ use std::path::{Path, PathBuf};
 use std::process::ExitCode;
 use std::{fs, io};
 
-use cases::{bank, examples, named, plan_files, Named, PlanFile};
+use cases::{bank, example_logs, examples, log_files, named, plan_files, LogFile, Named, PlanFile};
 
 const USAGE: &str = "usage: plans [--check]";
 
-/// What is made for a machine, and where it is stored.
+/// What is made for a machine, and where it is stored. The second has no logs.
 struct Stored {
     plans: (&'static str, Vec<PlanFile>),
-    examples: (&'static str, Vec<PlanFile>),
+    logs: Option<(&'static str, Vec<LogFile>)>,
+    examples: (&'static str, Vec<PlanFile>, Vec<LogFile>),
     cases: (&'static str, Vec<Named>),
 }
 
@@ -28,12 +29,14 @@ fn stored() -> [Stored; 2] {
     [
         Stored {
             plans: ("vectors/plans", plan_files()),
-            examples: ("examples", examples()),
+            logs: Some(("vectors/logs", log_files())),
+            examples: ("examples", examples(), example_logs()),
             cases: ("vectors/cases.txt", named()),
         },
         Stored {
             plans: ("vectors/bank/plans", bank::plan_files()),
-            examples: ("examples/bank", bank::examples()),
+            logs: None,
+            examples: ("examples/bank", bank::examples(), Vec::new()),
             cases: ("vectors/bank/cases.txt", bank::named()),
         },
     ]
@@ -46,7 +49,7 @@ type Files = BTreeMap<String, Vec<u8>>;
 #[derive(Default)]
 struct Made {
     files: Files,
-    /// Those that hold plans.
+    /// Those that hold plans or logs.
     folders: BTreeSet<&'static str>,
     faults: Vec<String>,
     counts: Vec<String>,
@@ -55,20 +58,39 @@ struct Made {
 impl Made {
     fn add(&mut self, stored: &Stored) {
         let (plans_folder, plans) = &stored.plans;
-        let (examples_folder, examples) = &stored.examples;
+        let (examples_folder, examples, example_logs) = &stored.examples;
         let (cases_file, cases) = &stored.cases;
         self.add_plans(plans_folder, plans);
         self.add_plans(examples_folder, examples);
-        self.files.insert(format!("{plans_folder}/answers.txt"), answers(plans));
+        self.files.insert(
+            format!("{plans_folder}/answers.txt"),
+            answers(plans.iter().map(|plan| format!("{}.plan {}", plan.name, plan.answer))),
+        );
+        self.add_logs(examples_folder, example_logs);
+        let mut counts = format!("{} plan files, ", plans.len());
+        if let Some((logs_folder, logs)) = &stored.logs {
+            self.add_logs(logs_folder, logs);
+            self.files.insert(
+                format!("{logs_folder}/answers.txt"),
+                answers(logs.iter().map(|log| format!("{}.log {}", log.name, log.answer))),
+            );
+            counts += &format!("{} log files, ", logs.len());
+        }
         self.files.insert(cases_file.to_string(), lines(cases.iter().map(Named::line)));
         self.faults.extend(cases.iter().filter_map(Named::fault));
-        self.counts.push(format!("{} plan files, {} examples, {} cases", plans.len(), examples.len(), cases.len()));
+        self.counts.push(format!("{counts}{} examples, {} cases", examples.len() + example_logs.len(), cases.len()));
     }
 
     fn add_plans(&mut self, folder: &'static str, plans: &[PlanFile]) {
         self.folders.insert(folder);
         self.files.extend(plans.iter().map(|plan| (format!("{folder}/{}.plan", plan.name), plan.bytes.clone())));
         self.faults.extend(plans.iter().filter_map(PlanFile::fault));
+    }
+
+    fn add_logs(&mut self, folder: &'static str, logs: &[LogFile]) {
+        self.folders.insert(folder);
+        self.files.extend(logs.iter().map(|log| (format!("{folder}/{}.log", log.name), log.bytes.clone())));
+        self.faults.extend(logs.iter().filter_map(LogFile::fault));
     }
 }
 
@@ -78,9 +100,9 @@ fn make() -> Made {
     made
 }
 
-/// A line for each plan: its name, then the number, the place and the inner number.
-fn answers(plans: &[PlanFile]) -> Vec<u8> {
-    let mut answers: Vec<String> = plans.iter().map(|plan| format!("{}.plan {}", plan.name, plan.answer)).collect();
+/// A line for each file, by name, with the numbers of its answer.
+fn answers(answers: impl Iterator<Item = String>) -> Vec<u8> {
+    let mut answers: Vec<String> = answers.collect();
     answers.sort();
     lines(answers.into_iter())
 }
@@ -107,8 +129,8 @@ fn differences(made: &Files, folders: &BTreeSet<&str>) -> io::Result<Vec<String>
     for folder in folders {
         for entry in fs::read_dir(root.join(folder))? {
             let path = format!("{folder}/{}", entry?.file_name().to_string_lossy());
-            if path.ends_with(".plan") && !made.contains_key(&path) {
-                differences.push(format!("{path} is not one of the plans that are made"));
+            if is_bytes(&path) && !made.contains_key(&path) {
+                differences.push(format!("{path} is not one of the files that are made"));
             }
         }
     }
@@ -125,14 +147,19 @@ fn first_line(stored: &[u8], made: &[u8]) -> String {
     }
 }
 
-/// Where a stored plan parts from the one that is made.
+/// Whether a file is a plan or a log, and no text.
+fn is_bytes(path: &str) -> bool {
+    path.ends_with(".plan") || path.ends_with(".log")
+}
+
+/// Where a stored plan or log parts from the one that is made.
 fn first_byte(stored: &[u8], made: &[u8]) -> String {
     let shared = stored.iter().zip(made).take_while(|(one, other)| one == other).count();
     format!("it is the same up to byte {shared} ({} bytes are stored, {} made)", stored.len(), made.len())
 }
 
 fn difference(path: &str, stored: &[u8], made: &[u8]) -> String {
-    let parts = if path.ends_with(".plan") { first_byte(stored, made) } else { first_line(stored, made) };
+    let parts = if is_bytes(path) { first_byte(stored, made) } else { first_line(stored, made) };
     format!("{path} is not what is made: {parts}")
 }
 

@@ -114,7 +114,7 @@ pub fn add(files: &mut PlanFiles, rng: &mut Rng) {
     two_faults(files);
     all_later_faults(files);
     other_byte_order(files);
-    flipped_bits(files, rng);
+    flipped_bits(files, rng, &rich().bytes(), &rich().fields());
 }
 
 // ---- the plans that the files are made from
@@ -616,12 +616,11 @@ pub fn flipped(bytes: &[u8], bit: usize) -> Vec<u8> {
     damaged
 }
 
-/// One bit of each field of the rich plan.
-fn flipped_bits(files: &mut PlanFiles, rng: &mut Rng) {
-    let bytes = rich().bytes();
-    for Field { name, start, end, .. } in rich().fields() {
+/// One bit of each field of a plan.
+pub fn flipped_bits(files: &mut PlanFiles, rng: &mut Rng, plan: &[u8], fields: &[Field]) {
+    for Field { name, start, end, .. } in fields {
         let bit = 8 * start + rng.below(8 * (end - start));
-        files.add(format!("bit-flipped-in-{name}"), flipped(&bytes, bit));
+        files.add(format!("bit-flipped-in-{name}"), flipped(plan, bit));
     }
 }
 

@@ -11,7 +11,7 @@ use ordinary::{Record, Region, Table};
 use crate::boundary;
 use crate::damage::damage_bytes;
 use crate::random::{self, World, EDGES};
-use crate::simulation::Base;
+use crate::simulation::Rules;
 
 // ---- cases on both sides of every boundary
 
@@ -171,31 +171,19 @@ pub fn random_case(rng: &mut Rng, world: &mut World) -> Case {
 
 // ---- what a simulation asks
 
-impl Base for State {
+impl Rules for Config {
     /// The regions belong to a few zones, so that these fill up.
-    fn first(rng: &mut Rng, edition: u32) -> State {
+    fn any(rng: &mut Rng) -> Config {
         let plain = random::config(rng);
         let zones = 1 + rng.below(12);
         let mut owners: Vec<u32> = plain.regions.iter().map(|_| rng.below(zones) as u32 * 23).collect();
         owners[plain.gic] = GIC_OWNER;
-        State { config: Config { plain, owners }, table: Table::default(), edition }
-    }
-
-    fn table(&self) -> &Table {
-        &self.table
-    }
-
-    fn edition(&self) -> u32 {
-        self.edition
-    }
-
-    fn with(&self, table: Table, edition: u32) -> State {
-        State { config: self.config.clone(), table, edition }
+        Config { plain, owners }
     }
 
     /// Most often for a zone that owns something and, of an insert, that region.
-    fn request(&self, rng: &mut Rng, table: &Table) -> Record {
-        let Config { plain, owners } = &self.config;
+    fn likely_request(&self, rng: &mut Rng, table: &Table) -> Record {
+        let Config { plain, owners } = self;
         let record = random::request(rng, plain, table);
         let owner = match record.kind {
             1 => Some(*rng.pick(owners)),
@@ -208,12 +196,12 @@ impl Base for State {
         }
     }
 
-    fn perform(&self, table: &mut Table, request: &Record) -> bool {
-        self.config.perform(table, request).is_ok()
+    fn accepts(&self, table: &mut Table, request: &Record) -> bool {
+        self.perform(table, request).is_ok()
     }
 
-    fn plan(&self, requests: &[Record]) -> Vec<u8> {
-        encode(self, requests)
+    fn plan(base: &State, requests: &[Record]) -> Vec<u8> {
+        encode(base, requests)
     }
 
     fn read(plan: &[u8]) -> Option<(State, Vec<Record>, usize)> {
@@ -221,8 +209,8 @@ impl Base for State {
         Some((State { config, table, edition }, requests.iter().collect(), requests_at))
     }
 
-    fn receive(&self, plan: Vec<u8>) -> Case {
-        apply(self, plan)
+    fn receive(state: &State, plan: Vec<u8>) -> Case {
+        apply(state, plan)
     }
 }
 

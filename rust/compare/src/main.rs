@@ -97,8 +97,8 @@ impl Round {
             compare_all((0..self.cases).map(|_| next()), tally)?;
         }
         let simulate = match self.machine {
-            Machine::First => simulation::run::<ordinary::State>,
-            Machine::Bank => simulation::run::<ordinary::bank::State>,
+            Machine::First => simulation::run::<ordinary::Config>,
+            Machine::Bank => simulation::run::<ordinary::bank::Config>,
         };
         simulate(&mut rng, self.edition, self.length, tally)
     }

@@ -5,60 +5,44 @@
 use cases::rng::Rng;
 use cases::{Answer, Case};
 use ordinary::layout::REQUEST_BYTES;
-use ordinary::{encode, Plan, Record, State, Table};
+use ordinary::{encode, Config, Plan, Record, State, Table};
 
 use crate::agree::{agreed, Trouble};
 use crate::damage::damage_bytes;
 use crate::event::Event;
-use crate::random::{config, request};
+use crate::random;
 use crate::tally::Tally;
 
-/// A terminal's state on one of the machines, and what that machine's rules say of it.
-pub trait Base: Clone + PartialEq {
-    /// One without zones, under any sound configuration.
-    fn first(rng: &mut Rng, edition: u32) -> Self;
-    fn table(&self) -> &Table;
-    fn edition(&self) -> u32;
-    /// The same configuration with another table and edition.
-    fn with(&self, table: Table, edition: u32) -> Self;
+/// A configuration of one of the machines, and what that machine's rules say of a terminal's state with it.
+pub trait Rules: Clone + PartialEq {
+    /// Any sound one.
+    fn any(rng: &mut Rng) -> Self;
     /// A request that is likely to be accepted at this table.
-    fn request(&self, rng: &mut Rng, table: &Table) -> Record;
+    fn likely_request(&self, rng: &mut Rng, table: &Table) -> Record;
     /// Whether the request is accepted, which changes the table.
-    fn perform(&self, table: &mut Table, request: &Record) -> bool;
-    fn plan(&self, requests: &[Record]) -> Vec<u8>;
+    fn accepts(&self, table: &mut Table, request: &Record) -> bool;
+    fn plan(base: &State<Self>, requests: &[Record]) -> Vec<u8>;
     /// What a plan is for, what it asks, and where its requests stand.
-    fn read(plan: &[u8]) -> Option<(Self, Vec<Record>, usize)>;
+    fn read(plan: &[u8]) -> Option<(State<Self>, Vec<Record>, usize)>;
     /// What a terminal in this state is asked when these bytes come.
-    fn receive(&self, plan: Vec<u8>) -> Case;
+    fn receive(state: &State<Self>, plan: Vec<u8>) -> Case;
 }
 
-impl Base for State {
-    fn first(rng: &mut Rng, edition: u32) -> State {
-        State { config: config(rng), table: Table::default(), edition }
+impl Rules for Config {
+    fn any(rng: &mut Rng) -> Config {
+        random::config(rng)
     }
 
-    fn table(&self) -> &Table {
-        &self.table
+    fn likely_request(&self, rng: &mut Rng, table: &Table) -> Record {
+        random::request(rng, self, table)
     }
 
-    fn edition(&self) -> u32 {
-        self.edition
+    fn accepts(&self, table: &mut Table, request: &Record) -> bool {
+        table.perform(self, request).is_ok()
     }
 
-    fn with(&self, table: Table, edition: u32) -> State {
-        State { config: self.config.clone(), table, edition }
-    }
-
-    fn request(&self, rng: &mut Rng, table: &Table) -> Record {
-        request(rng, &self.config, table)
-    }
-
-    fn perform(&self, table: &mut Table, request: &Record) -> bool {
-        table.perform(&self.config, request).is_ok()
-    }
-
-    fn plan(&self, requests: &[Record]) -> Vec<u8> {
-        encode(self, requests)
+    fn plan(base: &State, requests: &[Record]) -> Vec<u8> {
+        encode(base, requests)
     }
 
     fn read(plan: &[u8]) -> Option<(State, Vec<Record>, usize)> {
@@ -66,8 +50,8 @@ impl Base for State {
         Some((State { config, table, edition }, requests.iter().collect(), requests_at))
     }
 
-    fn receive(&self, plan: Vec<u8>) -> Case {
-        Case::apply(self.config.to_words(), self.table.to_words(), self.edition, plan)
+    fn receive(state: &State, plan: Vec<u8>) -> Case {
+        Case::apply(state.config.to_words(), state.table.to_words(), state.edition, plan)
     }
 }
 
@@ -82,17 +66,19 @@ pub struct Length {
 }
 
 /// The planner's states, one edition after the other, and the plan from each to the next.
-struct Planner<B> {
-    states: Vec<B>,
+struct Planner<C> {
+    states: Vec<State<C>>,
     plans: Vec<Vec<u8>>,
 }
 
-impl<B: Base> Planner<B> {
-    fn new(rng: &mut Rng, edition: u32) -> Planner<B> {
-        Planner { states: vec![B::first(rng, edition)], plans: Vec::new() }
+impl<C: Rules> Planner<C> {
+    /// It begins with a terminal without zones.
+    fn new(rng: &mut Rng, edition: u32) -> Planner<C> {
+        let first = State { config: C::any(rng), table: Table::default(), edition };
+        Planner { states: vec![first], plans: Vec::new() }
     }
 
-    fn last(&self) -> &B {
+    fn last(&self) -> &State<C> {
         self.states.last().expect("the planner has a first state")
     }
 
@@ -104,21 +90,21 @@ impl<B: Base> Planner<B> {
     /// Plans some requests that are accepted or, now and then, the way back to the table before.
     fn plan_next(&mut self, rng: &mut Rng) {
         let base = self.last().clone();
-        let mut table = base.table().clone();
+        let mut table = base.table.clone();
         let requests = match self.way_back() {
             Some(requests) if rng.one_in(3) => requests,
-            _ => (0..rng.below(8)).map(|_| base.request(rng, &table)).collect(),
+            _ => (0..rng.below(8)).map(|_| base.config.likely_request(rng, &table)).collect(),
         };
-        let accepted: Vec<Record> = requests.into_iter().filter(|request| base.perform(&mut table, request)).collect();
-        self.plans.push(base.plan(&accepted));
-        if let Some(edition) = base.edition().checked_add(1) {
-            self.states.push(base.with(table, edition));
+        let accepted: Vec<Record> = requests.into_iter().filter(|request| base.config.accepts(&mut table, request)).collect();
+        self.plans.push(C::plan(&base, &accepted));
+        if let Some(edition) = base.edition.checked_add(1) {
+            self.states.push(State { table, edition, ..base });
         }
     }
 
     /// The last plan's requests undone, the last one first.
     fn way_back(&self) -> Option<Vec<Record>> {
-        let (_, mut requests, _) = B::read(self.plans.last()?).expect("the planner's plans are plans");
+        let (_, mut requests, _) = C::read(self.plans.last()?).expect("the planner's plans are plans");
         requests.reverse();
         for request in &mut requests {
             // 1 and 2, 3 and 4, 5 and 6 undo each other.
@@ -127,13 +113,13 @@ impl<B: Base> Planner<B> {
         Some(requests)
     }
 
-    fn state_of(&self, edition: u32) -> Option<&B> {
-        self.states.iter().find(|state| state.edition() == edition)
+    fn state_of(&self, edition: u32) -> Option<&State<C>> {
+        self.states.iter().find(|state| state.edition == edition)
     }
 
     /// Which plan is for this edition, if it is made.
     fn plan_at(&self, edition: u32) -> Option<usize> {
-        self.states.iter().position(|state| state.edition() == edition).filter(|&at| at < self.plans.len())
+        self.states.iter().position(|state| state.edition == edition).filter(|&at| at < self.plans.len())
     }
 }
 
@@ -144,8 +130,8 @@ struct Terminal {
 }
 
 impl Terminal {
-    fn new(state: &impl Base) -> Terminal {
-        let state = state.receive(Vec::new());
+    fn new<C: Rules>(state: &State<C>) -> Terminal {
+        let state = C::receive(state, Vec::new());
         Terminal { held: vec![state.clone()], state }
     }
 
@@ -176,16 +162,16 @@ impl Terminal {
     }
 }
 
-struct Simulation<'a, B> {
-    planner: Planner<B>,
+struct Simulation<'a, C> {
+    planner: Planner<C>,
     terminal: Terminal,
     rng: &'a mut Rng,
     tally: &'a mut Tally,
 }
 
 /// Simulates one terminal of a machine from its first edition on.
-pub fn run<B: Base>(rng: &mut Rng, edition: u32, length: Length, tally: &mut Tally) -> Result<(), Trouble> {
-    let planner = Planner::<B>::new(rng, edition);
+pub fn run<C: Rules>(rng: &mut Rng, edition: u32, length: Length, tally: &mut Tally) -> Result<(), Trouble> {
+    let planner = Planner::<C>::new(rng, edition);
     let terminal = Terminal::new(planner.last());
     let mut simulation = Simulation { planner, terminal, rng, tally };
     // So that all plans are made in about the first third of the turns.
@@ -202,7 +188,7 @@ pub fn run<B: Base>(rng: &mut Rng, edition: u32, length: Length, tally: &mut Tal
     simulation.bring_level()
 }
 
-impl<B: Base> Simulation<'_, B> {
+impl<C: Rules> Simulation<'_, C> {
     fn make_plan(&mut self) {
         self.planner.plan_next(self.rng);
         self.note(Event::Planned);
@@ -234,7 +220,7 @@ impl<B: Base> Simulation<'_, B> {
     /// A plan as the planner made it.
     fn deliver_plan(&mut self, plan: usize) -> Result<(), Trouble> {
         let edition = self.terminal.edition();
-        let event = match self.planner.states[plan].edition() {
+        let event = match self.planner.states[plan].edition {
             base if base < edition => Event::Repeated,
             base if base > edition => Event::Early,
             _ if edition == u32::MAX => Event::NoNextEdition,
@@ -252,7 +238,7 @@ impl<B: Base> Simulation<'_, B> {
             None if plans.is_empty() => &[],
             None => &self.rng.pick(plans)[..],
         };
-        let (event, bytes) = noise::<B>(self.rng, plan);
+        let (event, bytes) = noise::<C>(self.rng, plan);
         // One bit of the edition can make another edition's plan one for the terminal's base.
         if matches!(event, Event::Damaged | Event::Flipped) && self.is_forged(&bytes) {
             self.note(Event::Forged);
@@ -264,7 +250,7 @@ impl<B: Base> Simulation<'_, B> {
     /// Whether these bytes are a plan for the terminal's base that the planner did not make. Only a signature tells it apart, so
     /// such bytes do not reach the terminal.
     fn is_forged(&self, bytes: &[u8]) -> bool {
-        let (Some((base, ..)), Some(state)) = (B::read(bytes), self.planner.state_of(self.terminal.edition())) else {
+        let (Some((base, ..)), Some(state)) = (C::read(bytes), self.planner.state_of(self.terminal.edition())) else {
             return false;
         };
         base == *state && !self.is_next(bytes)
@@ -301,7 +287,7 @@ impl<B: Base> Simulation<'_, B> {
     }
 
     fn has_planners_state(&self, answer: &Answer) -> bool {
-        let planned = self.planner.state_of(answer.edition).map(|state| state.receive(Vec::new()));
+        let planned = self.planner.state_of(answer.edition).map(|state| C::receive(state, Vec::new()));
         planned.is_some_and(|state| state.config == answer.config && state.table == answer.table)
     }
 
@@ -310,7 +296,7 @@ impl<B: Base> Simulation<'_, B> {
         while let Some(next) = self.planner.plan_at(self.terminal.edition()).filter(|_| self.terminal.edition() < u32::MAX) {
             self.deliver_plan(next)?;
         }
-        if self.terminal.edition() != self.planner.last().edition() {
+        if self.terminal.edition() != self.planner.last().edition {
             return Err(Trouble::new("the plans that were missed do not bring the terminal level", self.terminal.state.clone()));
         }
         Ok(())
@@ -323,8 +309,8 @@ fn is_unchanged(before: &Case, after: &Answer) -> bool {
 
 /// What can happen to the bytes of a plan. None of what comes out is the planner's plan any more, but for the mixed damage, which
 /// may leave it as it was.
-fn noise<B: Base>(rng: &mut Rng, plan: &[u8]) -> (Event, Vec<u8>) {
-    let Some((_, requests, requests_at)) = B::read(plan) else {
+fn noise<C: Rules>(rng: &mut Rng, plan: &[u8]) -> (Event, Vec<u8>) {
+    let Some((_, requests, requests_at)) = C::read(plan) else {
         return (Event::RandomBytes, random_bytes(rng));
     };
     let mut bytes = plan.to_vec();

@@ -260,15 +260,7 @@ pub fn encode(base: &State, requests: &[Record]) -> Vec<u8> {
 // ---- terminals
 
 /// What a terminal keeps.
-#[derive(Clone, Debug, PartialEq, Eq)]
-pub struct State {
-    /// Its configuration, with owners.
-    pub config: Config,
-    /// Its zones.
-    pub table: Table,
-    /// How many plans it has accepted.
-    pub edition: u32,
-}
+pub type State = terminal::State<Config>;
 
 /// What the program `bank_apply` answers: the plan is applied to the configuration, owners, edition and zones that it holds.
 pub fn apply_alone(bytes: &[u8]) -> Result<usize, PlanRefusal> {
@@ -281,16 +273,7 @@ impl State {
     pub fn apply(&mut self, bytes: &[u8]) -> Result<usize, PlanRefusal> {
         self.config.check_table(&self.table).map_err(PlanRefusal::Own)?;
         let plan = Plan::read(bytes)?;
-        if plan.config != self.config {
-            return Err(PlanRefusal::OtherConfig);
-        }
-        if plan.edition != self.edition {
-            return Err(PlanRefusal::OtherEdition);
-        }
-        let next = self.edition.checked_add(1).ok_or(PlanRefusal::LastEdition)?;
-        if plan.table != self.table {
-            return Err(PlanRefusal::OtherZones);
-        }
+        let next = self.next_edition(&plan.config, plan.edition, &plan.table)?;
         let mut table = plan.table;
         for (index, request) in plan.requests.iter().enumerate() {
             self.config.perform(&mut table, &request).map_err(|refusal| PlanRefusal::Request { index, refusal })?;

@@ -5,9 +5,9 @@ use crate::table::Table;
 
 /// What a terminal keeps.
 #[derive(Clone, Debug, PartialEq, Eq)]
-pub struct State {
-    /// Its configuration.
-    pub config: Config,
+pub struct State<C = Config> {
+    /// Its configuration, on the second machine one with owners.
+    pub config: C,
     /// Its zones.
     pub table: Table,
     /// How many plans it has accepted.
@@ -79,7 +79,7 @@ impl State {
     pub fn apply(&mut self, bytes: &[u8]) -> Result<usize, PlanRefusal> {
         self.table.check(&self.config).map_err(PlanRefusal::Own)?;
         let plan = Plan::read(bytes)?;
-        let next = self.next_edition(&plan)?;
+        let next = self.next_edition(&plan.config, plan.edition, &plan.table)?;
         let mut table = plan.table;
         for (index, request) in plan.requests.iter().enumerate() {
             table.perform(&self.config, &request).map_err(|refusal| PlanRefusal::Request { index, refusal })?;
@@ -88,17 +88,19 @@ impl State {
         self.edition = next;
         Ok(plan.requests.len())
     }
+}
 
-    /// The edition that the plan leads to, if it is a plan for this state: 23 to 26.
-    fn next_edition(&self, plan: &Plan) -> Result<u32, PlanRefusal> {
-        if plan.config != self.config {
+impl<C: PartialEq> State<C> {
+    /// The edition that a plan for this configuration, edition and table leads to, if they are the state's own: 23 to 26.
+    pub(crate) fn next_edition(&self, config: &C, edition: u32, table: &Table) -> Result<u32, PlanRefusal> {
+        if *config != self.config {
             return Err(PlanRefusal::OtherConfig);
         }
-        if plan.edition != self.edition {
+        if edition != self.edition {
             return Err(PlanRefusal::OtherEdition);
         }
         let next = self.edition.checked_add(1).ok_or(PlanRefusal::LastEdition)?;
-        if plan.table != self.table {
+        if *table != self.table {
             return Err(PlanRefusal::OtherZones);
         }
         Ok(next)

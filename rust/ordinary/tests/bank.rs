@@ -1,13 +1,12 @@
 //! Terminals with owners, by hand: the document's regions, of which A and C belong to zone 5 and B to zone 6.
 
+mod desk_regions;
+
 use ordinary::bank::{apply_alone, encode, owners_at, Config, ConfigFault, Plan, State, GIC_OWNER, LONGEST_BANK_PLAN};
 use ordinary::limits::{MAX_IN_SET, MAX_REGIONS, MAX_REQUESTS, MAX_ZONES, PAGE};
 use ordinary::{Guest, PlanRefusal, ReadFault, Record, Refusal, Region, Side, Table, Zone};
 
-const A: Region = Region::new(0x4000_0000, 0x8000_0000, 0x20_0000, 3);
-const B: Region = Region::new(0x4000_0000, 0x8020_0000, 0x20_0000, 3);
-const C: Region = Region::new(0x4010_0000, 0x9000_0000, 0x20_0000, 3);
-const G: Region = Region::new(0x0800_0000, 0x0800_0000, 0x1_0000, 3);
+use desk_regions::{A, B, C, G};
 
 fn owned_by(owners: &[u32]) -> Config {
     Config { plain: ordinary::Config { regions: vec![A, B, C, G], gic: 3 }, owners: owners.to_vec() }

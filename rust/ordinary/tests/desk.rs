@@ -1,5 +1,8 @@
 //! The desk examples of document 01 and its whole plan.
 
+mod desk_regions;
+mod request_kinds;
+
 use ordinary::layout::LONGEST_LISTING;
 use ordinary::limits::{GUEST_REACH, MAX_IN_SET, MAX_REGIONS, MAX_REQUESTS, MAX_ZONES, PAGE, PHYS_REACH};
 use ordinary::{
@@ -7,17 +10,8 @@ use ordinary::{
     Zone,
 };
 
-const A: Region = Region::new(0x4000_0000, 0x8000_0000, 0x20_0000, 3);
-const B: Region = Region::new(0x4000_0000, 0x8020_0000, 0x20_0000, 3);
-const C: Region = Region::new(0x4010_0000, 0x9000_0000, 0x20_0000, 3);
-const G: Region = Region::new(0x0800_0000, 0x0800_0000, 0x1_0000, 3);
-
-const ADD: u32 = 1;
-const REMOVE_ZONE: u32 = 2;
-const CPU_INSERT: u32 = 3;
-const CPU_REMOVE: u32 = 4;
-const IOMMU_INSERT: u32 = 5;
-const IOMMU_REMOVE: u32 = 6;
+use desk_regions::{A, B, C, G};
+use request_kinds::{ADD, CPU_INSERT, CPU_REMOVE, IOMMU_INSERT, IOMMU_REMOVE, REMOVE_ZONE};
 
 /// The desk's configuration, and zones 5 and 6, empty.
 struct Desk {

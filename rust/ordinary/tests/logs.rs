@@ -1,5 +1,7 @@
 //! Field logs by hand: how they read, what their claims are held against, and the order of the numbers.
 
+mod desk_regions;
+
 use ordinary::layout::{LONGEST_LOG, LONGEST_PLAN};
 use ordinary::limits::MAX_REQUESTS;
 use ordinary::{
@@ -7,9 +9,7 @@ use ordinary::{
     State, Table, Zone,
 };
 
-const A: Region = Region::new(0x4000_0000, 0x8000_0000, 0x20_0000, 3);
-const B: Region = Region::new(0x4000_0000, 0x8020_0000, 0x20_0000, 3);
-const G: Region = Region::new(0x0800_0000, 0x0800_0000, 0x1_0000, 3);
+use desk_regions::{A, B, G};
 
 const fn asked(kind: u32, zone: u32, region: Region) -> Record {
     Record { kind, zone, region }

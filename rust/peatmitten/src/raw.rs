@@ -128,11 +128,16 @@ static LAYOUT_NEEDED: unsafe extern "C" fn(u32) -> u64 = library::peatmitten_lay
 /// What stands in an answer's place before the library writes it: no answer, so that one which it left out would show.
 const UNWRITTEN: u64 = u64::MAX;
 
+/// What a call of the library answers, and what it writes.
+fn with_written<A, const N: usize>(call: impl FnOnce(&mut [u64; N]) -> A) -> (A, [u64; N]) {
+    let mut written = [UNWRITTEN; N];
+    let answer = call(&mut written);
+    (answer, written)
+}
+
 /// The number of a configuration's first fault, or 0, and its two places.
 pub fn check_config(config: &Config) -> (u32, [u64; 2]) {
-    let mut places = [UNWRITTEN; 2];
-    let number = unsafe { library::peatmitten_check_config(config, &mut places) };
-    (number, places)
+    with_written(|places| unsafe { library::peatmitten_check_config(config, places) })
 }
 
 /// 1 for a sound table under a sound configuration, else 0.
@@ -148,30 +153,24 @@ pub fn request(config: &Config, table: &mut Table, kind: u32, zone: u32, [v, p, 
 /// The number of a translation's refusal, or 0, and the physical address with how many bytes of the covering region there are from it
 /// on. Side 0 is the CPU, any other the IOMMU.
 pub fn translate_words(config: &Config, table: &Table, zone: u32, side: u32, address: u64) -> (u32, [u64; 2]) {
-    let mut stretch = [UNWRITTEN; 2];
-    let number = unsafe { library::peatmitten_translate_words(config, table, zone, side, address, &mut stretch) };
-    (number, stretch)
+    with_written(|stretch| unsafe { library::peatmitten_translate_words(config, table, zone, side, address, stretch) })
 }
 
 /// The number of the first fault of a plan's marks, or 0, and its offset, or the base edition.
 pub fn edition(plan: &[u8]) -> (u32, u64) {
-    let mut answer = [UNWRITTEN];
-    let number = unsafe { library::peatmitten_edition(plan.as_ptr(), plan.len(), &mut answer) };
-    (number, answer[0])
+    let (number, [answer]) = with_written(|answer| unsafe { library::peatmitten_edition(plan.as_ptr(), plan.len(), answer) });
+    (number, answer)
 }
 
 /// The number of a plan's first fault, or 0, and its offset, or that of the first request record.
 pub fn read(plan: &[u8]) -> (u32, u64) {
-    let mut place = [UNWRITTEN];
-    let number = unsafe { library::peatmitten_read(plan.as_ptr(), plan.len(), &mut place) };
-    (number, place[0])
+    let (number, [place]) = with_written(|place| unsafe { library::peatmitten_read(plan.as_ptr(), plan.len(), place) });
+    (number, place)
 }
 
 /// The number of a plan's refusal, or 0, its place and its inner number. Table and edition change only where the number is 0.
 pub fn apply_words(config: &Config, table: &mut Table, edition: &mut u32, plan: &[u8]) -> (u32, [u64; 2]) {
-    let mut places = [UNWRITTEN; 2];
-    let number = unsafe { library::peatmitten_apply_words(config, table, edition, plan.as_ptr(), plan.len(), &mut places) };
-    (number, places)
+    with_written(|places| unsafe { library::peatmitten_apply_words(config, table, edition, plan.as_ptr(), plan.len(), places) })
 }
 
 /// The same of a whole state.
@@ -187,10 +186,9 @@ pub fn take_piece(receiver: &mut [u64; 2], buffer: &mut [u8], piece: &[u8]) -> u
 /// The number of the refusal of what came in pieces, or 0, its place and its inner number. Table and edition change only where the number
 /// is 0; the receiver is emptied unless it is 28.
 pub fn end_words(config: &Config, table: &mut Table, edition: &mut u32, receiver: &mut [u64; 2], buffer: &[u8]) -> (u32, [u64; 2]) {
-    let mut places = [UNWRITTEN; 2];
-    let number =
-        unsafe { library::peatmitten_end_words(config, table, edition, receiver, buffer.as_ptr(), buffer.len(), &mut places) };
-    (number, places)
+    with_written(|places| unsafe {
+        library::peatmitten_end_words(config, table, edition, receiver, buffer.as_ptr(), buffer.len(), places)
+    })
 }
 
 /// The same of a whole state.
@@ -202,8 +200,7 @@ pub fn end(state: &mut State, receiver: &mut [u64; 2], buffer: &[u8]) -> (u32, [
 /// them; bytes after the last whole one are not looked at. The buffer changes only where the number is 0, and the table is afterwards what
 /// it was.
 pub fn write_words(config: &Config, table: &mut Table, edition: u32, requests: &[u8], buffer: &mut [u8]) -> (u32, [u64; 2]) {
-    let mut places = [UNWRITTEN; 2];
-    let number = unsafe {
+    with_written(|places| unsafe {
         library::peatmitten_write_words(
             config,
             table,
@@ -212,58 +209,52 @@ pub fn write_words(config: &Config, table: &mut Table, edition: u32, requests: &
             requests.len(),
             buffer.as_mut_ptr(),
             buffer.len(),
-            &mut places,
+            places,
         )
-    };
-    (number, places)
+    })
 }
 
 /// The number for which a terminal's zones are not written, or 0, and how many bytes their section has, else 0. The buffer changes only where
 /// the number is 0.
 pub fn zones_words(config: &Config, table: &Table, buffer: &mut [u8]) -> (u32, u64) {
-    let mut place = [UNWRITTEN];
-    let number = unsafe { library::peatmitten_zones_words(config, table, buffer.as_mut_ptr(), buffer.len(), &mut place) };
-    (number, place[0])
+    let (number, [place]) =
+        with_written(|place| unsafe { library::peatmitten_zones_words(config, table, buffer.as_mut_ptr(), buffer.len(), place) });
+    (number, place)
 }
 
 /// The number of a plan's first fault, or 0; where its own zones section begins, at its count, or the offset of the fault; and how many bytes
 /// the section has, 0 where there is a fault.
 pub fn base_zones(plan: &[u8]) -> (u32, [u64; 2]) {
-    let mut stretch = [UNWRITTEN; 2];
-    let number = unsafe { library::peatmitten_base_zones(plan.as_ptr(), plan.len(), &mut stretch) };
-    (number, stretch)
+    with_written(|stretch| unsafe { library::peatmitten_base_zones(plan.as_ptr(), plan.len(), stretch) })
 }
 
 /// The first place where the second stretch lacks the same byte, or the first one's length, and the byte that each has there: 256 where it has
 /// ended.
 pub fn lacking(first: &[u8], second: &[u8]) -> (u64, [u64; 2]) {
-    let mut bytes = [UNWRITTEN; 2];
-    let place = unsafe { library::peatmitten_lacking(first.as_ptr(), first.len(), second.as_ptr(), second.len(), &mut bytes) };
-    (place, bytes)
+    with_written(|bytes| unsafe { library::peatmitten_lacking(first.as_ptr(), first.len(), second.as_ptr(), second.len(), bytes) })
 }
 
 /// The number for which no requests are listed that lead from one table to the other, or 0, and how many there are. They are records as a plan
 /// holds them. The buffer changes only where the number is 0.
 pub fn list_words(config: &Config, from: &Table, to: &Table, buffer: &mut [u8]) -> (u32, u64) {
-    let mut count = [UNWRITTEN];
-    let number = unsafe { library::peatmitten_wanted_words(config, from, to, buffer.as_mut_ptr(), buffer.len(), &mut count) };
-    (number, count[0])
+    let (number, [count]) = with_written(|count| unsafe {
+        library::peatmitten_wanted_words(config, from, to, buffer.as_mut_ptr(), buffer.len(), count)
+    });
+    (number, count)
 }
 
 /// The number for which no listing is written, or 0, and how many bytes it has, or 0. The buffer changes only where the number is 0.
 pub fn list(config: &Config, table: &Table, buffer: &mut [u8]) -> (u32, u64) {
-    let mut length = [UNWRITTEN];
-    let number = unsafe { library::peatmitten_list(config, table, buffer.as_mut_ptr(), buffer.len(), &mut length) };
-    (number, length[0])
+    let (number, [length]) =
+        with_written(|length| unsafe { library::peatmitten_list(config, table, buffer.as_mut_ptr(), buffer.len(), length) });
+    (number, length)
 }
 
 /// What the check of a log finds, or 0; its place, what the rules say and what was claimed. The buffer changes only where the number is 0. Of a
 /// log that reads whole, `config` and `table` are afterwards its configuration and the table at which the check ended; on 20 to 22 they are
 /// what they were.
 pub fn check_log(config: &mut Config, table: &mut Table, log: &[u8], buffer: &mut [u8]) -> (u32, [u64; 3]) {
-    let mut places = [UNWRITTEN; 3];
-    let number = unsafe {
-        library::peatmitten_check_log(config, table, log.as_ptr(), log.len(), buffer.as_mut_ptr(), buffer.len(), &mut places)
-    };
-    (number, places)
+    with_written(|places| unsafe {
+        library::peatmitten_check_log(config, table, log.as_ptr(), log.len(), buffer.as_mut_ptr(), buffer.len(), places)
+    })
 }

@@ -7,7 +7,7 @@ use ordinary::{Record, Region, Zone};
 
 use super::plan::Plan;
 use crate::fields::Field;
-use crate::files::{self, flipped, with_number, PlanFiles, H, LAST_EDITION, X};
+use crate::files::{self, flipped_bits, with_number, PlanFiles, H, LAST_EDITION, X};
 use crate::given::{of_region, of_zone, with_rights, with_size, with_v, zone};
 use crate::given::{A, ADD_ZONE, B, C, CPU_INSERT, CPU_REMOVE, G, IOMMU_INSERT, IOMMU_REMOVE, REMOVE_ZONE};
 use crate::rng::Rng;
@@ -30,7 +30,7 @@ pub fn add(files: &mut PlanFiles, rng: &mut Rng) {
     in_the_place_of_12_and_14(files);
     requests_in_turn(files);
     two_faults(files);
-    flipped_bits(files, rng);
+    flipped_bits(files, rng, &rich().bytes(), &rich().fields());
 }
 
 /// Plans to have at hand: examples/README.md says what each holds.
@@ -312,15 +312,6 @@ fn two_faults(files: &mut PlanFiles) {
         ("last-edition-before-refused-request", rich().with_edition(LAST_EDITION).with_requests(&stranger), 25),
     ] {
         files.add(name, plan.bytes()).is(number, 0);
-    }
-}
-
-/// One bit of each field of the rich plan.
-fn flipped_bits(files: &mut PlanFiles, rng: &mut Rng) {
-    let bytes = rich().bytes();
-    for Field { name, start, end, .. } in rich().fields() {
-        let bit = 8 * start + rng.below(8 * (end - start));
-        files.add(format!("bit-flipped-in-{name}"), flipped(&bytes, bit));
     }
 }
 

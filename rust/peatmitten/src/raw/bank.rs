@@ -1,6 +1,6 @@
 //! The functions of the second library, for terminals with owners: see `include/peatmitten_bank.h`. The types of [`crate::bank`] stand on these.
 
-use super::UNWRITTEN;
+use super::with_written;
 use crate::bank::Owners;
 use crate::config::Config;
 use crate::region::Region;
@@ -56,9 +56,7 @@ static LAYOUT_NEEDED: unsafe extern "C" fn(u32) -> u64 = library::peatmitten_ban
 
 /// The number of a configuration's first fault, or 0, and its two places.
 pub fn check_config(config: &Config, owners: &Owners) -> (u32, [u64; 2]) {
-    let mut places = [UNWRITTEN; 2];
-    let number = unsafe { library::peatmitten_bank_check_config(config, owners, &mut places) };
-    (number, places)
+    with_written(|places| unsafe { library::peatmitten_bank_check_config(config, owners, places) })
 }
 
 /// 1 for a sound table under a sound configuration, in which every zone holds what it may; else 0.
@@ -74,22 +72,18 @@ pub fn request(config: &Config, owners: &Owners, table: &mut Table, kind: u32, z
 /// The number of a translation's refusal, or 0, and the physical address with how many bytes of the covering region there are from it
 /// on. Side 0 is the CPU, any other the IOMMU.
 pub fn translate_words(config: &Config, owners: &Owners, table: &Table, zone: u32, side: u32, address: u64) -> (u32, [u64; 2]) {
-    let mut stretch = [UNWRITTEN; 2];
-    let number = unsafe { library::peatmitten_bank_translate_words(config, owners, table, zone, side, address, &mut stretch) };
-    (number, stretch)
+    with_written(|stretch| unsafe { library::peatmitten_bank_translate_words(config, owners, table, zone, side, address, stretch) })
 }
 
 /// The number of the first fault of a plan with owners, or 0, and its offset, or that of the first request record.
 pub fn read(plan: &[u8]) -> (u32, u64) {
-    let mut place = [UNWRITTEN];
-    let number = unsafe { library::peatmitten_bank_read(plan.as_ptr(), plan.len(), &mut place) };
-    (number, place[0])
+    let (number, [place]) = with_written(|place| unsafe { library::peatmitten_bank_read(plan.as_ptr(), plan.len(), place) });
+    (number, place)
 }
 
 /// The number of a plan's refusal, or 0, its place and its inner number. Table and edition change only where the number is 0.
 pub fn apply_words(config: &Config, owners: &Owners, table: &mut Table, edition: &mut u32, plan: &[u8]) -> (u32, [u64; 2]) {
-    let mut places = [UNWRITTEN; 2];
-    let number =
-        unsafe { library::peatmitten_bank_apply_words(config, owners, table, edition, plan.as_ptr(), plan.len(), &mut places) };
-    (number, places)
+    with_written(|places| unsafe {
+        library::peatmitten_bank_apply_words(config, owners, table, edition, plan.as_ptr(), plan.len(), places)
+    })
 }

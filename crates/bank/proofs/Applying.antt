@@ -1,7 +1,7 @@
 -- Plans at the border: what was found and what was answered, in numbers.
 use Prim.Native.Nat.{ℕ, _+_, _^_, _<_}
 use mathlib.Core.List.{List, [], _∷_}
-use mathlib.Core.Path.{_≡_, sym, ap, _∙_}
+use mathlib.Core.Path.{_≡_, refl, sym, ap, _∙_}
 use lib.ListN.{length, getD}
 use Rattle.rules.specs.Limits.{limits}
 use Rattle.rules.specs.OwnedPlan.{readOwned, ownedSteps}
@@ -57,10 +57,12 @@ module _ (c o t : List ℕ) (e : ℕ) (b : List ℕ) (r : Outcome) (u : List ℕ
   next-room z = edition-next (ownedSteps limits) (storedOwned c o) t e b r u done (owned-refuses limits) z
 
 pub parts-are-a-state : PartsAreAState
-parts-are-a-state c o t e b n u d a h = (
-  record {
+parts-are-a-state c o t e b n u d a h = record {
+  applied = record {
     answer = (λ i. record { number = h .number i; place = getD (h .places i) 0 0; inner = getD (h .places i) 1 0 });
     table = h .table;
-  },
-  h .edition,
-)
+  };
+  edition = h .edition;
+  config = refl;
+  owners = refl;
+}

@@ -15,7 +15,7 @@ use Rattle.owners.specs.View.{storedOwned}
 use Rattle.plan.specs.Steps.{keptIn}
 use Rattle.plan.specs.declared.finding.Found.{Found}
 use Rattle.plan.specs.declared.finding.Found.the-variants.{At, Bad}
-use Rattle.owned.specs.Applying.{OwnedApplied}
+use Rattle.owned.specs.Deliveries.{OwnedCalled}
 use Rattle.owned.specs.Found.{foundOwned}
 
 -- ---- reading: the number, and where the first request begins or the offset of a refusal
@@ -45,10 +45,11 @@ pub record BankApplies (c o t : List ℕ) (e : ℕ) (b : List ℕ) (n : ℕ) (u 
   pub edition : d ≡ appliedTo c o t e b .state .edition
   pub places : a ≡ appliedTo c o t e b .outcome .place ∷ appliedTo c o t e b .outcome .inner ∷ []
 
--- so the four parts are a state to which the plan is applied: what is proved of any code that meets this (demands, Steps)
--- is true of such calls
+-- so the four parts are a state to which the plan is applied: what is proved of such calls (owned, Deliveries) and of code
+-- that meets them (demands, Bank) is true of the library's
 abbrev pub PartsAreAState : Type 0
 PartsAreAState =
     (c o t : List ℕ) (e : ℕ) (b : List ℕ) (n : ℕ) (u : List ℕ) (d : ℕ) (a : List ℕ) → BankApplies c o t e b n u d a
-    → OwnedApplied c o t e b (record { number = n; place = getD a 0 0; inner = getD a 1 0 }) u
-    × (d ≡ appliedTo c o t e b .state .edition)
+    → OwnedCalled (record { config = c; owners = o; table = t; edition = e }) b
+    (record { number = n; place = getD a 0 0; inner = getD a 1 0 })
+    (record { config = c; owners = o; table = u; edition = d })

@@ -4,7 +4,6 @@ use Prim.Native.Nat.{ℕ}
 use mathlib.Core.List.{List, [], _∷_}
 use mathlib.Core.Path.{_≡_, refl, ap, _∙_}
 use Rattle.lists.specs.Runs.{none, call, runs, InTurn}
-use Rattle.rules.specs.Applying as rules
 use Rattle.rules.specs.Limits.{limits}
 use Rattle.rules.specs.Receiving.{noBytes, received, takePiece}
 use Rattle.rules.specs.declared.Outcome.{Outcome}

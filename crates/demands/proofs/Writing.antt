@@ -19,7 +19,7 @@ use Rattle.writer.proofs.Bytes.{asked-fit}
 use Rattle.demands.specs.Following.{Code, Meets, lent, terminalsOf, Words}
 use Rattle.demands.specs.Writing.{Pen, PenMeets, Writes, wrote, terminalsBy, WriterIsLawful, InStepWithWriter}
 use Rattle.demands.specs.Writing.{EqualEditionsByWriter, LowerIsBehindByWriter, StartStands}
-use Rattle.demands.proofs.Following.{now, all-records, start-stands, code-laws}
+use Rattle.demands.proofs.Following.{now, all-records, start-stands, code-is-lawful}
 
 module _ (f : Code) (g : Pen) (meets : Meets f) (pen : PenMeets g) (w : List ℕ) where
   module _ (s : editions.State Words) (r : List ℕ) (h : Writes g (lent s) r w) where
@@ -44,7 +44,7 @@ module _ (f : Code) (g : Pen) (meets : Meets f) (pen : PenMeets g) (w : List ℕ
 
   pub writer-laws : Lawful (terminalsBy f g w)
   writer-laws =
-      let law : Lawful (terminalsOf f) = code-laws f meets in record {
+      let law : Lawful (terminalsOf f) = code-is-lawful f meets in record {
         stays = law .stays;
         fits = law .fits;
         tells = law .tells;

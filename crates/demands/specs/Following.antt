@@ -1,30 +1,30 @@
--- Demand 3 of the code: terminals whose states are words, and whose deliveries are calls of the code.
-use Prim.Native.Nat.{ℕ, suc, _-_, _≤_, _<_}
+-- Demand 3 of the code of document 01's terminals, whose states are words, and whose deliveries are calls: the first kind
+-- of Steps.
+use Prim.Native.Nat.{ℕ, suc, _-_, _<_}
 use mathlib.Core.List.{List, [], _∷_, map}
 use mathlib.Core.Path.{_≡_}
 use Rattle.lists.specs.Places.{places}
 use Rattle.lists.specs.Runs.{runs}
-use Rattle.rules.specs.Applying.{Terminal}
+use Rattle.rules.specs.Applying.{plainSteps, Terminal}
 use Rattle.rules.specs.Desk.{G}
 use Rattle.rules.specs.Limits.{limits}
-use Rattle.rules.specs.Plan.{Asked, Plan}
-use Rattle.rules.specs.Planner.{planBytes, ranAt, MayAsk}
+use Rattle.rules.specs.Plan.{Asked}
 use Rattle.rules.specs.Story.{with5}
 use Rattle.promises.specs.Editions as editions
-use Rattle.promises.specs.Editions.{History, world, Machine, Lawful, Planner}
+use Rattle.promises.specs.Editions.{Machine, Lawful, Planner}
 use Rattle.promises.specs.Past.{askedFor, events}
-use Rattle.promises.specs.Plans.{PlanFor}
 use Rattle.promises.specs.Terminals as promised
 use Rattle.promises.specs.Terminals.{planned, planFile}
-use Rattle.zones.specs.Kept.{Stands}
 use Rattle.zones.specs.View.{storedConfig, ConfigPassed, storedTable}
 use Rattle.zones.specs.Words.{wordsOf, wordsOfConfig}
 use Rattle.zones.specs.declared.config.Config.{Config}
 use Rattle.zones.specs.declared.table.Table.{Table}
 use Rattle.plan.specs.Applying.{terminalIn, applied}
+use Rattle.plan.specs.Deliveries.{statesLent}
 use Rattle.plan.specs.declared.applying.Applied.{Applied}
 use Rattle.plan.specs.declared.applying.State.{State}
 use Rattle.terminal.specs.Terminal.{Applies}
+use Rattle.demands.specs.Steps.{codeTerminals, codePlanner, CodePast, codeMade, codeState, Kind, CodeBy, FollowsBy}
 
 -- ---- the code
 -- what a call with a state and bytes answers, and the state that it leaves
@@ -52,38 +52,34 @@ lent s = record { config = s .table .config; table = s .table .table; edition = 
 abbrev pub kept : State → editions.State Words
 kept s = record { edition = s .edition; table = record { config = s .config; table = s .table } }
 
--- a delivery is a call, and requests lead to the words of the table that their run leaves
-abbrev pub terminalsOf : Code → Machine
-terminalsOf f = record {
-  Table = Words;
-  Bytes = List ℕ;
-  Requests = List Asked;
-  number = λ s b. f (lent s) b .outcome .number;
-  after = λ s b. kept (f (lent s) b .state);
-  PlanFor = λ s b. (p : Plan) × PlanFor limits (terminalIn (lent s)) b p;
-  Sound = λ h. Stands (h .config .words) (h .table .words);
-  Accepts = λ s q. MayAsk limits (terminalIn (lent s)) q;
-  next =
-      λ h q. record {
-        config = h .config;
-        table = record {
-          words = wordsOf (ranAt limits (storedConfig (h .config .words))
-              (storedTable (h .table .words)) q .table);
-        };
-      };
-  encode = λ s q. planBytes limits (terminalIn (lent s)) q;
+-- their kind: an accepted plan's table is written where the words of the old one lie
+abbrev pub wordsKind : Kind
+wordsKind = record {
+  rule = plainSteps limits;
+  lending = statesLent;
+  Held = Words;
+  lent = lent;
+  kept = kept;
+  holds = λ h. record { config = storedConfig (h .config .words); table = storedTable (h .table .words) };
+  storing = λ h t. record { config = h .config; table = record { words = wordsOf t } };
 }
+
+abbrev pub callsOf : Code → CodeBy wordsKind
+callsOf f = record { says = λ s b. f s b .outcome; leaves = λ s b. f s b .state }
+
+abbrev pub terminalsOf : Code → Machine
+terminalsOf f = codeTerminals wordsKind (callsOf f)
 
 -- they meet what is asked of a machine
 abbrev pub CodeIsLawful : Type 0
 CodeIsLawful = (f : Code) → Meets f → Lawful (terminalsOf f)
 
 -- ---- the demand
--- the bytes are refused, and every word stays
-abbrev pub TurnsAway : Code → State → List ℕ → Type 0
-TurnsAway f s b = (f s b .outcome .number ≡ 0 → ⊥) × (f s b .state ≡ s)
-
 module _ (c : Config) (asked : ℕ → List Asked) where
+  -- both start with the words of no zone
+  abbrev pub noZones : Words
+  noZones = record { config = c; table = record { words = wordsOf [] } }
+
   -- the planner's state of edition k and plan i, by the rules alone
   abbrev pub plannedAt : ℕ → Terminal
   plannedAt k = planned limits (storedConfig (c .words)) asked k
@@ -92,31 +88,23 @@ module _ (c : Config) (asked : ℕ → List Asked) where
   planAt i = planFile limits (storedConfig (c .words)) asked i
 
   module _ (f : Code) where
-    -- the same planner, as demand 3 has it: both start with the words of no zone
     abbrev pub planner : Planner (terminalsOf f)
-    planner = record { start = record { config = c; table = record { words = wordsOf [] } }; asked = asked }
+    planner = codePlanner wordsKind noZones asked (callsOf f)
 
     -- a history of a terminal with that code; how many plans there are then, and the words that the terminal holds
     abbrev pub Past : Type 0
-    Past = History (terminalsOf f) planner
+    Past = CodePast wordsKind noZones asked (callsOf f)
 
     abbrev pub madeIn : Past → ℕ
-    madeIn h = world (terminalsOf f) planner h .made
+    madeIn h = codeMade wordsKind noZones asked (callsOf f) h
 
     abbrev pub stateIn : Past → State
-    stateIn h = lent (world (terminalsOf f) planner h .state)
+    stateIn h = codeState wordsKind noZones asked (callsOf f) h
 
-    -- a state at edition k, of so many plans that were made
-    pub record Follows (made : ℕ) (s : State) (k : ℕ) : Type 0 where
-      -- it is not ahead, and its words hold exactly the planner's state of k
-      pub behind : k ≤ made
-      pub holds : terminalIn s ≡ plannedAt k
-      -- a call with plan k + 1 answers 0 and leaves words that hold k + 1; one
-      -- with any other plan, or with noise, leaves every word
-      pub onward : k < made
-          → (f s (planAt (suc k)) .outcome .number ≡ 0) × (terminalIn (f s (planAt (suc k)) .state) ≡ plannedAt (suc k))
-      pub others : (i : ℕ) → 1 ≤ i → i ≤ made → (i ≡ suc k → ⊥) → TurnsAway f s (planAt i)
-      pub stray : (b : List ℕ) → ((p : Plan) → PlanFor limits (terminalIn s) b p → ⊥) → TurnsAway f s b
+    -- a state at edition k, of so many plans that were made, follows: its words hold exactly the planner's state of k; plan
+    -- k + 1 brings k + 1, and any other, or noise, leaves every word
+    abbrev pub Follows : ℕ → State → ℕ → Type 0
+    Follows made s k = FollowsBy wordsKind noZones asked (callsOf f) made s k
 
 -- whatever happened, the words hold exactly the planner's state of some edition
 abbrev pub CodeFollows : Type 0

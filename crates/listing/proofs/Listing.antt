@@ -23,11 +23,11 @@ use Rattle.zones.proofs.Spelling.{config-view, table-view}
 use Rattle.zones.proofs.Stepping.{stands-same}
 use Rattle.plan.specs.Applying.{terminalIn, inWords, applied, stateIn, AppliedIn}
 use Rattle.plan.specs.Read.{readAnswer}
-use Rattle.plan.specs.declared.applying.Applied.{Applied as Lent}
 use Rattle.plan.specs.declared.applying.State.{State}
 use Rattle.plan.specs.declared.read.Read.{Read}
 use Rattle.plan.specs.declared.words.Section.the-variants.{End, Bad}
-use Rattle.plan.proofs.Outcomes.{value-accepted, next-terminal}
+use Rattle.plan.proofs.Deliveries.{apply-is-faithful}
+use Rattle.plan.proofs.Outcomes.{value-accepted}
 use Rattle.writer.proofs.Filling.{filledWith, own-refused, own-passed}
 
 -- ---- 1 and 2 before it
@@ -79,7 +79,7 @@ module _ (c t : List ℕ) (e : ℕ) (b w : List ℕ) (o : Outcome) (u : List ℕ
   module _ (z : o .number ≡ 0) where
     left : terminalIn (stateIn c u (e + 1)) ≡ told .state
     unfolding told s
-    left = ap (λ (a : Lent). terminalIn (a .state)) (value-accepted s b o u done z) ∙ next-terminal s b
+    left = apply-is-faithful .next s b o (stateIn c u (e + 1)) (value-accepted s b o u done z)
 
     pub after-listed : (r : Outcome) (v : List ℕ) → filledWith r v ≡ list limits (storedConfig c) (storedTable u) w
         → filledWith r v ≡ listAfter limits (apply limits (terminalIn (stateIn c t e)) b) w

@@ -5,3 +5,4 @@ pub mod Holding
 pub mod Reading
 pub mod Bases
 pub mod Outcomes
+pub mod Deliveries

@@ -3,3 +3,4 @@ pub mod Section
 pub mod Found
 pub mod Held
 pub mod Applying
+pub mod Deliveries

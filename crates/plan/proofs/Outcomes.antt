@@ -1,30 +1,27 @@
--- Applying a plan to document 01's terminals: by what was found, by value, at the plan's own base, and the state that
--- the words of the next one hold.
+-- Applying a plan to document 01's terminals: by what was found, by value, and at the plan's own base.
 use Prim.Native.Nat.{ℕ, _+_, _-_, _*_, _^_, _≤_, _<_}
 use native.Mathlib.Omega.{arith}
 use mathlib.Core.Bool.{Bool, true, false, cond}
 use mathlib.Core.List.{List, []}
 use mathlib.Core.Path.{_≡_, refl, sym, ap, ap₂, _∙_}
-use borrow.Author.Tests.{eqb-true, eqb-false, eq-eqb, ne-eqb}
+use borrow.Author.Tests.{eq-eqb, ne-eqb}
 use lib.Dec.{eqb}
 use lib.ListN.{length, take, drop}
 use Rattle.lists.specs.Bytes.{Bytes}
 use Rattle.formats.specs.Formats.{Out, got, bad}
 use Rattle.rules.specs.Applying as rules
-use Rattle.rules.specs.Applying.{lastEdition, store, plain, judged, moved, plainSteps, apply, baseOf, answerRead}
+use Rattle.rules.specs.Applying.{lastEdition, plain, plainSteps, apply, baseOf, answerRead}
 use Rattle.rules.specs.Applying.{answerAlone, Terminal}
-use Rattle.rules.specs.Configuration.{configOf}
 use Rattle.rules.specs.Differing.{zonesPart, zonesOf}
 use Rattle.rules.specs.Limits.{limits}
-use Rattle.rules.specs.Plan.{regionsSection, zonesSection, requestsOf, readPlan, Plan}
+use Rattle.rules.specs.Plan.{regionsSection, zonesSection, readPlan, Plan}
 use Rattle.rules.specs.Requests.{standing}
-use Rattle.rules.specs.Run.{requestSize, requestsIn, run, Run}
+use Rattle.rules.specs.Run.{requestSize, requestsIn}
 use Rattle.rules.specs.Sizes.{zonesSize, planSize, zonesAt, requestsAt}
 use Rattle.rules.specs.Tables.{tableOf}
 use Rattle.rules.specs.declared.Outcome.{Outcome}
 use Rattle.rules.proofs.Plan.{plan-refuses, no-slack}
 use Rattle.rules.proofs.Sizes.{encoded-length}
-use Rattle.rules.proofs.Stored.{table-back, stands-well, run-from-keeps}
 use Rattle.zones.specs.View.{storedConfig, storedTable}
 use Rattle.zones.specs.Words.{wordsOf}
 use Rattle.plan.specs.Applying.{terminalIn, stateFor, inWords, applied, stateIn, turnedAway, AppliedIn, FoundIn}
@@ -45,26 +42,9 @@ use Rattle.plan.proofs.Bases.{marks-within, zones-there, regions-at, zo
 use Rattle.plan.proofs.Bases.{requests-same}
 use Rattle.plan.proofs.Locating.{refusal-by, whole-by, Whole}
 use Rattle.plan.proofs.Offsets.{rest-of}
-use Rattle.plan.proofs.Steps.{unsound-by, cut-by, found-by, accepted-by}
+use Rattle.plan.proofs.Steps.{cut-by, found-by, accepted-by}
 use Rattle.plan.proofs.Undoing.{plainly-stood}
 use Rattle.zones.proofs.Spelling.{config-view, table-view}
-
--- an answer other than 0 leaves the words
-refused-in-words : (s : State) (o : Outcome) (t : Terminal) → (o .number ≡ 0 → ⊥)
-    → inWords s (record { outcome = o; state = t }) ≡ record { outcome = o; state = s }
-unfolding inWords
-refused-in-words s o t ne = ap (λ (x : Bool). record { outcome = o; state = cond x (stateFor s t) s }) (ne-eqb _ 0 ne)
-
-module _ (s : State) where
-  abbrev own : ℕ
-  own = standing limits (terminalIn s .config) (terminalIn s .table)
-
-  -- the state is unsound: 1 or 2, whatever the bytes are
-  pub unsound : (b : List ℕ) → (own ≡ 0 → ⊥) → applied s b ≡ record { outcome = plain own 0; state = s }
-  unfolding applied apply
-  unsound b ne =
-      ap (inWords s) (unsound-by (plainSteps limits) (terminalIn s .config) (s .table .words) (s .edition) b ne)
-      ∙ refused-in-words s (plain own 0) (terminalIn s) ne
 
 -- ---- where the words lie
 -- what is answered by the step rule
@@ -316,68 +296,3 @@ module _ (b : List ℕ) (r : Read) (er : r ≡ readAnswer (length b) (readPlan l
           ∙ f in
           let z : _≡_ {A = ℕ} 0 1 = cc in
           omega arith)
-
--- ---- what the words of the next state say is the rules' next state
-module _ (s : State) (b : List ℕ) where
-  -- an answer that left the state
-  stayed : (o : Outcome) → (o .number ≡ 0 → ⊥)
-      → terminalIn (inWords s (record { outcome = o; state = terminalIn s }) .state) ≡ terminalIn s
-  stayed o ne = ap (λ (a : Applied). terminalIn (a .state)) (refused-in-words s o (terminalIn s) ne)
-
-  went : (o : Outcome) (r : Run) → tableOf (store limits (r .table)) ≡ r .table
-      → terminalIn (inWords s (rules.settled limits (terminalIn s) o r) .state)
-      ≡ rules.settled limits (terminalIn s) o r .state
-  unfolding rules.settled moved inWords
-  went o r back = by (eqb (o .number) 0) refl
-    where
-      either : Bool → rules.Applied
-      either x =
-          cond x (record { outcome = o; state = moved limits (terminalIn s) r }) (record
-          { outcome = o; state = terminalIn s })
-
-      by : (x : Bool) → eqb (o .number) 0 ≡ x
-          → terminalIn (inWords s (either (eqb (o .number) 0)) .state) ≡ either (eqb (o .number) 0) .state
-      by true h =
-          ap (λ (x : Bool). terminalIn (inWords s (either x) .state)) h
-          ∙ ap (λ (x : Bool). terminalIn (cond x (stateFor s (moved limits (terminalIn s) r)) s)) h
-          ∙ (λ i. record {
-            config = terminalIn s .config;
-            table = (table-view (tableOf (store limits (r .table))) ∙ ap (store limits) back) i;
-            edition = s .edition + 1;
-          })
-          ∙ sym (ap (λ (x : Bool). either x .state) h)
-      by false h =
-          ap (λ (x : Bool). terminalIn (inWords s (either x) .state)) h
-          ∙ stayed o (eqb-false _ _ h)
-          ∙ sym (ap (λ (x : Bool). either x .state) h)
-
-  pub next-terminal : terminalIn (applied s b .state) ≡ apply limits (terminalIn s) b .state
-  unfolding applied apply rules.applyRead
-  next-terminal = by (eqb (own s) 0) refl (readPlan limits b) refl
-    where
-      answer : Bool → Out Plan → rules.Applied
-      answer x o =
-          cond x (rules.applyRead limits (terminalIn s) b o) (record
-          { outcome = plain (own s) 0; state = terminalIn s })
-
-      by : (x : Bool) → eqb (own s) 0 ≡ x → (o : Out Plan) → readPlan limits b ≡ o
-          → terminalIn (inWords s (answer (eqb (own s) 0) (readPlan limits b)) .state)
-          ≡ answer (eqb (own s) 0) (readPlan limits b) .state
-      by false h o e =
-          ap (λ (x : Bool). terminalIn (inWords s (answer x (readPlan limits b)) .state)) h
-          ∙ stayed (plain (own s) 0) (eqb-false _ _ h)
-          ∙ sym (ap (λ (x : Bool). answer x (readPlan limits b) .state) h)
-      by true h (bad k t) e =
-          ap₂ (λ (x : Bool) (o : Out Plan). terminalIn (inWords s (answer x o) .state)) h e
-          ∙ stayed (plain k (length b - length t)) (plan-refuses limits b k t e)
-          ∙ sym (ap₂ (λ (x : Bool) (o : Out Plan). answer x o .state) h e)
-      by true h (got p t) e =
-          let r : Run = run limits (configOf (terminalIn s .config)) (tableOf (terminalIn s .table)) (requestsOf p) in
-          let (ok, sound) = stands-well limits (terminalIn s .config) (terminalIn s .table) (eqb-true _ _ h) in
-          let back : tableOf (store limits (r .table)) ≡ r .table =
-          table-back limits (configOf (terminalIn s .config)) (r .table)
-          (run-from-keeps limits (configOf (terminalIn s .config)) 0 (tableOf (terminalIn s .table))
-          (requestsOf p) sound) in
-          ap₂ (λ (x : Bool) (o : Out Plan). terminalIn (inWords s (answer x o) .state)) h e
-          ∙ went (judged (terminalIn s) p r) r back
-          ∙ sym (ap₂ (λ (x : Bool) (o : Out Plan). answer x o .state) h e)

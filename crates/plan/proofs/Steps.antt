@@ -20,7 +20,7 @@ use Rattle.rules.specs.Steps.{ranBy, StepRule}
 use Rattle.rules.specs.Tables.{tableOf}
 use Rattle.rules.specs.declared.Outcome.{Outcome}
 use Rattle.rules.specs.declared.Request.{Request}
-use Rattle.rules.proofs.Applying.{accepted-base, outcome-by, stays-by}
+use Rattle.rules.proofs.Applying.{accepted-base, outcome-by, unsound-by, refused-by}
 use Rattle.rules.proofs.Keeps.{parts-sound, SoundTable}
 use Rattle.rules.proofs.Stored.{table-back}
 use Rattle.zones.specs.Layout.{tableWords}
@@ -77,11 +77,6 @@ module _ (m : StepRule) where
     abbrev answer : Bool → Out (m .Said) → AppliedOf (m .Config)
     answer x o = cond x (applyReadBy m s b o) (record { outcome = plain own 0; state = s })
 
-    -- ---- the state is unsound: 1 or 2, whatever the bytes are
-    pub unsound-by : (own ≡ 0 → ⊥) → applyBy m s b ≡ record { outcome = plain own 0; state = s }
-    unfolding applyBy
-    unsound-by ne = ap (λ (x : Bool). answer x (m .read b)) (ne-eqb _ 0 ne)
-
     sound-reads : (o : Out (m .Said)) → m .read b ≡ o → own ≡ 0 → applyBy m s b ≡ applyReadBy m s b o
     unfolding applyBy
     sound-reads o e z = ap (λ (x : Bool). answer x (m .read b)) (eq-eqb _ 0 z) ∙ ap (applyReadBy m s b) e
@@ -106,7 +101,7 @@ module _ (m : StepRule) where
             (stays (plain k place) ne (sound (eqb-true _ _ g)))
         by false g =
             subst (λ (x : Bool). AppliedBy m c t ed b (cond x (plain k place) (plain own 0)) t) (sym g)
-            (stays (plain own 0) (eqb-false _ _ g) (unsound-by (eqb-false _ _ g)))
+            (stays (plain own 0) (eqb-false _ _ g) (unsound-by m s b (eqb-false _ _ g)))
 
     -- ---- bytes that do not read whole
     pub cut-by : (k : ℕ) (l : List ℕ) → m .read b ≡ bad k l → (k ≡ 0 → ⊥) → (v : Outcome)
@@ -195,7 +190,7 @@ module _ (m : StepRule) where
           ∙ ap (λ (o : Outcome). cond (eqb (o .number) 0) (wordsOf (doneBy m c t stretch .table)) t) answered
           ∙ ap (λ (x : Bool). cond x (wordsOf (doneBy m c t stretch .table)) t) (ne-eqb _ 0 ne) in
           subst (AppliedBy m c t ed b v) (sym words)
-          (subst (λ (o : Outcome). AppliedBy m c t ed b o t) (sym answered) (stays (plain own 0) ne (unsound-by ne)))
+          (subst (λ (o : Outcome). AppliedBy m c t ed b o t) (sym answered) (stays (plain own 0) ne (unsound-by m s b ne)))
 
       pub found-by : (v : Outcome) (u : List ℕ) → FoundBy m c t number stretch v u → AppliedBy m c t ed b v u
       found-by v u f = by (eqb number 0) refl (eqb own 0) refl
@@ -215,21 +210,10 @@ module _ (m : StepRule) where
     alone-by p l e base v u h =
         h .answer ∙ ap (λ (x : Kept m). applyBy m x b .outcome) base ∙ sym (ap (answerReadBy m b) e)
 
-  -- ---- by the number: a refusal leaves the state, and what is accepted is below the last edition and then at the next
+  -- ---- what is accepted is below the last edition and then at the next
   module _ (s : Kept m) (b : List ℕ) where
     abbrev either : Bool → Out (m .Said) → AppliedOf (m .Config)
     either x o = cond x (applyReadBy m s b o) (record { outcome = plain (m .standing (s .config) (s .table)) 0; state = s })
-
-    pub refused-by : (applyBy m s b .outcome .number ≡ 0 → ⊥) → applyBy m s b .state ≡ s
-    unfolding applyBy applyReadBy
-    refused-by = by (eqb (m .standing (s .config) (s .table)) 0) (m .read b)
-      where
-        by : (x : Bool) (o : Out (m .Said)) → (either x o .outcome .number ≡ 0 → ⊥) → either x o .state ≡ s
-        by false o = λ ne. refl
-        by true (bad k l) = λ ne. refl
-        by true (got p l) =
-            let r : Run = ranBy m (s .config) (tableOf (s .table)) (m .asked p) in
-            stays-by (m .limits) s (judgedBy m s p r) r
 
     module _ (refuses : (b : List ℕ) (k : ℕ) (l : List ℕ) → m .read b ≡ bad k l → k ≡ 0 → ⊥) where
       abbrev Good : AppliedOf (m .Config) → Type 0
@@ -263,7 +247,7 @@ module _ (m : StepRule) where
 
     pub edition-kept : (v .number ≡ 0 → ⊥) → e ≡ applyBy m (keptIn m c t e) b .state .edition
     edition-kept ne =
-        sym (ap (λ (k : Kept m). k .edition) (refused-by (keptIn m c t e) b (λ z. ne (sym number-is ∙ z))))
+        sym (ap (λ (k : Kept m). k .edition) (refused-by m (keptIn m c t e) b (λ z. ne (sym number-is ∙ z))))
 
     module _ (refuses : (b : List ℕ) (k : ℕ) (l : List ℕ) → m .read b ≡ bad k l → k ≡ 0 → ⊥) (z : v .number ≡ 0) where
       pub edition-raised : e + 1 ≡ applyBy m (keptIn m c t e) b .state .edition

@@ -23,7 +23,7 @@ use Rattle.rules.specs.Run.{runBy, Run}
 use Rattle.rules.specs.Steps.{ranBy, StepRule}
 use Rattle.rules.specs.Tables.{tableOf, Zone}
 use Rattle.rules.specs.declared.Outcome.{Outcome}
-use Rattle.rules.proofs.Applying.{accepted-base, base-accepted, outcome-by, stays-by, settled-keeps, SameBase}
+use Rattle.rules.proofs.Applying.{accepted-base, base-accepted, outcome-by, refused-by, apply-keeps, SameBase}
 use Rattle.rules.proofs.Run.{run-by-keeps, run-through}
 use Rattle.promises.specs.Editions.{tableAt, at, planOf, world, State, Machine, Planner}
 use Rattle.promises.specs.Steps.{PlanForBy, runOfBy, RefusalStaysBy, ConfigurationStaysBy, ApplyKeepsSoundBy}
@@ -50,19 +50,8 @@ module _ (m : StepRule) where
     abbrev unsound : AppliedOf (m .Config)
     unsound = record { outcome = plain (m .standing (s .config) (s .table)) 0; state = s }
 
-    read-stays : (o : Out (m .Said)) → (applyReadBy m s b o .outcome .number ≡ 0 → ⊥) → applyReadBy m s b o .state ≡ s
-    unfolding applyReadBy
-    read-stays (bad k t) ne = refl
-    read-stays (got p t) ne = stays-by (m .limits) s (judgedBy m s p (runOfBy m s p)) (runOfBy m s p) ne
-
   pub refusal-stays-by : RefusalStaysBy m (applyBy m)
-  unfolding applyBy
-  refusal-stays-by s b ne = by (eqb (m .standing (s .config) (s .table)) 0) ne
-    where
-      by : (c : Bool) → (cond c (applyReadBy m s b (m .read b)) (unsound s b) .outcome .number ≡ 0 → ⊥)
-          → cond c (applyReadBy m s b (m .read b)) (unsound s b) .state ≡ s
-      by true ne = read-stays s b (m .read b) ne
-      by false ne = refl
+  refusal-stays-by s b ne = refused-by m s b ne
 
   -- at a state at which neither 1 nor 2 is answered
   pub accepted-stands-by : (s : Kept m) (b : List ℕ) → applyBy m s b .outcome .number ≡ 0
@@ -126,26 +115,14 @@ module _ (m : StepRule) where
         subst (λ (r : Run). ok .Sound c (r .table)) (sym (ok .runs-so c t (requestsFrom q)))
         (run-by-keeps (m .refusal c) (m .next c) (ok .Sound c) (ok .keeps c) 0 t (requestsFrom q) s)
 
-  -- a state is left as it was, or moved as its run says
-  module _ (s : Kept m) (P : Kept m → Type 0) (stay : P s) where
-    apply-keeps : (b : List ℕ) → ((p : m .Said) → P (moved (m .limits) s (runOfBy m s p))) → P (applyBy m s b .state)
-    unfolding applyBy applyReadBy
-    apply-keeps b move = by (eqb (m .standing (s .config) (s .table)) 0) (m .read b)
-      where
-        by : (c : Bool) (o : Out (m .Said)) → P (cond c (applyReadBy m s b o) (unsound s b) .state)
-        by true (got p t) =
-            settled-keeps (m .limits) s (judgedBy m s p (runOfBy m s p)) (runOfBy m s p) P stay (move p)
-        by true (bad k t) = stay
-        by false o = stay
-
   pub configuration-stays-by : ConfigurationStaysBy m (applyBy m)
   unfolding moved
-  configuration-stays-by s b = apply-keeps s (λ u. u .config ≡ s .config) refl b (λ p. refl)
+  configuration-stays-by s b = apply-keeps m s b (λ u. u .config ≡ s .config) refl (λ p. refl)
 
   pub apply-keeps-sound-by : Proper m → ApplyKeepsSoundBy m (applyBy m)
   unfolding moved
   apply-keeps-sound-by ok s b st =
-      apply-keeps s (λ u. m .standing (u .config) (u .table) ≡ 0) st b
+      apply-keeps m s b (λ u. m .standing (u .config) (u .table) ≡ 0) st
       (λ p. ok .stored (s .config) (runOfBy m s p .table)
       (ran-keeps ok (s .config) (tableOf (s .table)) (m .asked p) (ok .stands (s .config) (s .table) st)))
 

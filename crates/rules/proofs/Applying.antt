@@ -9,15 +9,18 @@ use mathlib.Core.Path.{_≡_, refl, sym, ap, ap₂, _∙_}
 use borrow.Author.Tests.{eqb-true, eqb-false, eq-eqb, ne-eqb, not-false}
 use lib.Dec.{eqb}
 use Rattle.lists.specs.Rules.{_when_, firstRule}
+use Rattle.formats.specs.Formats.{Out, got, bad}
 use Rattle.lists.proofs.Rules.{Quiet, testOf, silent, quiet-answer}
 use Rattle.lists.proofs.Tests.{both-true, true-both, parts, whole, not-holds}
-use Rattle.rules.specs.Applying.{lastEdition, sameList, sameZone, sameConfig, plain, baseRules, judgedRules}
-use Rattle.rules.specs.Applying.{judged, moved, settled, TerminalOf, Terminal, AppliedOf, GivesConfig}
-use Rattle.rules.specs.Configuration.{configOf, Configuration}
+use Rattle.rules.specs.Applying.{lastEdition, sameList, sameZone, sameConfig, plain, baseRules}
+use Rattle.rules.specs.Applying.{moved, settled, Kept, judgedBy, applyReadBy, applyBy, TerminalOf}
+use Rattle.rules.specs.Applying.{AppliedOf, GivesConfig}
+use Rattle.rules.specs.Configuration.{Configuration}
 use Rattle.rules.specs.Limits.{Limits}
 use Rattle.rules.specs.Plan.{Plan}
 use Rattle.rules.specs.Regions.{regionEq}
 use Rattle.rules.specs.Run.{ended, Run}
+use Rattle.rules.specs.Steps.{ranBy, StepRule}
 use Rattle.rules.specs.Tables.{tableOf, Zone}
 use Rattle.rules.specs.declared.Outcome.{Outcome}
 use Rattle.rules.specs.declared.Region.{Region}
@@ -158,6 +161,14 @@ module _ {C : Type 0} (l : Limits) (s : TerminalOf C) (o : Outcome) (r : Run) wh
       by true e ne = absurd (ne (eqb-true _ _ e))
       by false e ne = refl
 
+  pub moves-by : settled l s o r .outcome .number ≡ 0 → settled l s o r .state ≡ moved l s r
+  unfolding settled either
+  moves-by = by (eqb (o .number) 0) refl
+    where
+      by : (b : Bool) → eqb (o .number) 0 ≡ b → either b .outcome .number ≡ 0 → either b .state ≡ moved l s r
+      by true e z = refl
+      by false e z = absurd (eqb-false _ _ e z)
+
   pub settled-keeps : (P : TerminalOf C → Type 0) → P s → P (moved l s r) → P (settled l s o r .state)
   unfolding settled either
   settled-keeps P stay move = by (eqb (o .number) 0)
@@ -166,9 +177,52 @@ module _ {C : Type 0} (l : Limits) (s : TerminalOf C) (o : Outcome) (r : Run) wh
       by true = move
       by false = stay
 
--- and of document 01's terminals
-pub accepted-for-base : (s : Terminal) (p : Plan) (r : Run) → judged s p r .number ≡ 0
-    → SameBase s (sameConfig (configOf (s .config)) p) (p .marks .edition) (p .zones) × (s .edition ≡ lastEdition → ⊥)
-    × (r .inner ≡ 0)
-unfolding judged judgedRules
-accepted-for-base s p r e = accepted-base s (sameConfig (configOf (s .config)) p) (p .marks .edition) (p .zones) r e
+-- ---- what a terminal of any step rule answers, and where it leaves the state
+module _ (m : StepRule) (s : Kept m) (b : List ℕ) where
+  abbrev own : ℕ
+  own = m .standing (s .config) (s .table)
+
+  abbrev ran : m .Said → Run
+  ran p = ranBy m (s .config) (tableOf (s .table)) (m .asked p)
+
+  abbrev answers : Bool → Out (m .Said) → AppliedOf (m .Config)
+  answers x o = cond x (applyReadBy m s b o) (record { outcome = plain own 0; state = s })
+
+  -- the state is unsound: 1 or 2, whatever the bytes are
+  pub unsound-by : (own ≡ 0 → ⊥) → applyBy m s b ≡ record { outcome = plain own 0; state = s }
+  unfolding applyBy
+  unsound-by ne = ap (λ (x : Bool). answers x (m .read b)) (ne-eqb _ 0 ne)
+
+  -- a refusal leaves the state
+  pub refused-by : (applyBy m s b .outcome .number ≡ 0 → ⊥) → applyBy m s b .state ≡ s
+  unfolding applyBy applyReadBy
+  refused-by = by (eqb own 0) (m .read b)
+    where
+      by : (x : Bool) (o : Out (m .Said)) → (answers x o .outcome .number ≡ 0 → ⊥) → answers x o .state ≡ s
+      by false o = λ ne. refl
+      by true (bad k l) = λ ne. refl
+      by true (got p l) = stays-by (m .limits) s (judgedBy m s p (ran p)) (ran p)
+
+  -- what is accepted, at a state that stands, moves it as a plan's requests say
+  pub moved-by : ((k : ℕ) (l : List ℕ) → m .read b ≡ bad k l → k ≡ 0 → ⊥) → applyBy m s b .outcome .number ≡ 0
+      → (own ≡ 0) × (p : m .Said) × (applyBy m s b .state ≡ moved (m .limits) s (ran p))
+  unfolding applyBy applyReadBy
+  moved-by refuses = by (eqb own 0) refl (m .read b) refl
+    where
+      by : (x : Bool) → eqb own 0 ≡ x → (o : Out (m .Said)) → m .read b ≡ o → answers x o .outcome .number ≡ 0
+          → (own ≡ 0) × (p : m .Said) × (answers x o .state ≡ moved (m .limits) s (ran p))
+      by false h o e z = absurd (eqb-false _ _ h z)
+      by true h (bad k l) e z = absurd (refuses k l e z)
+      by true h (got p l) e z =
+          (eqb-true _ _ h, p, moves-by (m .limits) s (judgedBy m s p (ran p)) (ran p) z)
+
+  -- so what holds of the state and of all that it can be moved to holds afterwards
+  pub apply-keeps : (P : Kept m → Type 0) → P s → ((p : m .Said) → P (moved (m .limits) s (ran p)))
+      → P (applyBy m s b .state)
+  unfolding applyBy applyReadBy
+  apply-keeps P stay move = by (eqb own 0) (m .read b)
+    where
+      by : (x : Bool) (o : Out (m .Said)) → P (answers x o .state)
+      by true (got p l) = settled-keeps (m .limits) s (judgedBy m s p (ran p)) (ran p) P stay (move p)
+      by true (bad k l) = stay
+      by false o = stay

@@ -1,6 +1,6 @@
-use borrow.Author.Needs.{needs}
 -- Invariant: the records from i on give the whole answer.
 use Prim.Native.Nat.{_-_, _≤_}
+use borrow.Author.Needs.{needs}
 use mathlib.Core.Path.{_≡_}
 use Rattle.lists.specs.First.{all}
 use Rattle.lists.specs.Places.{places}

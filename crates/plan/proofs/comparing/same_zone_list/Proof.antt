@@ -1,6 +1,6 @@
-use borrow.Author.Needs.{needs}
 -- Invariant: the zones from i on give the whole answer.
 use Prim.Native.Nat.{_-_, _≤_}
+use borrow.Author.Needs.{needs}
 use mathlib.Core.Path.{_≡_}
 use lib.ListN.{length, drop}
 use Rattle.lists.specs.Places.{tab}

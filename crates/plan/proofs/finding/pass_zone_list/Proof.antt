@@ -1,6 +1,6 @@
-use borrow.Author.Needs.{needs}
 -- Invariant: where the zones from i on end is where all of them end.
 use Prim.Native.Nat.{_-_, _≤_}
+use borrow.Author.Needs.{needs}
 use mathlib.Core.Path.{_≡_}
 use lib.ListN.{length}
 use Rattle.plan.proofs.Locating.{zonesEnd, list-begins, list-stops, list-goes, list-within, list-over}

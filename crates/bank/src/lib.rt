@@ -1,5 +1,7 @@
 // The second library, for terminals with owners: include/peatmitten_bank.h has the same functions and layouts. Each function answers on every
 // argument; nothing is asked of the caller beyond pointers and lengths that are valid.
+#![tactic(auto)]
+
 mod beside;
 mod plans;
 

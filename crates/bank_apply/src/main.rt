@@ -1,6 +1,8 @@
 // Reads plan files for terminals with owners, applies each plan to the configuration, owners, edition and zones that it holds itself, and
 // prints for each, on a line, the number, the place and the inner number. Where a file has no bytes to judge it says why on standard error and
 // prints nothing.
+#![tactic(auto)]
+
 ghost use Rattle.std.specs.Prelude.{◌+◌, ◌≡◌, length};
 ghost use Rattle.rules.specs.Limits.{limits};
 ghost use Rattle.rules.specs.OwnedSizes.{longest_owned_size};

@@ -2,7 +2,7 @@
 use rules::{Guest, Phys, Region, Rights};
 
 // v, p, size and rights.
-#[derive(Drop)]
+#[derive(Clone, Copy)]
 struct Numbers(u64, u64, u64, u64);
 
 const LETTERS: usize = 26;

@@ -1,5 +1,7 @@
 // The desk's regions, and each way in which two of them can lie, run through the code. A line has the letters of what was asked and what was
 // answered. Examples on requests and on the checks are stored questions with stored answers: vectors/DESK.md says where each of them runs.
+#![tactic(auto)]
+
 mod given;
 
 use given::region;

@@ -1,4 +1,6 @@
 // Where two stretches of bytes differ: the service desk's question after 26.
+#![tactic(auto)]
+
 ghost use Rattle.std.specs.Prelude.{◌+◌, ◌≤◌, ◌≡◌, length, drop};
 ghost use Rattle.lists.specs.Alike.{alike};
 ghost use Rattle.rules.specs.Differing.{lacking_part};

@@ -1,4 +1,6 @@
 // Numbers among lent bytes, the lowest byte first. Bytes past the end count as 0, so each answers at any place; whether a field is wholly there is for the caller to ask.
+#![tactic(auto)]
+
 ghost use Rattle.std.specs.Prelude.{◌+◌, ◌*◌, ◌^◌, ◌≤◌, ◌<◌, ◌≡◌, leb, length};
 ghost use Rattle.lists.specs.Bytes.{little};
 ghost use Rattle.lists.specs.Words.{part};

@@ -1,4 +1,6 @@
 // What every library for C and Rust needs beside its functions: a side by its number, a test as a number, and lent words filled.
+#![tactic(auto)]
+
 ghost use Rattle.std.specs.Prelude.{[], ◌∷◌, ◌≡◌, length};
 ghost use Rattle.lent.specs.Lent.{yes_or_no, side_asked};
 

@@ -1,5 +1,7 @@
 // Reads one plan file, applies the plan to the configuration, edition and zones that it holds itself, and prints the map listing of the table
 // that it leaves; of a refused plan it prints what `apply` prints.
+#![tactic(auto)]
+
 use libc::STDOUT_FILENO;
 use listing::{LONGEST_LISTING, list_alone};
 use plan_file::{print, read, room};

@@ -1,4 +1,6 @@
 // The map listing of a table into a lent buffer; and that of the table which a plan leaves at its own base.
+#![tactic(auto)]
+
 mod lines;
 mod size;
 mod text;

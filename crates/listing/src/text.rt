@@ -24,7 +24,7 @@ const CPU_AND_SPACE: u32 = 0x2055_5043;
 const IOMM: u32 = 0x4d4d_4f49;
 
 // In which digits are spelled.
-#[derive(Drop)]
+#[derive(Clone, Copy)]
 enum Base {
     Ten,
     Sixteen,

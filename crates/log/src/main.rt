@@ -1,5 +1,7 @@
 // Reads one log file, runs the rules beside what it claims, and prints on one line the number, the place, what the rules answer and what was
 // claimed. Where there are no bytes to judge it says why on standard error and prints nothing.
+#![tactic(auto)]
+
 use libc::STDOUT_FILENO;
 use logs::{LONGEST_LOG, check_log};
 use plan_file::read;

@@ -14,7 +14,7 @@ use rules::widths::REQUEST_BYTES;
 
 // The GIC's position, where the base zones (at their count) and the first request begin, and where the requests end, which is where the
 // claims' count stands; or a refusal and its offset.
-#[derive(Drop)]
+#[derive(Clone, Copy)]
 pub enum FoundLog {
     At {
         gic: u32,

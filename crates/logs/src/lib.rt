@@ -1,4 +1,6 @@
 // Logs that terminals send back: the rules are run beside what one claims, and its end zones written.
+#![tactic(auto)]
+
 mod finding;
 mod size;
 

@@ -1,5 +1,7 @@
 // Plans of terminals with owners: an owners section stands between the regions and the base zones, and has as many entries as there are
 // regions. All else is the first machine's plan, and its parts are asked.
+#![tactic(auto)]
+
 mod applying;
 mod comparing;
 mod finding;

@@ -1,5 +1,7 @@
 // The state of a terminal with owners in storage: the first machine's way over the same parts, with this machine's own number, run and
 // comparison.
+#![tactic(auto)]
+
 ghost use Rattle.owners.specs.Run.{OwnedRan};
 ghost use Rattle.owned_storage.specs.Storage.{OwnedBeside, OwnedFoundBeside, OwnedPrepared};
 

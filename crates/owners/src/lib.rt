@@ -1,5 +1,7 @@
 // A second machine over the first: every configured region but the GIC has an owner, and no other zone may hold it. The first machine answers;
 // whose a region is, is asked here.
+#![tactic(auto)]
+
 mod check;
 mod holding;
 mod run;

@@ -26,7 +26,7 @@ use zones::{
 };
 
 // The words hold what is there, which ends at this byte; or they hold something else.
-#[derive(Drop)]
+#[derive(Clone, Copy)]
 pub enum Held {
     Same(usize),
     Other,

@@ -10,14 +10,14 @@ use rules::widths::{REGION_BYTES, SHORT_BYTES};
 use zones::region_in;
 
 // A count, a mark or an id; or not wholly there.
-#[derive(Drop)]
+#[derive(Clone, Copy)]
 pub enum Number {
     Is(u32),
     Missing,
 }
 
 // A region, or not wholly there.
-#[derive(Drop)]
+#[derive(Clone, Copy)]
 pub enum RegionField {
     Is(Region),
     Missing,

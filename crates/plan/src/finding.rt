@@ -18,7 +18,7 @@ use rules::widths::{REGION_BYTES, SHORT_BYTES};
 pub const MARKS_BYTES: usize = SHORT_BYTES + MARKS as usize * SHORT_BYTES;
 
 // The marks, and where the base zones (at their count) and the first request begin; or a refusal and its offset.
-#[derive(Drop)]
+#[derive(Clone, Copy)]
 pub enum Found {
     At {
         gic: u32,
@@ -33,7 +33,7 @@ pub enum Found {
 }
 
 // The same of bytes that begin with a plan, and where its requests end.
-#[derive(Drop)]
+#[derive(Clone, Copy)]
 pub enum Four {
     At {
         gic: u32,

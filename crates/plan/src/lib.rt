@@ -1,4 +1,6 @@
 // Plans: bytes that nobody trusts become requests, or a number and a place.
+#![tactic(auto)]
+
 mod applying;
 mod comparing;
 mod field;

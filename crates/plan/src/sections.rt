@@ -17,21 +17,21 @@ use zones::{
 };
 
 // The marks; or a refusal and its offset.
-#[derive(Drop)]
+#[derive(Clone, Copy)]
 pub enum Marks {
     Are { gic: u32, edition: u32 },
     Bad { number: u32, at: usize },
 }
 
 // Where the section ends, and the configuration; or a refusal, and zeros.
-#[derive(Drop)]
+#[derive(Clone, Copy)]
 pub struct Regions {
     pub section: Section,
     pub config: Config,
 }
 
 // Where the section ends, and the table of the base zones; or a refusal, and zeros.
-#[derive(Drop)]
+#[derive(Clone, Copy)]
 pub struct Zones {
     pub section: Section,
     pub table: Table,

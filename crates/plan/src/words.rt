@@ -11,7 +11,7 @@ use rules::widths::{REGION_BYTES, SHORT_BYTES};
 use zones::{REGION_WORDS, SET_WORDS, put_region, zone_start};
 
 // Where a section ends; or a refusal and its offset.
-#[derive(Drop)]
+#[derive(Clone, Copy)]
 pub enum Section {
     End(usize),
     Bad { number: u32, at: usize },

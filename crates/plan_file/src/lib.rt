@@ -1,5 +1,7 @@
 // What the programs over plan files share: the file that an argument names is read, and an answer is printed. Where there are no bytes
 // to judge it is said why on standard error.
+#![tactic(auto)]
+
 mod report;
 mod size;
 
@@ -13,7 +15,7 @@ pub use size::room;
 const ARGUMENTS: usize = 2;
 
 // How many bytes of the file stand at the buffer's start; and whether they are to be judged: where not, standard error says why.
-#[derive(Drop)]
+#[derive(Clone, Copy)]
 pub struct Got {
     pub count: usize,
     pub is_there: bool,

@@ -1,5 +1,7 @@
 // Numbers and bytes put into lent bytes, the lowest byte first: the other way of `fields`, for all who write. Bytes past the end go nowhere,
 // so each answers at any place; whether all of them fit is for the caller to ask.
+#![tactic(auto)]
+
 ghost use Rattle.std.specs.Prelude.{◌≡◌};
 ghost use Rattle.lists.specs.Bytes.{bytes_of};
 ghost use Rattle.puts.specs.Puts.{put_at};

@@ -1,4 +1,6 @@
 // Plans that arrive in pieces: the bytes go into one lent buffer, and an end call applies what came.
+#![tactic(auto)]
+
 ghost use Rattle.std.specs.Prelude.{◌+◌, ◌≤◌, ◌≡◌, length};
 ghost use Rattle.std.proofs.Math.Seq.{paste};
 ghost use Rattle.rules.specs.Limits.{limits};
@@ -11,14 +13,14 @@ use rules::{Outcome, Receiver};
 use zones::{CONFIG_WORDS, TABLE_WORDS, standing};
 
 // What a piece call answers, and the next receiver.
-#[derive(Drop)]
+#[derive(Clone, Copy)]
 pub struct Taking {
     pub number: u32,
     pub receiver: Receiver,
 }
 
 // What an end call answers, and the next receiver.
-#[derive(Drop)]
+#[derive(Clone, Copy)]
 pub struct Ending {
     pub outcome: Outcome,
     pub receiver: Receiver,

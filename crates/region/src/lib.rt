@@ -1,4 +1,6 @@
 // Checks on regions and their addresses, for any 64-bit numbers: no sum is formed that could wrap.
+#![tactic(auto)]
+
 ghost use Rattle.std.specs.Prelude.{◌+◌, ◌≡◌, leb};
 ghost use Rattle.rules.specs.Limits.{limits};
 ghost use Rattle.rules.specs.Addresses.{overlaps};

@@ -358,7 +358,7 @@ module _ (lim : Limits) where
         disjoint =
             pairs_append (zones_apart c) t (empty_zone id) s.disjoint
             (all_make (λ (y : Zone). zones_apart c y (empty_zone id)) t no_zone
-            (λ j q. all_make _ (regions_of (get_or t j no_zone)) no_region (λ m w. refl)));
+            (λ j q. all_make (λ (x : Region). not (any (clash c x) (regions_of (empty_zone id)))) (regions_of (get_or t j no_zone)) no_region (λ m w. refl)));
       }
 
   accepted_keeps : (c : Configuration) (t : List Zone) (k : Kind) (id : ℕ) → SoundTable c t

@@ -1,22 +1,24 @@
 // The vocabulary of the rules as plain data. There is no code: specs/ has every definition, proofs/ the laws about them.
+#![tactic(auto)]
+
 pub mod limits;
 pub mod numbers;
 pub mod widths;
 
 // An address that a zone uses.
-#[derive(Drop)]
+#[derive(Clone, Copy)]
 pub struct Guest(pub u64);
 
 // An address of the machine's memory.
-#[derive(Drop)]
+#[derive(Clone, Copy)]
 pub struct Phys(pub u64);
 
 // What may be done with a region: read 1, write 2, execute 4.
-#[derive(Drop)]
+#[derive(Clone, Copy)]
 pub struct Rights(pub u64);
 
 // `size` bytes: the guest addresses from `v` on stand for the physical ones from `p` on.
-#[derive(Drop)]
+#[derive(Clone, Copy)]
 pub struct Region {
     pub v: Guest,
     pub p: Phys,
@@ -26,7 +28,7 @@ pub struct Region {
 
 // What the check of a configuration finds: nothing, or the first fault with its place. specs/Configuration.antt gives each case
 // its number.
-#[derive(Drop)]
+#[derive(Clone, Copy)]
 pub enum Checked {
     Sound,
     BadCount,
@@ -38,14 +40,14 @@ pub enum Checked {
 }
 
 // Who uses a zone's regions: its processor, or its devices.
-#[derive(Drop)]
+#[derive(Clone, Copy)]
 pub enum Side {
     Cpu,
     Iommu,
 }
 
 // What is asked of a zone. Numbers that make no request are kept as one that is refused.
-#[derive(Drop)]
+#[derive(Clone, Copy)]
 pub enum Kind {
     AddZone,
     RemoveZone,
@@ -54,7 +56,7 @@ pub enum Kind {
     NoRequest,
 }
 
-#[derive(Drop)]
+#[derive(Clone, Copy)]
 pub struct Request {
     pub zone: u32,
     pub kind: Kind,
@@ -62,7 +64,7 @@ pub struct Request {
 
 // What a run of requests answers: a number, the place that it speaks of, and the number of the request that was refused, or 0.
 #[repr(C)]
-#[derive(Drop)]
+#[derive(Clone, Copy)]
 pub struct Outcome {
     pub number: u32,
     pub place: usize,
@@ -71,7 +73,7 @@ pub struct Outcome {
 
 // What the check of a log answers: the outcome, whose inner number at a false claim is what the rules answer; and what was claimed there, or
 // 0.
-#[derive(Drop)]
+#[derive(Clone, Copy)]
 pub struct LogAnswer {
     pub outcome: Outcome,
     pub claimed: u32,
@@ -79,7 +81,7 @@ pub struct LogAnswer {
 
 // What a translation answers: 0, the physical address and how many bytes of the covering region there are from it on; or a number, and
 // 0 for both.
-#[derive(Drop)]
+#[derive(Clone, Copy)]
 pub struct Translated {
     pub number: u32,
     pub phys: Phys,
@@ -87,14 +89,14 @@ pub struct Translated {
 }
 
 // The same of a configuration with owners: what the plain check finds, or a wrong owner and its place.
-#[derive(Drop)]
+#[derive(Clone, Copy)]
 pub enum OwnedChecked {
     Plain(Checked),
     WrongOwner(usize),
 }
 
 // What takes a plan in pieces: how many bytes are stored, and 0 unless more came than the longest plan has.
-#[derive(Drop)]
+#[derive(Clone, Copy)]
 pub struct Receiver {
     pub stored: usize,
     pub more: u64,

@@ -1,4 +1,6 @@
 // A terminal's state in storage, where the power may be cut at any time: a mark, which is the edition, and two slots for its table.
+#![tactic(auto)]
+
 mod copying;
 
 ghost use Rattle.std.specs.Prelude.{◌≡◌};
@@ -12,7 +14,7 @@ use rules::Outcome;
 use zones::{CONFIG_WORDS, TABLE_WORDS, run_in, standing};
 
 // What a plan is answered, and the mark that is to be written then: where the number is not 0, the one that stands.
-#[derive(Drop)]
+#[derive(Clone, Copy)]
 pub struct Prepared {
     pub outcome: Outcome,
     pub mark: u32,

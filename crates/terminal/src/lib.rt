@@ -1,4 +1,6 @@
 // The terminal's one state, changed where it lies.
+#![tactic(auto)]
+
 ghost use Rattle.terminal.specs.Terminal.{Applies};
 
 use plan::State;

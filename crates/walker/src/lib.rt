@@ -1,5 +1,7 @@
 // A walker over a plan: the lent bytes and the place in them, kept together. The reading is in `step_at` and the judging in `judge`, whose
 // parameters are plain; the walker's own functions only take it apart and pass it on.
+#![tactic(auto)]
+
 ghost use Rattle.std.specs.Prelude.{◌≡◌};
 ghost use Rattle.walker.specs.Walker.{step_at, start_of, next_of};
 ghost use Rattle.walker.specs.Edition.{judged, edition_of};
@@ -16,35 +18,35 @@ const EDITION_AT: usize = 2 * SHORT_BYTES;
 
 const FORMAT_AT: usize = 3 * SHORT_BYTES;
 
-#[derive(Drop)]
+#[derive(Clone, Copy)]
 pub struct Walker<'a> {
     pub plan: &'a [u8],
     pub at: usize,
 }
 
 // A number of 4 bytes, or not wholly there.
-#[derive(Drop)]
+#[derive(Clone, Copy)]
 pub enum Found {
     Number(u32),
     Missing,
 }
 
 // What is found at a place, and the place behind it; where it is missing, the same place.
-#[derive(Drop)]
+#[derive(Clone, Copy)]
 struct Step {
     found: Found,
     at: usize,
 }
 
 // What a walker finds, and the walker at the place behind it.
-#[derive(Drop)]
+#[derive(Clone, Copy)]
 pub struct Next<'a> {
     pub found: Found,
     pub walker: Walker<'a>,
 }
 
 // The base edition that a plan's marks name; or a refusal and its offset.
-#[derive(Drop)]
+#[derive(Clone, Copy)]
 pub enum Edition {
     Is(u32),
     Bad { number: u32, at: usize },

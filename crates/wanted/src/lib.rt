@@ -1,5 +1,7 @@
 // The requests from two tables: those that lead from the one that is there to the one that is wanted, into a lent buffer, as a plan holds
 // them.
+#![tactic(auto)]
+
 mod list;
 mod tables;
 
@@ -18,7 +20,7 @@ use zones::{CONFIG_WORDS, TABLE_WORDS, standing};
 const MOST: usize = MOST_REQUESTS as usize;
 
 // The number, and how many requests stand in the buffer: none on a refusal.
-#[derive(Drop)]
+#[derive(Clone, Copy)]
 pub struct Listing {
     pub number: u32,
     pub count: usize,

@@ -1,5 +1,7 @@
 // The planner's writer: from a configuration, a table, an edition and a list of requests, the plan into a lent buffer. And a terminal's
 // zones alone, as a plan would hold them.
+#![tactic(auto)]
+
 mod base;
 mod sections;
 

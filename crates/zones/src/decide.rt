@@ -25,7 +25,7 @@ use rules::numbers::{
 use rules::{Kind, Region, Request, Side};
 
 // A position and an index stand for the zone and the region found there.
-#[derive(Drop)]
+#[derive(Clone, Copy)]
 pub enum Change {
     Refuse(u32),
     Add(u64),

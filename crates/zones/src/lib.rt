@@ -1,4 +1,6 @@
 // The configuration and the zone table as words of memory, and what is checked and done there.
+#![tactic(auto)]
+
 mod apart;
 mod claims;
 mod commit;

@@ -19,7 +19,7 @@ use region::{guest_overlap, phys_overlap, region_eq};
 use rules::{Guest, Phys, Region, Rights};
 
 // How a region is looked for among records: by equality, or by overlap in physical or in guest addresses.
-#[derive(Drop)]
+#[derive(Clone, Copy)]
 pub enum By {
     Equal,
     Phys,

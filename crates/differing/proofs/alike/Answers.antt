@@ -1,0 +1,19 @@
+use borrow.Author.Rules.{rules}
+use Prim.Native.Nat.{◌-◌}
+use Rattle.lists.proofs.Alike.{alike_start, alike_on, alike_ended, alike_short, alike_differ}
+use Rattle.differing.proofs.alike.Goals as goal
+
+pub loop-i-init : goal.loop-i-init
+loop-i-init c = (search rules, search alike_start)
+
+pub returns-then-i-second : goal.returns-then-i-second
+returns-then-i-second c = (search (alike_short, rules), search rules)
+
+pub returns-then-first-i : goal.returns-then-first-i
+returns-then-first-i c = (search (alike_differ, rules), search rules)
+
+pub loop-i-preserved : goal.loop-i-preserved
+loop-i-preserved c = (search rules, search (alike_on, rules))
+
+pub returns : goal.returns
+returns c = (search (alike_ended, rules), search rules)

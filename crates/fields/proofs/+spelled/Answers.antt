@@ -15,4 +15,4 @@ pub overflow_add-result : goal.overflow_add-result
 overflow_add-result t c = search (add_fits, rules)
 
 pub returns : goal.returns
-returns t c = spelled_on _ _ _ _ _ c.if-s-at.false c.wide.ensures.0 c.wide.ensures.1 c.spelled-rest.ensures.0 c.spelled-rest.ensures.1
+returns t c = spelled_on _ _ _ _ _ c.if-n-eq0.false c.wide.ensures.0 c.wide.ensures.1 c.spelled-rest.ensures.0 c.spelled-rest.ensures.1

@@ -36,7 +36,7 @@ module _ {R : Type 0} where
   unfolding first_rule
   rule_none a other e = e
 
-  pub ruleset rules = (rule_hit, rule_skip, rule_none)
+  pub ruleset rule_steps = (rule_hit, rule_skip, rule_none)
 
   -- ---- rules in stages: v is what the first stage answers
   -- no rule gives `other`

@@ -15,7 +15,7 @@ use Rattle.lists.specs.Places.{places}
 use Rattle.lists.specs.Rules.{first_rule}
 use Rattle.lists.proofs.Every.{none_at}
 use Rattle.lists.proofs.Room.{length_room, room_read}
-use Rattle.lists.proofs.Rules.{rules, Telling, rules_stop, rules_end, rules_past, Quiet, quiet, test_of, silent}
+use Rattle.lists.proofs.Rules.{rule_steps, Telling, rules_stop, rules_end, rules_past, Quiet, quiet, test_of, silent}
 use Rattle.lists.proofs.Rules.{telling_places, quiet_places}
 use Rattle.lists.proofs.Tests.{both_false, not_fails, not_holds}
 use Rattle.rules.specs.Configuration.{config_of, position_rules, check_rules, check, is_sound, check_number}
@@ -80,23 +80,23 @@ module _ (lim : Limits) where
 
     pub gives_c1 : wrong_count ≡ true → BadCount ≡ check lim s
     unfolding check check_rules
-    gives_c1 a = search rules
+    gives_c1 a = search rule_steps
 
     module _ (a : wrong_count ≡ false) where
       pub gives_c2 : leb s.count s.gic ≡ true → BadGic ≡ check lim s
       unfolding check check_rules
-      gives_c2 b = search rules
+      gives_c2 b = search rule_steps
 
       module _ (b : leb s.count s.gic ≡ false) where
         pub gives_c3 : any used (drop s.count s.records) ≡ true
             → NotZero (first_from used s.records s.count) ≡ check lim s
         unfolding check check_rules
-        gives_c3 c = search rules
+        gives_c3 c = search rule_steps
 
         pub gives_positions : any used (drop s.count s.records) ≡ false
             → first_rule (flat_map (position_rules lim s.records) (places 0 s.count)) Sound ≡ check lim s
         unfolding check check_rules
-        gives_positions c = search rules
+        gives_positions c = search rule_steps
 
   pub telling_at : (records : List Region) (i : ℕ) → Telling (position_rules lim records i) Sound
   unfolding position_rules
@@ -108,23 +108,23 @@ module _ (lim : Limits) where
 
     pub gives_c4 : well_formed lim.page here ≡ false → Malformed i ≡ first_rule (position_rules lim records i) Sound
     unfolding position_rules
-    gives_c4 a = search (rules, not_fails, not_holds) depth 8
+    gives_c4 a = search (rule_steps, not_fails, not_holds) depth 8
 
     module _ (a : well_formed lim.page here ≡ true) where
       pub gives_c5 : in_reach lim here ≡ false → OutOfReach i ≡ first_rule (position_rules lim records i) Sound
       unfolding position_rules
-      gives_c5 b = search (rules, not_fails, not_holds) depth 8
+      gives_c5 b = search (rule_steps, not_fails, not_holds) depth 8
 
       module _ (b : in_reach lim here ≡ true) where
         pub gives_c6 : any (phys_overlap here) (take i records) ≡ true
             → Overlap i (first_index (phys_overlap here) (take i records)) ≡ first_rule (position_rules lim records i) Sound
         unfolding position_rules
-        gives_c6 c = search (rules, not_fails, not_holds) depth 8
+        gives_c6 c = search (rule_steps, not_fails, not_holds) depth 8
 
         pub gives_none : any (phys_overlap here) (take i records) ≡ false
             → Sound ≡ first_rule (position_rules lim records i) Sound
         unfolding position_rules
-        gives_none c = search (rules, not_fails, not_holds) depth 8
+        gives_none c = search (rule_steps, not_fails, not_holds) depth 8
 
   -- ---- the positions upward: those below i are without fault
   module _ (records : List Region) (n : ℕ) where

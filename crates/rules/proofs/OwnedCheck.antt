@@ -16,7 +16,7 @@ use Rattle.lists.proofs.Every.{none_at, none_make}
 use Rattle.lists.proofs.First.{any_first, first_passes}
 use Rattle.lists.proofs.Places.{length_places, get_d_places, get_d_tab}
 use Rattle.lists.proofs.Room.{length_room, room_tab, room_read}
-use Rattle.lists.proofs.Rules.{Quiet, quiet, Telling, telling_places, rules}
+use Rattle.lists.proofs.Rules.{Quiet, quiet, Telling, telling_places, rule_steps}
 use Rattle.lists.proofs.Tests.{both_false}
 use Rattle.rules.specs.Configuration.{gic_of, config_of, wrong_count, wrong_gic, fault_rules, position_rules, check, is_sound}
 use Rattle.rules.specs.Limits.{highest_id, Limits}
@@ -89,29 +89,29 @@ module _ (lim : Limits) where
     -- ---- the answers
     pub owned_c1 : wrong_count lim s.config ≡ true → Plain BadCount ≡ owned_check lim s
     unfolding owned_check owned_check_rules
-    owned_c1 a = search rules
+    owned_c1 a = search rule_steps
 
     module _ (a : wrong_count lim s.config ≡ false) where
       pub owned_c2 : wrong_gic s.config ≡ true → Plain BadGic ≡ owned_check lim s
       unfolding owned_check owned_check_rules
-      owned_c2 b = search rules
+      owned_c2 b = search rule_steps
 
       module _ (b : wrong_gic s.config ≡ false) where
         pub owned_c3 : any (used_at s) late ≡ true
             → Plain (NotZero (first_from (used_at s) (places 0 lim.regions) n)) ≡ owned_check lim s
         unfolding owned_check owned_check_rules
-        owned_c3 c = search rules
+        owned_c3 c = search rule_steps
 
         module _ (c : any (used_at s) late ≡ false) where
           pub owned_c7 : any (wrong_at s) (places 0 n) ≡ true
               → WrongOwner (first_index (wrong_at s) (places 0 n)) ≡ owned_check lim s
           unfolding owned_check owned_check_rules
-          owned_c7 d = search rules
+          owned_c7 d = search rule_steps
 
           owned_positions : any (wrong_at s) (places 0 n) ≡ false
               → first_rule (map plain_rule (fault_rules lim s.config)) (Plain Sound) ≡ owned_check lim s
           unfolding owned_check owned_check_rules
-          owned_positions d = search rules
+          owned_positions d = search rule_steps
 
           module _ (full : length s.config.records ≡ lim.regions) where
             -- no record past the count is used

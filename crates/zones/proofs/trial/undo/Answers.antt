@@ -1,0 +1,59 @@
+-- Each kind of request by its own way back.
+use native.Mathlib.Omega.{arith}
+use mathlib.Core.Path.{refl}
+use borrow.Author.Rules.{rules}
+use Rattle.zones.proofs.Trying.{add_some, undo_add, drop_room, undo_drop, push_there, push_some, undo_push}
+use Rattle.zones.proofs.Trying.{cut_there, cut_room, undo_cut, undo_none}
+use Rattle.zones.proofs.trial.undo.Goals as goal
+
+pub overflow_sub-n : goal.overflow_sub-n
+overflow_sub-n c =
+    omega (arith, c.zone_count-n.ensures, add_some _ _ _ c.in-AddZone.is c.requires.1)
+
+pub remove_zone-requires : goal.remove_zone-requires
+remove_zone-requires c =
+    (c.requires.0, omega (arith, c.zone_count-n.ensures, add_some _ _ _ c.in-AddZone.is c.requires.1))
+
+pub put_back_zone-requires : goal.put_back_zone-requires
+put_back_zone-requires c =
+    let room = drop_room _ _ _ c.in-RemoveZone.is c.requires.1 in
+    ((c.requires.0, room.0), room.1)
+
+pub set_len-n-requires : goal.set_len-n-requires
+set_len-n-requires c =
+    omega (arith, push_there _ _ _ _ _ c.in-Insert.is _ _ refl c.find_zone-z.ensures c.requires.1)
+
+pub overflow_sub-n-in-Insert : goal.overflow_sub-n-in-Insert
+overflow_sub-n-in-Insert c =
+    omega (
+      arith,
+      c.set_len-n.ensures,
+      push_some _ _ _ _ _ c.in-Insert.is _ _ refl c.find_zone-z.ensures c.requires.1,
+    )
+
+pub cut_region-requires : goal.cut_region-requires
+cut_region-requires c =
+    let there = push_there _ _ _ _ _ c.in-Insert.is _ _ refl c.find_zone-z.ensures c.requires.1 in
+    let some = push_some _ _ _ _ _ c.in-Insert.is _ _ refl c.find_zone-z.ensures c.requires.1 in
+    ((c.requires.0, there), omega (arith, c.set_len-n.ensures))
+
+pub put_back_region-requires : goal.put_back_region-requires
+put_back_region-requires c =
+    let there = cut_there _ _ _ _ _ c.in-Remove.is _ _ refl c.find_zone-z-in-Remove.ensures c.requires.1 in
+    let room = cut_room _ _ _ _ _ c.in-Remove.is _ _ refl c.find_zone-z-in-Remove.ensures c.requires.1 in
+    ((c.requires.0, there), room)
+
+pub returns-in-AddZone : goal.returns-in-AddZone
+returns-in-AddZone c = search (undo_add, rules)
+
+pub returns-in-RemoveZone : goal.returns-in-RemoveZone
+returns-in-RemoveZone c = undo_drop _ _ _ c.in-RemoveZone.is _ _ refl c.put_back_zone.ensures
+
+pub returns-in-Insert : goal.returns-in-Insert
+returns-in-Insert c = search (undo_push, rules)
+
+pub returns-in-Remove : goal.returns-in-Remove
+returns-in-Remove c = search (undo_cut, rules)
+
+pub returns-in-NoRequest : goal.returns-in-NoRequest
+returns-in-NoRequest c = search (undo_none, rules)

@@ -24,14 +24,14 @@ pub enum Marks {
 }
 
 // Where the section ends, and the configuration; or a refusal, and zeros.
-#[derive(Clone, Copy)]
+#[derive(Drop)]
 pub struct Regions {
     pub section: Section,
     pub config: Config,
 }
 
 // Where the section ends, and the table of the base zones; or a refusal, and zeros.
-#[derive(Clone, Copy)]
+#[derive(Drop)]
 pub struct Zones {
     pub section: Section,
     pub table: Table,

@@ -18,7 +18,7 @@ const LAST_EDITION: u32 = u32::MAX;
 
 // A terminal's state.
 #[repr(C)]
-#[derive(Drop)]
+#[derive(Clone, Copy)]
 pub struct State {
     pub config: Config,
     pub table: Table,
@@ -26,7 +26,7 @@ pub struct State {
 }
 
 // What a terminal answers, and its next state: the state that was given where the number is not 0.
-#[derive(Drop)]
+#[derive(Clone, Copy)]
 pub struct Applied {
     pub outcome: Outcome,
     pub state: State,

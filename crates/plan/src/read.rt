@@ -12,7 +12,7 @@ use rules::widths::SHORT_BYTES;
 use zones::{CONFIG_WORDS, Config, TABLE_WORDS, Table};
 
 // What a plan says: its configuration, edition and zones, and where the first request begins; or a refusal and its offset, and zeros.
-#[derive(Drop)]
+#[derive(Clone, Copy)]
 pub struct Read {
     pub requests: Section,
     pub edition: u32,

@@ -24,14 +24,14 @@ pub enum Marks {
 }
 
 // Where the section ends, and the configuration; or a refusal, and zeros.
-#[derive(Drop)]
+#[derive(Clone, Copy)]
 pub struct Regions {
     pub section: Section,
     pub config: Config,
 }
 
 // Where the section ends, and the table of the base zones; or a refusal, and zeros.
-#[derive(Drop)]
+#[derive(Clone, Copy)]
 pub struct Zones {
     pub section: Section,
     pub table: Table,

@@ -22,7 +22,7 @@ use rules::numbers::{C1_COUNT, C2_GIC, C3_NOT_ZERO, C4_FORM, C5_REACH, C6_OVERLA
 use rules::{Checked, Region};
 
 #[repr(C)]
-#[derive(Drop)]
+#[derive(Clone, Copy)]
 pub struct Config {
     pub words: [u64; CONFIG_WORDS],
 }

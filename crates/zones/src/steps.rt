@@ -16,7 +16,7 @@ use crate::table::Table;
 use crate::words::count_words;
 use rules::Request;
 
-#[derive(Drop)]
+#[derive(Clone, Copy)]
 pub struct Answer {
     pub number: u32,
     pub table: Table,

@@ -20,7 +20,7 @@ use rules::limits::{MOST_IN_SET, MOST_ZONES};
 use rules::{Region, Side};
 
 #[repr(C)]
-#[derive(Drop)]
+#[derive(Clone, Copy)]
 pub struct Table {
     pub words: [u64; TABLE_WORDS],
 }

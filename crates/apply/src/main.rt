@@ -4,23 +4,27 @@
 
 use plan::apply_alone;
 use plan_file::{arguments, print, read_at, room};
+use std::io;
+use std::rt::{Env, Files};
 
-fn main() {
+fn main(rt: HostRuntime) -> io::Result<()> {
     let mut bytes = room();
-    let count = arguments(b"apply");
-    let mut k: usize = 1;
-    while k < count {
-        answer(k, &mut bytes);
-        k += 1;
+    for k in 1..arguments(&rt, b"apply") {
+        answer(&rt, k, &mut bytes)?;
     }
+    Ok(())
 }
 
 // What the file that an argument names is answered.
-fn answer(argument: usize, bytes: &mut [u8]) {
-    let got = read_at(b"apply", argument, bytes);
+fn answer<R: Env + Files + Print + Eprint>(
+    rt: &R,
+    argument: usize,
+    bytes: &mut [u8],
+) -> io::Result<()> {
+    let got = read_at(rt, b"apply", argument, bytes);
     if !got.is_there {
-        return;
+        return Ok(());
     }
     let n = got.count;
-    print(apply_alone(&bytes[..n]));
+    print(rt, apply_alone(&bytes[..n]))
 }

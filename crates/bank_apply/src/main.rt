@@ -9,6 +9,8 @@ ghost use Rattle.rules.specs.OwnedSizes.{longest_owned_size};
 
 use owned::{LONGEST_OWNED_PLAN, apply_alone};
 use plan_file::{arguments, print, read_at};
+use std::io;
+use std::rt::{Env, Files};
 
 // A byte more, by which a file that is longer than any plan shows.
 const BYTES_READ: usize = LONGEST_OWNED_PLAN + 1;
@@ -20,22 +22,24 @@ fn room() -> [u8; BYTES_READ]
     [0; BYTES_READ]
 }
 
-fn main() {
+fn main(rt: HostRuntime) -> io::Result<()> {
     let mut bytes = room();
-    let count = arguments(b"bank_apply");
-    let mut k: usize = 1;
-    while k < count {
-        answer(k, &mut bytes);
-        k += 1;
+    for k in 1..arguments(&rt, b"bank_apply") {
+        answer(&rt, k, &mut bytes)?;
     }
+    Ok(())
 }
 
 // What the file that an argument names is answered.
-fn answer(argument: usize, bytes: &mut [u8]) {
-    let got = read_at(b"bank_apply", argument, bytes);
+fn answer<R: Env + Files + Print + Eprint>(
+    rt: &R,
+    argument: usize,
+    bytes: &mut [u8],
+) -> io::Result<()> {
+    let got = read_at(rt, b"bank_apply", argument, bytes);
     if !got.is_there {
-        return;
+        return Ok(());
     }
     let n = got.count;
-    print(apply_alone(&bytes[..n]));
+    print(rt, apply_alone(&bytes[..n]))
 }

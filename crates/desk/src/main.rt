@@ -6,61 +6,55 @@ mod given;
 
 use given::region;
 use region::{guest_overlap, in_reach, phys_overlap, region_eq, well_formed};
+use std::io;
 
-fn main() {
-    text(b"A region: is it well formed, is it in reach?\n");
-    alone(b"AFHIJKLXVZWST");
-    text(b"Two regions: are they equal, do they overlap physically, do they in guest addresses?\n");
-    pairs();
+fn main(rt: HostRuntime) -> io::Result<()> {
+    println!(rt; "A region: is it well formed, is it in reach?")?;
+    alone(&rt, b"AFHIJKLXVZWST")?;
+    println!(rt;
+        "Two regions: are they equal, do they overlap physically, do they in guest addresses?"
+    )?;
+    pairs(&rt)
 }
 
-fn pairs() {
-    beside(b'A', b"ABUYCG");
-    beside(b'C', b"A");
-    beside(b'G', b"G");
-    beside(b'M', b"ONPQR");
+fn pairs(rt: &impl Print) -> io::Result<()> {
+    beside(rt, b'A', b"ABUYCG")?;
+    beside(rt, b'C', b"A")?;
+    beside(rt, b'G', b"G")?;
+    beside(rt, b'M', b"ONPQR")
 }
 
-fn alone(letters: &[u8]) {
-    let mut k: usize = 0;
-    while k < letters.len() {
-        ask(letters[k]);
-        k += 1;
+fn alone(rt: &impl Print, letters: &[u8]) -> io::Result<()> {
+    for letter in letters {
+        ask(rt, *letter)?;
     }
+    Ok(())
 }
 
-fn ask(letter: u8) {
-    text(&[letter]);
-    say(well_formed(region(letter)));
-    say(in_reach(region(letter)));
-    text(b"\n");
+fn ask(rt: &impl Print, letter: u8) -> io::Result<()> {
+    let formed = said(well_formed(region(letter)));
+    let reached = said(in_reach(region(letter)));
+    let name = letter as char;
+    println!(rt; "{name} {formed} {reached}")
 }
 
 // One region beside each of the others.
-fn beside(one: u8, others: &[u8]) {
-    let mut k: usize = 0;
-    while k < others.len() {
-        ask_both(one, others[k]);
-        k += 1;
+fn beside(rt: &impl Print, one: u8, others: &[u8]) -> io::Result<()> {
+    for other in others {
+        ask_both(rt, one, *other)?;
     }
+    Ok(())
 }
 
-fn ask_both(one: u8, other: u8) {
-    text(&[one, b' ', other]);
-    say(region_eq(region(one), region(other)));
-    say(phys_overlap(region(one), region(other)));
-    say(guest_overlap(region(one), region(other)));
-    text(b"\n");
+fn ask_both(rt: &impl Print, one: u8, other: u8) -> io::Result<()> {
+    let equal = said(region_eq(region(one), region(other)));
+    let phys = said(phys_overlap(region(one), region(other)));
+    let guest = said(guest_overlap(region(one), region(other)));
+    let name = one as char;
+    let name_beside = other as char;
+    println!(rt; "{name} {name_beside} {equal} {phys} {guest}")
 }
 
-fn say(holds: bool) {
-    if holds {
-        text(b" yes");
-    } else {
-        text(b" no");
-    }
-}
-
-fn text(t: &[u8]) {
-    io::write_all(libc::STDOUT_FILENO, t);
+fn said(holds: bool) -> &'static str {
+    if holds { "yes" } else { "no" }
 }

@@ -2,31 +2,31 @@
 // that it leaves; of a refused plan it prints what `apply` prints.
 #![tactic(auto)]
 
-use libc::STDOUT_FILENO;
 use listing::{LONGEST_LISTING, list_alone};
 use plan_file::{print, read, room};
+use std::io;
 
-fn main() {
+fn main(rt: HostRuntime) -> io::Result<()> {
     let mut bytes = room();
-    let got = read(b"list", &mut bytes);
+    let got = read(&rt, b"list", &mut bytes);
     if !got.is_there {
-        return;
+        return Ok(());
     }
     let n = got.count;
-    list(&bytes[..n]);
+    list(&rt, &bytes[..n])
 }
 
-fn list(plan: &[u8]) {
+fn list(rt: &impl Print, plan: &[u8]) -> io::Result<()> {
     let mut text = [0u8; LONGEST_LISTING];
-    list_into(plan, &mut text);
+    list_into(rt, plan, &mut text)
 }
 
-fn list_into(plan: &[u8], text: &mut [u8]) {
+#[tactic(auto, using(crate::proofs::Room::place_taken))]
+fn list_into(rt: &impl Print, plan: &[u8], text: &mut [u8]) -> io::Result<()> {
     let outcome = list_alone(plan, text);
     if outcome.number != 0 {
-        print(outcome);
-        return;
+        return print(rt, outcome);
     }
     let length = outcome.place;
-    io::write_all(STDOUT_FILENO, &text[..length]);
+    rt.write_all(&text[..length])
 }

@@ -1,24 +1,24 @@
 // Reads one log file, runs the rules beside what it claims, and prints on one line the number, the place, what the rules answer and what was
-// claimed. Where there are no bytes to judge it says why on standard error and prints nothing.
+// claimed. Where there are no bytes to judge it says why on standard error and prints nothing. It calls itself `log`.
 #![tactic(auto)]
 
-use libc::STDOUT_FILENO;
 use logs::{LONGEST_LOG, check_log};
 use plan_file::read;
 use rules::LogAnswer;
+use std::io;
 use zones::{CONFIG_WORDS, TABLE_WORDS};
 
 // A byte more, by which a file that is longer than any log shows.
 const BYTES_READ: usize = LONGEST_LOG + 1;
 
-fn main() {
+fn main(rt: HostRuntime) -> io::Result<()> {
     let mut bytes = [0u8; BYTES_READ];
-    let got = read(b"log", &mut bytes);
+    let got = read(&rt, b"log", &mut bytes);
     if !got.is_there {
-        return;
+        return Ok(());
     }
     let n = got.count;
-    print(check(&bytes[..n]));
+    print(&rt, check(&bytes[..n]))
 }
 
 // The end zones are as long as those of a log can be, and nobody reads them here.
@@ -29,14 +29,10 @@ fn check(log: &[u8]) -> LogAnswer {
     check_log(&mut config, &mut table, log, &mut zones)
 }
 
-fn print(answer: LogAnswer) {
+fn print(rt: &impl Print, answer: LogAnswer) -> io::Result<()> {
     let outcome = answer.outcome;
-    io::print_decimal(STDOUT_FILENO, outcome.number as u64);
-    io::write_all(STDOUT_FILENO, b" ");
-    io::print_decimal(STDOUT_FILENO, outcome.place as u64);
-    io::write_all(STDOUT_FILENO, b" ");
-    io::print_decimal(STDOUT_FILENO, outcome.inner as u64);
-    io::write_all(STDOUT_FILENO, b" ");
-    io::print_decimal(STDOUT_FILENO, answer.claimed as u64);
-    io::write_all(STDOUT_FILENO, b"\n");
+    println!(rt;
+        "{} {} {} {}",
+        outcome.number, outcome.place, outcome.inner, answer.claimed
+    )
 }

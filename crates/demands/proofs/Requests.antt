@@ -20,11 +20,11 @@ use Rattle.rules.specs.Tables.{table_of, Zone, StoredTable}
 use Rattle.rules.specs.declared.Outcome.{Outcome}
 use Rattle.rules.specs.declared.Request.{Request}
 use Rattle.rules.proofs.Run.{goes_on, run_by_keeps}
-use Rattle.promises.specs.Answers.{plain_outside, Outside}
+use Rattle.promises.specs.Outside.{plain_outside, Outside}
 use Rattle.promises.specs.Closure.{Corrections}
 use Rattle.promises.specs.Owned.{owned_outside}
 use Rattle.promises.specs.Standing.{AllRecords, KeptApart}
-use Rattle.promises.proofs.Answers.{inside_request_by, answered_stands, unsound_request_by, run_so, plain_is_honest, Honest}
+use Rattle.promises.proofs.Outside.{inside_request_by, answered_stands, unsound_request_by, run_so, plain_is_honest, Honest}
 use Rattle.promises.proofs.Owned.{owned_is_honest}
 use Rattle.promises.proofs.Standing.{kept_apart, stands_is_sound_by, answered_is_upstream_by, upstream_is_answered}
 use Rattle.promises.proofs.Steps.{configuration_stays_by, apply_keeps_sound_by}

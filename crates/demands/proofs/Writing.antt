@@ -25,17 +25,17 @@ use Rattle.rules.proofs.Records.{asked_read}
 use Rattle.rules.proofs.Sizes.{sized_asked}
 use Rattle.rules.proofs.Writer.{zero_writable}
 use Rattle.promises.specs.Editions as editions
-use Rattle.promises.specs.Answers.{plain_outside}
+use Rattle.promises.specs.Outside.{plain_outside}
 use Rattle.promises.specs.Editions.{Lawful}
-use Rattle.promises.specs.Writing.{CanLend}
-use Rattle.promises.proofs.Answers.{stands_by, plain_is_honest}
+use Rattle.promises.specs.Writing.{Lendable}
+use Rattle.promises.proofs.Outside.{stands_by, plain_is_honest}
 use Rattle.promises.proofs.Editions.{always_in_step, equal_editions_equal_tables, lower_is_behind}
 use Rattle.promises.proofs.Writing.{may_ask, written_plan, writes_when_may_ask, accepted_is_written, plan_within}
 use Rattle.plan.specs.Applying.{terminal_in}
 use Rattle.plan.specs.Read.{records_in}
 use Rattle.writer.proofs.Bytes.{asked_fit}
 use Rattle.demands.specs.Following.{Code, Meets, lent, terminals_of, Words}
-use Rattle.demands.specs.Writing.{Pen, PenMeets, Writes, wrote, writer_terminals, WriterIsLawful, InStepWithWriter}
+use Rattle.demands.specs.Writing.{Pen, PenMeets, Writes, wrote, terminals_by, WriterIsLawful, InStepWithWriter}
 use Rattle.demands.specs.Writing.{EqualEditionsByWriter, LowerIsBehindByWriter, StartStands, WriterAsksAlike, AcceptedIsWrittenByCalls}
 use Rattle.demands.proofs.Following.{now, all_records_law, start_stands, code_is_lawful, calls_meet}
 use Rattle.demands.proofs.Reading.{long, requests_handed_back}
@@ -61,7 +61,7 @@ module _ (f : Code) (g : Pen) (meets : Meets f) (pen : PenMeets g) (w : List ℕ
         ap₂ (λ (o : Outcome) (v : List ℕ). take o.place v) (pen (lent s) r w).answer (pen (lent s) r w).buffer
         ∙ written_plan (plain_steps limits) (now s) (asked_of r) w answered
 
-  pub writer_laws : Lawful (writer_terminals f g w)
+  pub writer_laws : Lawful (terminals_by f g w)
   writer_laws =
       let law : Lawful (terminals_of f) = code_is_lawful f meets in record {
         stays = law.stays;
@@ -107,7 +107,7 @@ writer_asks_alike g pen s r w st low bytes long = (
     t : Terminal
     t = terminal_in s
 
-    lendable : CanLend limits (terminal_in s) (asked_of r)
+    lendable : Lendable limits (terminal_in s) (asked_of r)
     lendable = record { edition = low; numbers = asked_fit r bytes; records = all_records_law s.config.words }
 
     fits : MayAsk limits (terminal_in s) (asked_of r) → length (plan_bytes limits (terminal_in s) (asked_of r)) ≤ length w

@@ -20,7 +20,7 @@ use Rattle.zones.specs.View.{stored_table}
 use Rattle.zones.specs.Words.{words_of, words_of_config}
 use Rattle.owners.specs.View.{stored_owned}
 use Rattle.owned.specs.Deliveries.{owned_lent, OwnedState, OwnedCalled}
-use Rattle.demands.specs.Steps.{code_terminals, planned_at_by, plan_at_by, CodePast, code_made, code_state, Kind, CodeBy, WordsFollowBy}
+use Rattle.demands.specs.Steps.{code_terminals, planned_at_by, plan_at_by, CodePast, code_made, code_state, Kind, CodeBy, FollowsBy}
 
 -- what is held under an edition: words
 pub record OwnedWords : Type 0 where
@@ -66,7 +66,7 @@ abbrev pub BankCodeFollows : Type 0
 BankCodeFollows =
     (f : CodeBy bank_kind) → BankMeets f → (h : OwnedWords) → OwnedPassed limits (owned_held h)
     → (asked : ℕ → List Asked) (p : CodePast bank_kind h asked f)
-    → (k : ℕ) × WordsFollowBy bank_kind h asked f (code_made bank_kind h asked f p) (code_state bank_kind h asked f p) k
+    → (k : ℕ) × FollowsBy bank_kind h asked f (code_made bank_kind h asked f p) (code_state bank_kind h asked f p) k
 
 -- every history of the rules' terminals is one of the code's
 abbrev pub BankGoesAlong : Type 0

@@ -25,7 +25,7 @@ use Rattle.plan.specs.Deliveries.{states_lent}
 use Rattle.plan.specs.declared.applying.Applied.{Applied}
 use Rattle.plan.specs.declared.applying.State.{State}
 use Rattle.terminal.specs.Terminal.{Applies}
-use Rattle.demands.specs.Steps.{code_terminals, code_planner, CodePast, code_made, code_state, Kind, CodeBy, WordsFollowBy}
+use Rattle.demands.specs.Steps.{code_terminals, code_planner, CodePast, code_made, code_state, Kind, CodeBy, FollowsBy}
 
 -- ---- the code
 -- what a call with a state and bytes answers, and the state that it leaves
@@ -105,7 +105,7 @@ module _ (c : Config) (asked : ℕ → List Asked) where
     -- a state at edition k, of so many plans that were made, follows: its words hold exactly the planner's state of k; plan
     -- k + 1 brings k + 1, and any other, or noise, leaves every word
     abbrev pub Follows : ℕ → State → ℕ → Type 0
-    Follows made s k = WordsFollowBy words_kind no_zones asked (calls_of f) made s k
+    Follows made s k = FollowsBy words_kind no_zones asked (calls_of f) made s k
 
 -- whatever happened, the words hold exactly the planner's state of some edition
 abbrev pub CodeFollows : Type 0

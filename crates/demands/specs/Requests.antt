@@ -13,7 +13,7 @@ use Rattle.rules.specs.Steps.{StepRule}
 use Rattle.rules.specs.Tables.{table_of, Zone}
 use Rattle.rules.specs.declared.Outcome.{Outcome}
 use Rattle.rules.specs.declared.Request.{Request}
-use Rattle.promises.specs.Answers.{plain_outside, Outside}
+use Rattle.promises.specs.Outside.{plain_outside, Outside}
 use Rattle.promises.specs.Closure.{Corrections}
 use Rattle.promises.specs.Owned.{owned_outside}
 use Rattle.promises.specs.Standing.{AllRecords, KeptApart}

@@ -116,7 +116,7 @@ module _ (k : Kind) where
       code_state p = k.lent (code_held p)
 
       -- a state at edition n, of so many plans that were made
-      pub record WordsFollowBy (made : ℕ) (s : k.lending.State) (n : ℕ) : Type 0 where
+      pub record FollowsBy (made : ℕ) (s : k.lending.State) (n : ℕ) : Type 0 where
         -- it is not ahead, and its words hold exactly the planner's state of n
         pub behind : n ≤ made
         pub holds : k.lending.terminal s ≡ planned_at_by n
@@ -134,7 +134,7 @@ module _ (k : Kind) where
   CodeOfStepsFollows =
       Fits k → (f : CodeBy) → MeetsBy f → (h : k.Held) → GoodConfig k.rule (k.holds h).config
       → (asked : ℕ → List Asked) (p : CodePast h asked f)
-      → (n : ℕ) × WordsFollowBy h asked f (code_made h asked f p) (code_state h asked f p) n
+      → (n : ℕ) × FollowsBy h asked f (code_made h asked f p) (code_state h asked f p) n
 
   -- and every history of the rules' terminals is one of the code's: the same events are legal, and in the end there are
   -- as many plans and the words hold the rules' terminal

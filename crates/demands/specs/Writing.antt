@@ -60,8 +60,8 @@ AcceptedIsWrittenByCalls =
 
 -- terminals with that code, and a planner who asks by the bytes of requests and writes into the buffer w. A plan is made
 -- where the writer answers 0
-abbrev pub writer_terminals : Code → Pen → List ℕ → Machine
-writer_terminals f g w = record {
+abbrev pub terminals_by : Code → Pen → List ℕ → Machine
+terminals_by f g w = record {
   Table = Words;
   Bytes = List ℕ;
   Requests = List ℕ;
@@ -76,31 +76,31 @@ writer_terminals f g w = record {
 
 -- they meet what is asked of a machine
 abbrev pub WriterIsLawful : Type 0
-WriterIsLawful = (f : Code) (g : Pen) → Meets f → PenMeets g → (w : List ℕ) → Lawful (writer_terminals f g w)
+WriterIsLawful = (f : Code) (g : Pen) → Meets f → PenMeets g → (w : List ℕ) → Lawful (terminals_by f g w)
 
 -- the planner: both start with the words of no zone
-abbrev pub writer_planner : (f : Code) (g : Pen) (w : List ℕ) → Config → (ℕ → List ℕ) → Planner (writer_terminals f g w)
-writer_planner f g w c asked = record { start = record { config = c; table = record { words = words_of [] } }; asked = asked }
+abbrev pub planner_by : (f : Code) (g : Pen) (w : List ℕ) → Config → (ℕ → List ℕ) → Planner (terminals_by f g w)
+planner_by f g w c asked = record { start = record { config = c; table = record { words = words_of [] } }; asked = asked }
 
 -- so whatever happened, the terminal is in step with what the writer wrote
 abbrev pub InStepWithWriter : Type 0
 InStepWithWriter =
     (f : Code) (g : Pen) → Meets f → PenMeets g → (w : List ℕ) (c : Config) (asked : ℕ → List ℕ)
-    → AlwaysInStep (writer_terminals f g w) (writer_planner f g w c asked)
+    → AlwaysInStep (terminals_by f g w) (planner_by f g w c asked)
 
 -- equal editions, equal words; and the plans between two editions, in turn, bring the lower to the higher
 abbrev pub EqualEditionsByWriter : Type 0
 EqualEditionsByWriter =
     (f : Code) (g : Pen) → Meets f → PenMeets g → (w : List ℕ) (c : Config) (asked : ℕ → List ℕ)
-    → EqualEditionsEqualTables (writer_terminals f g w) (writer_planner f g w c asked)
+    → EqualEditionsEqualTables (terminals_by f g w) (planner_by f g w c asked)
 
 abbrev pub LowerIsBehindByWriter : Type 0
 LowerIsBehindByWriter =
     (f : Code) (g : Pen) → Meets f → PenMeets g → (w : List ℕ) (c : Config) (asked : ℕ → List ℕ)
-    → LowerIsBehind (writer_terminals f g w) (writer_planner f g w c asked)
+    → LowerIsBehind (terminals_by f g w) (planner_by f g w c asked)
 
 -- the premise is met: a configuration that passed, with no zone, is sound
 abbrev pub StartStands : Type 0
 StartStands =
     (f : Code) (g : Pen) (w : List ℕ) (c : Config) (asked : ℕ → List ℕ) → ConfigPassed c.words
-    → (writer_terminals f g w).Sound (writer_planner f g w c asked).start
+    → (terminals_by f g w).Sound (planner_by f g w c asked).start

@@ -5,40 +5,38 @@ use mathlib.Core.Bool.{Bool, true, false, cond, not, ◌&&◌, ◌||◌, true≢
 use mathlib.Core.List.{List, [], ◌∷◌, ◌++◌}
 use mathlib.Core.Logic.{◌⊎◌, inl, inr, ⊎_elim}
 use mathlib.Core.Path.{◌≡◌, refl, sym, ap, subst, ◌∙◌}
-use borrow.Author.Tests.{ltb-true, ltb-false, leb-true, eqb-true, not-true, not-false, eqb-false, lt-ltb, le-leb, eq-eqb, ne_eqb}
+use borrow.Author.Tests.{ltb-true, ltb-false, leb-true, eqb-true, not-true, eqb-false, lt-ltb, le-leb, eq-eqb, ne_eqb}
 use lib.Dec.{ltb, leb, eqb}
 use lib.ListN.{length, get_or, drop, length-drop}
-use Rattle.lists.specs.First.{first_index, any, all as every}
+use Rattle.lists.specs.First.{first_index, any}
 use Rattle.lists.specs.Lines.{FirstOf, Exactly}
 use Rattle.lists.specs.Room.{remove_at}
 use Rattle.lists.specs.Rules.{◌when◌, first_rule, Rule}
 use Rattle.lists.proofs.Every.{any_make, any_at, none_at}
 use Rattle.lists.proofs.First.{any_first, first_passes}
 use Rattle.lists.proofs.Lines.{Tells, tells_not, exactly, exactly_of, first_of, first_map, all, ◌and◌, Matches, NoneOf}
-use Rattle.lists.proofs.Rules.{test_of, above_zero, silent_number, hit_whatever}
 use Rattle.lists.proofs.Places.{first_failing, other_at, other_make}
 use Rattle.lists.proofs.Tests.{both_true, true_both, both_false, one_true, or_left, or_right, not_fails, not_holds}
 use Rattle.lists.proofs.Tests.{true_of, false_of, parts, whole}
 use Rattle.formats.specs.Formats.{Out, got, bad, left, then, at_end, read_file}
 use Rattle.formats.proofs.Formats.{Part, part_at, Told}
 use Rattle.rules.specs.Addresses.{Shared, overlaps}
-use Rattle.rules.specs.Applying.{last_edition, store, same_list, same_zone, plain, base_rules, plain_steps, judged_by, apply_read_by}
-use Rattle.rules.specs.Applying.{apply_by, base_by, answer_read_by, answer_alone_by, apply, answer_alone, Kept, AppliedOf, ForBaseBy}
+use Rattle.rules.specs.Applying.{last_edition, same_list, same_zone, same_config, plain, judged_rules, judged, apply_read}
+use Rattle.rules.specs.Applying.{apply, base_of, answer_read, answer_alone, Terminal}
 use Rattle.rules.specs.Changes.{region_set}
 use Rattle.rules.specs.Configuration.{gic_of, config_of, check, is_sound, check_number, check_place, check_earlier}
 use Rattle.rules.specs.Configuration.{Configuration, StoredConfig}
 use Rattle.rules.specs.Limits.{page_of, Limits}
-use Rattle.rules.specs.Plan.{read_plan, requests_from}
+use Rattle.rules.specs.Plan.{plan_format, read_plan, requests_of, Plan}
 use Rattle.rules.specs.Regions.{well_formed, may_write, may_execute, in_reach, region_eq, phys_overlap, guest_overlap, no_region}
 use Rattle.rules.specs.Requests.{find, present, held_in, holds_any, on_gic, forbidden, add_rules, remove_zone_rules}
 use Rattle.rules.specs.Requests.{region_rules, set_rules, insert_rules, remove_rules, kind_rules, no_request, request_rules}
-use Rattle.rules.specs.Requests.{refusal, next_by, next, standing_rules, standing, answer}
-use Rattle.rules.specs.Run.{run, run_by, run_from, ended, ended_after, run_answer, Run}
-use Rattle.rules.specs.Steps.{StepRule}
+use Rattle.rules.specs.Requests.{refusal, standing_rules, standing, answer}
+use Rattle.rules.specs.Run.{run, ended, run_answer, Run}
 use Rattle.rules.specs.Tables.{no_zone, has_id, regions_of, configured, excessive, clash, table_of, check_table, Zone}
 use Rattle.rules.specs.Tables.{StoredTable}
 use Rattle.rules.specs.Translation.{covers_guest, covering_in, phys_in, remaining_in, translation_rules, translated_as}
-use Rattle.rules.specs.Translation.{translation, translated_after, translated}
+use Rattle.rules.specs.Translation.{translation, translated}
 use Rattle.rules.specs.declared.Checked.{Checked}
 use Rattle.rules.specs.declared.Checked.TheVariants.{Sound, BadCount, BadGic, NotZero, Malformed, OutOfReach, Overlap}
 use Rattle.rules.specs.declared.Guest.{Guest}
@@ -49,30 +47,25 @@ use Rattle.rules.specs.declared.Region.{Region}
 use Rattle.rules.specs.declared.Request.{Request}
 use Rattle.rules.specs.declared.Side.{Side}
 use Rattle.rules.specs.declared.Side.TheVariants.{Cpu, Iommu}
-use Rattle.rules.specs.declared.Translated.{Translated}
 use Rattle.rules.proofs.Addresses.{overlap_shared}
 use Rattle.rules.proofs.Applying.{same_list_law, list_same, same_zone_law, zone_same, outcome_by}
 use Rattle.rules.proofs.Configuration.{sound_is, sound_answer}
 use Rattle.rules.proofs.Keeps.{sound_parts, SoundTable}
 use Rattle.rules.proofs.Plan.{lawful_plan}
 use Rattle.rules.proofs.Regions.{equal_same, equal_refl}
-use Rattle.rules.proofs.Run.{run_by_all, run_by_stops}
+use Rattle.rules.proofs.Run.{run_all, run_stops}
+use Rattle.rules.proofs.Sections.{whole_read, own_config_law, own_zones}
 use Rattle.rules.proofs.Translation.{covers_parts, parts_cover, same_distance, remains_to_end}
 use Rattle.promises.specs.Answers.{HasTooMany, standing_lines, HasZone, IsWellFormed, IsInReach, MeetsPhys, MeetsGuest, SomeIn}
 use Rattle.promises.specs.Answers.{SomeZone, ForbiddenFor, kind_lines, RequestSays, RefusalIsExact, AnswerIsExact}
-use Rattle.promises.specs.Answers.{ComesOut, TranslatedIsExact, no_ask, number_by, RunAnswerIsExact, all_accepted}
-use Rattle.promises.specs.Answers.{twenty_seven, EndsBy, Ends, twenty, twenty_one, twenty_two, reads, ReadingBy}
-use Rattle.promises.specs.Answers.{Outside, standing_of, EndsOf, AnswerIsExactBy, TranslatedIsExactBy}
-use Rattle.promises.specs.Answers.{RunAnswerIsExactBy, AtTerminalBy, ApplyIsExactBy, AloneBy, AloneIsExactBy}
-use Rattle.promises.specs.Answers.{NeverAloneBy, plain_outside}
-use Rattle.promises.specs.Answers.{ApplyIsExact, AloneIsExact, NeverAlone, StandingIsInside, ChecksPass}
+use Rattle.promises.specs.Answers.{ComesOut, TranslatedIsExact, no_ask, number_at, RunAnswerIsExact, all_accepted}
+use Rattle.promises.specs.Answers.{twenty_seven, Ends, twenty, twenty_one, twenty_two, reads, Reading, AtTerminal}
+use Rattle.promises.specs.Answers.{ApplyIsExact, Alone, AloneIsExact, NeverAlone, StandingIsInside, Stands}
 use Rattle.promises.specs.Answers.{nothing, c1, c2, c3, c4, c5, c6, Finds, CheckNumbersAreExact}
-use Rattle.promises.specs.Configuration.{Means, Passed}
-use Rattle.promises.specs.Steps.{run_of_by, Proper}
+use Rattle.promises.specs.Configuration.{Means}
 use Rattle.promises.specs.Tables.{In}
 use Rattle.promises.specs.Translation.{CoversGuest}
 use Rattle.promises.proofs.Configuration.{check_is_exact}
-use Rattle.promises.proofs.Terminals.{plain_is_proper}
 use Rattle.promises.proofs.Translation.{one_covers, set_there}
 
 -- ---- what the tests mean
@@ -93,14 +86,14 @@ pub not_equal : (a b : ℕ) → a ≤ b → (a ≡ b → ⊥) → a < b
 not_equal a b h n =
     ltb-true a b (true_of (ltb a b) (λ e. let k : b ≤ a = ltb-false a b e in n (omega arith)))
 
-tells_zone : (id : ℕ) (t : List Zone) → Tells (present id t) (HasZone id t)
+pub tells_zone : (id : ℕ) (t : List Zone) → Tells (present id t) (HasZone id t)
 tells_zone id t = (
   (λ e. let (z, h, q) = any_at (has_id id) t no_zone e in (z, h, eqb-true _ _ q)),
   (λ (z, h, q). any_make (has_id id) t no_zone z h (eq-eqb _ _ q)),
 )
 
 -- some element of a set, some zone, some other zone than the one at k
-tells_some : (p : Region → Bool) (P : Region → Type 0) → ((x : Region) → Tells (p x) (P x)) → (xs : List Region)
+pub tells_some : (p : Region → Bool) (P : Region → Type 0) → ((x : Region) → Tells (p x) (P x)) → (xs : List Region)
     → Tells (any p xs) (SomeIn xs P)
 tells_some p P f xs = (
   (λ e. let (i, h, q) = any_at p xs no_region e in (get_or xs i no_region, (i, h, refl), (f (get_or xs i no_region)).0 q)),
@@ -261,13 +254,56 @@ module _ (lim : Limits) where
       first_of 0 (λ n. 0 ≡ n) (tells_kind q.kind and tells_lt _ _ and kind_matches c t q.zone q.kind)
       (λ none n. ((λ e. e), λ e. e))
 
--- ---- translation
-tells_covers : (a : ℕ) (r : Region) → Tells (covers_guest a r) (CoversGuest r a)
-tells_covers a r = (covers_parts a r, parts_cover a r)
+  -- ---- 1 and 2
+  module _ (c : StoredConfig) (t : StoredTable) where
+    standing_as : {R : Type 0} → (ℕ → R) → List (Rule R)
+    standing_as say = say 1 when not (is_sound (check lim c)) ∷ say 2 when not (check_table lim c t) ∷ []
 
-module _ (lim : Limits) where
+    pub tells_unsound : Tells (not (is_sound (check lim c))) (check lim c ≡ Sound → ⊥)
+    tells_unsound = tells_not _ _ (sound_answer (check lim c), λ e. ap is_sound e ∙ sound_is)
+
+    pub tells_bad : Tells (not (check_table lim c t)) (check_table lim c t ≡ false)
+    tells_bad = (not-true (check_table lim c t), not_fails (check_table lim c t))
+
+    pub table_stands : check_table lim c t ≡ true → SoundTable lim (config_of c) (table_of t)
+    unfolding check_table
+    table_stands e = sound_parts lim (config_of c) (table_of t) (parts _ e).1.1.0
+
+    standing_matches : {R : Type 0} (say : ℕ → R) → Matches (standing_as say) (standing_lines say lim c t)
+    unfolding standing_as
+    standing_matches say = tells_unsound and tells_bad and all
+
+    -- put before what is answered at a table that stands
+    standing_first : {R : Type 0} (say : ℕ → R) (x : R) (P : R → Type 0)
+        → (NoneOf (standing_lines say lim c t) → Exactly x P)
+        → Exactly (first_rule (standing_as say) x) (FirstOf (standing_lines say lim c t) P)
+    standing_first say x P g = first_of x P (standing_matches say) g
+
+    standing_as_law : {R : Type 0} (say : ℕ → R) (x : R)
+        → cond (eqb (standing lim c t) 0) x (say (standing lim c t)) ≡ first_rule (standing_as say) x
+    unfolding standing_rules standing_as first_rule
+    standing_as_law {R} say x = by (not (is_sound (check lim c))) (not (check_table lim c t))
+      where
+        by : (a b : Bool)
+            → cond (eqb (first_rule (1 when a ∷ 2 when b ∷ []) 0) 0) x (say (first_rule (1 when a ∷ 2 when b ∷ []) 0))
+            ≡ first_rule (say 1 when a ∷ say 2 when b ∷ []) x
+        by true b = refl
+        by false true = refl
+        by false false = refl
+
+    pub standing_exactly : {R : Type 0} (say : ℕ → R) (x : R) (P : R → Type 0) → Exactly x P
+        → Exactly (cond (eqb (standing lim c t) 0) x (say (standing lim c t))) (FirstOf (standing_lines say lim c t) P)
+    standing_exactly say x P h = exactly_of (standing_as_law say x) (standing_first say x P (λ none. h))
+
+  pub answer_is_exact : AnswerIsExact lim
+  unfolding answer standing_rules standing_as
+  answer_is_exact c t q =
+      standing_first c t (λ n. n) (refusal lim (config_of c) (table_of t) q) (RequestSays lim (config_of c) (table_of t) q)
+      (λ none. refusal_is_exact (config_of c) (table_of t) q)
+
+  -- ---- translation
   module _ (c : Configuration) (t : List Zone) (ok : SoundTable lim c t) (id : ℕ) (side : Side) (a : ℕ) where
-    xs : List Region
+    unfoldable pub xs : List Region
     xs = region_set t (find id t) side
 
     -- the region that translation goes by is the one that covers the address
@@ -287,7 +323,7 @@ module _ (lim : Limits) where
         (ap (covers_guest a) q ∙ parts_cover a r m) in
         sym k ∙ ap (λ (n : ℕ). get_or xs n no_region) one ∙ q
 
-    comes_out : any (covers_guest a) xs ≡ true → Exactly (translated_as 0 a (covering_in a xs)) (ComesOut t id side a)
+    pub comes_out : any (covers_guest a) xs ≡ true → Exactly (translated_as 0 a (covering_in a xs)) (ComesOut t id side a)
     unfolding xs translated_as
     comes_out e =
         exactly (translated_as 0 a (covering_in a xs)) (ComesOut t id side a) (
@@ -313,354 +349,214 @@ module _ (lim : Limits) where
             let f : r.v.0 + r.size - a ≡ remaining_in a r = sym (remains_to_end a r k) in
             (λ i. record { number = 0; phys = record { 0 = e i }; remaining = f i })
 
--- ---- 1 and 2, before all else
-standing_tests : {R : Type 0} → (ℕ → R) → Bool → Bool → List (Rule R)
-standing_tests say u v = say 1 when not u ∷ say 2 when not v ∷ []
+  pub tells_covers : (a : ℕ) (r : Region) → Tells (covers_guest a r) (CoversGuest r a)
+  tells_covers a r = (covers_parts a r, parts_cover a r)
 
-standing_as_law : {R : Type 0} (say : ℕ → R) (x : R) (u v : Bool)
-    → cond (eqb (first_rule (standing_tests (λ n. n) u v) 0) 0) x (say (first_rule (standing_tests (λ n. n) u v) 0))
-    ≡ first_rule (standing_tests say u v) x
-unfolding first_rule standing_tests
-standing_as_law say x false v = refl
-standing_as_law say x true false = refl
-standing_as_law say x true true = refl
-
--- ---- requests in turn
-module _ (number : List Zone → Request → ℕ) (after : List Zone → Request → List Zone) (t : List Zone) (qs : List Request) where
-  ends_so : (o : Outcome) → EndsBy number after t qs o → ended (run_by number after 0 t qs) ≡ o
-  unfolding ended
-  ends_so o (all_accepted f) =
-      let e : 0 + length qs ≡ length qs = omega arith in
-      ap ended (run_by_all number after no_ask 0 t qs f) ∙ ap (plain 0) e
-  ends_so o (twenty_seven i h f ne) =
-      let e : 0 + i ≡ i = omega arith in
-      ap ended (run_by_stops number after no_ask 0 t qs i h f ne)
-      ∙ (λ x. record {
-        number = cond (ne_eqb (number_by number after t qs i) 0 ne x) 0 27;
-        place = e x;
-        inner = number_by number after t qs i;
-      })
-
-  some_end : (o : Outcome) × EndsBy number after t qs o
-  some_end =
-      ⊎_elim (λ f. (plain 0 (length qs), all_accepted (λ j h. eqb-true _ _ (f j h))))
-      (λ (i, h, e, f). (
-        record { number = 27; place = i; inner = number_by number after t qs i },
-        twenty_seven i h (λ j m. eqb-true _ _ (f j m)) (eqb-false _ _ e),
-      ))
-      (first_failing (λ j. eqb (number_by number after t qs j) 0) (length qs))
-
-  pub ends_by_exactly : Exactly (ended (run_by number after 0 t qs)) (EndsBy number after t qs)
-  ends_by_exactly = exactly (ended (run_by number after 0 t qs)) (EndsBy number after t qs) some_end ends_so
-
--- ---- reading
-module _ {P : Type 0} (read : List ℕ → Out P) (part : (b : List ℕ) → Part (left (read b)) b)
-    (told : (b : List ℕ) (k : ℕ) (t : List ℕ) → read b ≡ bad k t → Told k)
-    (b : List ℕ) (answered : Out P → Outcome)
-    (refused : (k : ℕ) (t : List ℕ) → answered (bad k t) ≡ plain k (length b - length t))
-    (Then : P → Outcome → Type 0)
-    (then-exactly : (p : P) → read b ≡ got p [] → Exactly (answered (got p [])) (Then p)) where
-  at_place : (k at : ℕ) → at ≤ length b → then (read b) at_end ≡ bad k (drop at b)
-      → answered (then (read b) at_end) ≡ plain k at
-  at_place k at h e =
-      let q : length b - length (drop at b) ≡ at = omega (arith, length-drop at b) in
-      ap answered e ∙ refused k (drop at b) ∙ ap (plain k) q
-
-  -- what the reader of the sections gives, and the end of the file
-  file_of : (o : Out P) → read b ≡ o → then (read b) at_end ≡ then o at_end
-  file_of o e = ap (λ (x : Out P). then x at_end) e
-
-  more_left : (p : P) (t : List ℕ) → 0 < length t → at_end p t ≡ bad 22 t
-  unfolding at_end
-  more_left p [] h = absurd (omega arith)
-  more_left p (x ∷ t) h = refl
-
-  reads_so : (o : Outcome) → ReadingBy read b Then o → answered (then (read b) at_end) ≡ o
-  unfolding then at_end
-  reads_so o (twenty at h e) = at_place 20 at h (file_of (bad 20 (drop at b)) e)
-  reads_so o (twenty_one at h e) = at_place 21 at h (file_of (bad 21 (drop at b)) e)
-  reads_so o (twenty_two p at h e) =
-      at_place 22 at (omega arith)
-      (file_of (got p (drop at b)) e ∙ more_left p (drop at b) (omega (arith, length-drop at b)))
-  reads_so o (reads p x e w) = ap answered (file_of (got p []) e) ∙ (then-exactly p e x).1 w
-
-  some_reading : (o : Outcome) × ReadingBy read b Then o
-  unfolding left
-  some_reading = by (read b) refl
-    where
-      at_field : (k : ℕ) (t : List ℕ) → read b ≡ bad k t → (at : ℕ) → at ≤ length b → t ≡ drop at b → Told k
-          → (o : Outcome) × ReadingBy read b Then o
-      at_field k t e at h q (inl n) = (plain 20 at, twenty at h (e ∙ (λ i. bad (n i) (q i))))
-      at_field k t e at h q (inr n) = (plain 21 at, twenty_one at h (e ∙ (λ i. bad (n i) (q i))))
-
-      by : (o : Out P) → read b ≡ o → (o : Outcome) × ReadingBy read b Then o
-      by (bad k t) e =
-          let (at, h, q) = part_at t b (subst (λ (x : Out P). Part (left x) b) e (part b)) in
-          at_field k t e at h q (told b k t e)
-      by (got p []) e =
-          (answered (got p []), reads p (answered (got p [])) e ((then-exactly p e (answered (got p []))).0 refl))
-      by (got p (x ∷ t)) e =
-          let (at, h, q) = part_at (x ∷ t) b (subst (λ (y : Out P). Part (left y) b) e (part b)) in
-          (plain 22 at, twenty_two p at (omega (arith, ap length q, length-drop at b)) (e ∙ ap (got p) q))
-
-  pub reading_exactly : Exactly (answered (then (read b) at_end)) (ReadingBy read b Then)
-  reading_exactly = exactly (answered (then (read b) at_end)) (ReadingBy read b Then) some_reading reads_so
-
--- ---- a kind of terminals from outside
-tells_zones : (t u : List Zone) → Tells (same_list same_zone t u) (t ≡ u)
-tells_zones t u = (
-  same_list_law same_zone same_zone_law t u,
-  λ e. ap (λ (x : List Zone). same_list same_zone x u) e ∙ list_same same_zone zone_same u,
-)
-
--- what is asked of one: each of its answers is by 1 and 2 and then by its own rules; and its tests, its numbers and its
--- reader mean what they say
-pub record Honest (m : StepRule) (o : Outside m) : Type 1 where
-  pub proper : Proper m
-  pub check : m.Config → Bool
-  pub tells_passed : (c : m.Config) → Tells (check c) (o.Passes c)
-  pub standing_so : (c : m.Config) (t : StoredTable)
-      → m.standing c t ≡ first_rule (1 when not (check c) ∷ 2 when not (o.passes c t) ∷ []) 0
-  pub answer_so : (c : m.Config) (t : StoredTable) (q : Request)
-      → o.answer c t q
-      ≡ first_rule (1 when not (check c) ∷ 2 when not (o.passes c t) ∷ []) (o.number (o.model c) (table_of t) q)
-  pub address_so : (c : m.Config) (t : StoredTable) (id : ℕ) (s : Side) (a : Guest)
-      → o.address c t id s a
-      ≡ translated_after (1 when not (check c) ∷ 2 when not (o.passes c t) ∷ []) (table_of t) id s a.0
-  pub requests_so : (c : m.Config) (t : StoredTable) (qs : List Request)
-      → o.requests c t qs
-      ≡ ended_after (m.standing c t) (run_by (o.number (o.model c)) (o.after (o.model c)) 0 (table_of t) qs)
-  pub deliver_so : (s : Kept m) (b : List ℕ) → o.deliver s b ≡ apply_by m s b
-  pub alone_so : (b : List ℕ) → o.alone b ≡ answer_alone_by m b
-  pub number_so : (c : m.Config) (t : List Zone) (q : Request) → m.refusal c t q ≡ o.number (o.model c) t q
-  pub after_so : (c : m.Config) (t : List Zone) (q : Request) → m.next c t q ≡ o.after (o.model c) t q
-  pub leads : (c : o.Model) (t : List Zone) (q : Request) → o.after c t q ≡ next_by (o.number c t q) t q
-  pub number_exact : (c : o.Model) (t : List Zone) (q : Request) → Exactly (o.number c t q) (o.Says c t q)
-  -- document 01's check passes there, its tables are sound there, and it accepts what is accepted here, with the same
-  -- next table
-  pub passed_there : (c : m.Config) → length (o.first c).records ≡ m.limits.regions → o.Passes c
-      → Passed m.limits (o.first c)
-  pub sound_there : (c : m.Config) (t : StoredTable) → o.passes c t ≡ true
-      → SoundTable m.limits (config_of (o.first c)) (table_of t)
-  pub accepted_there : (c : m.Config) (t : List Zone) (q : Request) → o.number (o.model c) t q ≡ 0
-      → (refusal m.limits (config_of (o.first c)) t q ≡ 0)
-      × (o.after (o.model c) t q ≡ next m.limits (config_of (o.first c)) t q)
-  pub read_so : (b : List ℕ) → m.read b ≡ then (o.sections b) at_end
-  pub part : (b : List ℕ) → Part (left (o.sections b)) b
-  pub told : (b : List ℕ) (k : ℕ) (t : List ℕ) → o.sections b ≡ bad k t → Told k
-  pub gives_model : (c : m.Config) (p : m.Said) → m.Gives c p → o.model c ≡ o.said p
-
-module _ (m : StepRule) (o : Outside m) (ok : Honest m o) where
-  -- 1 and 2 put before what is answered at a table that stands
-  module _ (c : m.Config) (t : StoredTable) where
-    standing_matches : {R : Type 0} (say : ℕ → R)
-        → Matches (standing_tests say (ok.check c) (o.passes c t)) (standing_of m o say c t)
-    unfolding standing_tests
-    standing_matches say =
-        tells_not _ _ (ok.tells_passed c) and (not-true (o.passes c t), not_fails (o.passes c t)) and all
-
-    standing_first : {R : Type 0} (say : ℕ → R) (x : R) (P : R → Type 0)
-        → (NoneOf (standing_of m o say c t) → Exactly x P)
-        → Exactly (first_rule (standing_tests say (ok.check c) (o.passes c t)) x) (FirstOf (standing_of m o say c t) P)
-    standing_first say x P g = first_of x P (standing_matches say) g
-
-    standing_told : {R : Type 0} (say : ℕ → R) (x : R)
-        → cond (eqb (m.standing c t) 0) x (say (m.standing c t))
-        ≡ first_rule (standing_tests say (ok.check c) (o.passes c t)) x
-    unfolding standing_tests
-    standing_told say x =
-        ap (λ (n : ℕ). cond (eqb n 0) x (say n)) (ok.standing_so c t)
-        ∙ standing_as_law say x (ok.check c) (o.passes c t)
-
-    pub standing_exactly_by : {R : Type 0} (say : ℕ → R) (x : R) (P : R → Type 0) → Exactly x P
-        → Exactly (cond (eqb (m.standing c t) 0) x (say (m.standing c t))) (FirstOf (standing_of m o say c t) P)
-    standing_exactly_by say x P h = exactly_of (standing_told say x) (standing_first say x P (λ none. h))
-
-    -- neither applies
-    pub stands_by : m.standing c t ≡ 0 → o.Passes c × (o.passes c t ≡ true)
-    unfolding test_of above_zero every
-    stands_by e =
-        let h = silent_number (1 when not (ok.check c) ∷ 2 when not (o.passes c t) ∷ []) refl (sym (ok.standing_so c t) ∙ e) in
-        ((ok.tells_passed c).0 (not-false _ (h 1)), not-false _ (h 2))
-
-    past_standing_by : m.standing c t ≡ 0 → {R : Type 0} (say : ℕ → R) (vs : List (Rule R)) (x : R)
-        → first_rule (standing_tests say (ok.check c) (o.passes c t) ++ vs) x ≡ first_rule vs x
-    unfolding standing_tests first_rule
-    past_standing_by e say vs x =
-        let (a, b) = stands_by e in rw (not_holds _ ((ok.tells_passed c).1 a), not_holds _ b)
-
-    pub inside_request_by : m.standing c t ≡ 0 → (q : Request)
-        → o.answer c t q ≡ o.number (o.model c) (table_of t) q
-    unfolding standing_tests first_rule
-    inside_request_by e q = ok.answer_so c t q ∙ past_standing_by e (λ n. n) [] (o.number (o.model c) (table_of t) q)
-
-    pub inside_address_by : m.standing c t ≡ 0 → (id : ℕ) (side : Side) (g : Guest)
-        → o.address c t id side g ≡ translation (table_of t) id side g.0
-    unfolding translation standing_tests
-    inside_address_by e id side g =
-        let z : List Zone = table_of t in
-        ok.address_so c t id side g
-        ∙ ap (λ (n : ℕ). translated_as n g.0 (covering_in g.0 (region_set z (find id z) side)))
-        (past_standing_by e (λ n. n) (translation_rules z id side g.0) 0)
-
-    -- behind 1 and 2 there is a 0 only where neither applies
-    behind : (u v : Bool) (n : ℕ) → first_rule (1 when u ∷ 2 when v ∷ []) n ≡ 0
-        → ◌≡◌ {A = ℕ} (first_rule (1 when u ∷ 2 when v ∷ []) 0) 0
-    unfolding first_rule
-    behind true v n z = absurd (omega arith)
-    behind false true n z = absurd (omega arith)
-    behind false false n z = refl
-
-    pub answered_stands : (q : Request) → o.answer c t q ≡ 0 → m.standing c t ≡ 0
-    answered_stands q e = ok.standing_so c t ∙ behind _ _ _ (sym (ok.answer_so c t q) ∙ e)
-
-    -- where one applies, that is the number
-    pub unsound_request_by : (m.standing c t ≡ 0 → ⊥) → (q : Request) → o.answer c t q ≡ m.standing c t
-    unfolding first_rule
-    unsound_request_by ne q =
-        let rs : List (Rule ℕ) = 1 when not (ok.check c) ∷ 2 when not (o.passes c t) ∷ [] in
-        ok.answer_so c t q
-        ∙ sym (hit_whatever rs (m.standing c t) 0 (o.number (o.model c) (table_of t) q) (ok.standing_so c t) ne)
-
-    pub translated_stands : (id : ℕ) (side : Side) (g : Guest) → (o.address c t id side g).number ≡ 0
-        → m.standing c t ≡ 0
-    unfolding first_rule translated_as
-    translated_stands id side g e =
-        ok.standing_so c t
-        ∙ behind (not (ok.check c)) (not (o.passes c t)) (first_rule (translation_rules (table_of t) id side g.0) 0)
-        (sym (ap (λ (x : Translated). x.number) (ok.address_so c t id side g)) ∙ e)
-
-  pub answer_is_exact_by : AnswerIsExactBy m o
-  unfolding standing_tests
-  answer_is_exact_by c t q =
-      exactly_of (ok.answer_so c t q)
-      (standing_first c t (λ n. n) (o.number (o.model c) (table_of t) q) (o.Says (o.model c) (table_of t) q)
-      (λ none. ok.number_exact (o.model c) (table_of t) q))
-
-  pub translated_is_exact_by : TranslatedIsExactBy m o
-  unfolding translation_rules translated_as xs
-  translated_is_exact_by c t id side g =
+  pub translated_is_exact : TranslatedIsExact lim
+  unfolding translated translation_rules standing_rules translated_as xs
+  translated_is_exact c t id side g =
       let a : ℕ = g.0 in
       let z : List Zone = table_of t in
       let some : List Region = region_set z (find id z) side in
       let r : Region = covering_in a some in
-      let rs : List (Rule ℕ) = 1 when not (ok.check c) ∷ 2 when not (o.passes c t) ∷ [] in
-      exactly_of (ok.address_so c t id side g
-      ∙ first_map (λ n. translated_as n a r) (rs ++ translation_rules z id side a) 0)
+      exactly_of (first_map (λ n. translated_as n a r) (standing_rules lim c t ++ translation_rules z id side a) 0)
       (first_of (translated_as 0 a r) (ComesOut z id side a)
-      (tells_not _ _ (ok.tells_passed c) and (not-true (o.passes c t), not_fails (o.passes c t)) and tells_lt _ _
-      and tells_not _ _ (tells_zone id z)
+      (tells_unsound c t and tells_bad c t and tells_lt _ _ and tells_not _ _ (tells_zone id z)
       and tells_not _ _ (tells_some (covers_guest a) (λ x. CoversGuest x a) (tells_covers a) some) and all)
-      (λ none. comes_out m.limits (config_of (o.first c)) z (ok.sound_there c t (true_of _ none.1.0)) id side a
+      (λ none. comes_out (config_of c) z (table_stands c t (true_of _ none.1.0)) id side a
       (twice (any (covers_guest a) some) (tells_some (covers_guest a) (λ x. CoversGuest x a) (tells_covers a) some)
       none.1.1.1.1.0)))
 
-  pub run_answer_is_exact_by : RunAnswerIsExactBy m o
-  run_answer_is_exact_by c t qs =
-      let number : List Zone → Request → ℕ = o.number (o.model c) in
-      let after : List Zone → Request → List Zone = o.after (o.model c) in
-      exactly_of (ok.requests_so c t qs)
-      (standing_exactly_by c t (λ n. plain n 0) (ended (run_by number after 0 (table_of t) qs))
-      (EndsOf m o (o.model c) (table_of t) qs) (ends_by_exactly number after (table_of t) qs))
+  -- ---- runs
+  module _ (c : Configuration) (t : List Zone) (qs : List Request) where
+    ends_so : (o : Outcome) → Ends lim c t qs o → ended (run lim c t qs) ≡ o
+    unfolding ended
+    ends_so o (all_accepted f) =
+        let e : 0 + length qs ≡ length qs = omega arith in
+        ap ended (run_all lim c no_ask 0 t qs f) ∙ ap (plain 0) e
+    ends_so o (twenty_seven i h f ne) =
+        let e : 0 + i ≡ i = omega arith in
+        ap ended (run_stops lim c no_ask 0 t qs i h f ne)
+        ∙ (λ x. record {
+          number = cond (ne_eqb (number_at lim c t qs i) 0 ne x) 0 27;
+          place = e x;
+          inner = number_at lim c t qs i;
+        })
+
+    some_end : (o : Outcome) × Ends lim c t qs o
+    some_end =
+        ⊎_elim (λ f. (plain 0 (length qs), all_accepted (λ j h. eqb-true _ _ (f j h))))
+        (λ (i, h, e, f). (
+          record { number = 27; place = i; inner = number_at lim c t qs i },
+          twenty_seven i h (λ j m. eqb-true _ _ (f j m)) (eqb-false _ _ e),
+        ))
+        (first_failing (λ j. eqb (number_at lim c t qs j) 0) (length qs))
+
+    pub ends_exactly : Exactly (ended (run lim c t qs)) (Ends lim c t qs)
+    ends_exactly = exactly (ended (run lim c t qs)) (Ends lim c t qs) some_end ends_so
+
+  pub run_answer_is_exact : RunAnswerIsExact lim
+  unfolding run_answer
+  run_answer_is_exact c t qs =
+      standing_exactly c t (λ n. plain n 0) (ended (run lim (config_of c) (table_of t) qs))
+      (Ends lim (config_of c) (table_of t) qs) (ends_exactly (config_of c) (table_of t) qs)
+
+  -- ---- reading
+  module _ (b : List ℕ) (answered : Out Plan → Outcome)
+      (refused : (k : ℕ) (t : List ℕ) → answered (bad k t) ≡ plain k (length b - length t))
+      (Then : Plan → Outcome → Type 0)
+      (then-exactly : (p : Plan) → read_plan lim b ≡ got p [] → Exactly (answered (got p [])) (Then p)) where
+    at_place : (k at : ℕ) → at ≤ length b → read_plan lim b ≡ bad k (drop at b) → answered (read_plan lim b) ≡ plain k at
+    at_place k at h e =
+        let q : length b - length (drop at b) ≡ at = omega (arith, length-drop at b) in
+        ap answered e ∙ refused k (drop at b) ∙ ap (plain k) q
+
+    -- what the reader of the four sections gives, and the end of the file
+    file_of : (o : Out Plan) → (plan_format lim).read b ≡ o → read_plan lim b ≡ then o at_end
+    unfolding read_plan read_file
+    file_of o e = ap (λ (x : Out Plan). then x at_end) e
+
+    more_left : (p : Plan) (t : List ℕ) → 0 < length t → at_end p t ≡ bad 22 t
+    unfolding at_end
+    more_left p [] h = absurd (omega arith)
+    more_left p (x ∷ t) h = refl
+
+    reads_so : (o : Outcome) → Reading lim b Then o → answered (read_plan lim b) ≡ o
+    unfolding then at_end
+    reads_so o (twenty at h e) = at_place 20 at h (file_of (bad 20 (drop at b)) e)
+    reads_so o (twenty_one at h e) = at_place 21 at h (file_of (bad 21 (drop at b)) e)
+    reads_so o (twenty_two p at h e) =
+        at_place 22 at (omega arith)
+        (file_of (got p (drop at b)) e ∙ more_left p (drop at b) (omega (arith, length-drop at b)))
+    reads_so o (reads p x e w) =
+        let q : read_plan lim b ≡ got p [] = file_of (got p []) e in
+        ap answered q ∙ (then-exactly p q x).1 w
+
+    some_reading : (o : Outcome) × Reading lim b Then o
+    unfolding then at_end left
+    some_reading = by ((plan_format lim).read b) refl
+      where
+        told : (k : ℕ) (t : List ℕ) → (plan_format lim).read b ≡ bad k t → (at : ℕ) → at ≤ length b → t ≡ drop at b
+            → Told k → (o : Outcome) × Reading lim b Then o
+        told k t e at h q (inl n) = (plain 20 at, twenty at h (e ∙ (λ i. bad (n i) (q i))))
+        told k t e at h q (inr n) = (plain 21 at, twenty_one at h (e ∙ (λ i. bad (n i) (q i))))
+
+        by : (o : Out Plan) → (plan_format lim).read b ≡ o → (o : Outcome) × Reading lim b Then o
+        by (bad k t) e =
+            let (at, h, q) = part_at t b (subst (λ (x : Out Plan). Part (left x) b) e ((lawful_plan lim).part b)) in
+            told k t e at h q ((lawful_plan lim).refuses b k t e)
+        by (got p []) e =
+            let q : read_plan lim b ≡ got p [] = file_of (got p []) e in
+            (answered (got p []), reads p (answered (got p [])) e ((then-exactly p q (answered (got p []))).0 refl))
+        by (got p (x ∷ t)) e =
+            let (at, h, q) =
+            part_at (x ∷ t) b (subst (λ (y : Out Plan). Part (left y) b) e ((lawful_plan lim).part b)) in
+            (plain 22 at, twenty_two p at (omega (arith, ap length q, length-drop at b)) (e ∙ ap (got p) q))
+
+    reading_exactly : Exactly (answered (read_plan lim b)) (Reading lim b Then)
+    reading_exactly = exactly (answered (read_plan lim b)) (Reading lim b Then) some_reading reads_so
 
   -- ---- plans
-  -- a run of the step rule is by the numbers and next tables from outside
-  pub run_so : (c : m.Config) (t : List Zone) (qs : List Request)
-      → m.run c t qs ≡ run_by (o.number (o.model c)) (o.after (o.model c)) 0 t qs
-  run_so c t qs =
-      ok.proper.runs_so c t qs
-      ∙ (λ i. run_by (λ t q. ok.number_so c t q i) (λ t q. ok.after_so c t q i) 0 t qs)
-
   -- where 1 and 2 stand
-  outcome_first : (s : Kept m) (b : List ℕ)
-      → (apply_by m s b).outcome
-      ≡ first_rule (standing_tests (λ n. plain n 0) (ok.check s.config) (o.passes s.config s.table))
-      (apply_read_by m s b (m.read b)).outcome
-  unfolding apply_by
+  outcome_first : (s : Terminal) (b : List ℕ)
+      → (apply lim s b).outcome
+      ≡ first_rule (standing_as s.config s.table (λ n. plain n 0)) (apply_read lim s b (read_plan lim b)).outcome
+  unfolding apply
   outcome_first s b =
-      by (eqb (m.standing s.config s.table) 0)
-      ∙ standing_told s.config s.table (λ n. plain n 0) (apply_read_by m s b (m.read b)).outcome
+      by (eqb (standing lim s.config s.table) 0)
+      ∙ standing_as_law s.config s.table (λ n. plain n 0) (apply_read lim s b (read_plan lim b)).outcome
     where
       by : (c : Bool)
-          → (cond c (apply_read_by m s b (m.read b))
-          (record { outcome = plain (m.standing s.config s.table) 0; state = s })).outcome
-          ≡ cond c (apply_read_by m s b (m.read b)).outcome (plain (m.standing s.config s.table) 0)
+          → (cond c (apply_read lim s b (read_plan lim b))
+          (record { outcome = plain (standing lim s.config s.table) 0; state = s })).outcome
+          ≡ cond c (apply_read lim s b (read_plan lim b)).outcome (plain (standing lim s.config s.table) 0)
       by true = refl
       by false = refl
 
-  judged_exactly : (s : Kept m) (p : m.Said) → Exactly (judged_by m s p (run_of_by m s p)) (AtTerminalBy m o s p)
-  unfolding base_rules
-  judged_exactly s p =
-      let c : o.Model = o.model s.config in
-      let t : List Zone = table_of s.table in
-      let qs : List Request = requests_from (m.asked p) in
-      first_of (ended (run_of_by m s p)) (EndsOf m o c t qs)
-      (tells_not _ _ (ok.proper.tells s.config p) and tells_not _ _ (tells_eq _ _) and tells_eq _ _
-      and tells_not _ _ (tells_zones t (m.zones p)) and all)
-      (λ none. exactly_of (ap ended (run_so s.config t qs)) (ends_by_exactly (o.number c) (o.after c) t qs))
+  -- bases that are the same
+  tells_config : (c : Configuration) (p : Plan)
+      → Tells (same_config c p) ((c.regions ≡ p.regions) × (c.gic ≡ p.marks.gic))
+  unfolding same_config
+  tells_config c p = (
+    (λ e. let q = parts _ e in
+        (same_list_law region_eq equal_same c.regions p.regions q.0, eqb-true _ _ q.1.0)),
+    (λ (r, g). whole _ (
+      ap (λ (xs : List Region). same_list region_eq xs p.regions) r ∙ list_same region_eq equal_refl p.regions,
+      (eq-eqb _ _ g, tt),
+    )),
+  )
 
-  pub apply_is_exact_by : ApplyIsExactBy m o
-  unfolding apply_read_by
-  apply_is_exact_by s b =
-      exactly_of (ap (λ (r : AppliedOf m.Config). r.outcome) (ok.deliver_so s b) ∙ outcome_first s b)
-      (standing_first s.config s.table (λ n. plain n 0) (apply_read_by m s b (m.read b)).outcome
-      (ReadingBy o.sections b (AtTerminalBy m o s))
-      (λ none. exactly_of (ap (λ (x : Out m.Said). (apply_read_by m s b x).outcome) (ok.read_so b))
-      (reading_exactly o.sections ok.part ok.told b (λ x. (apply_read_by m s b x).outcome) (λ k t. refl)
-      (AtTerminalBy m o s)
-      (λ p e. exactly_of (outcome_by m.limits s (judged_by m s p (run_of_by m s p)) (run_of_by m s p))
-      (judged_exactly s p)))))
+  tells_zones : (t u : List Zone) → Tells (same_list same_zone t u) (t ≡ u)
+  tells_zones t u = (
+    same_list_law same_zone same_zone_law t u,
+    λ e. ap (λ (x : List Zone). same_list same_zone x u) e ∙ list_same same_zone zone_same u,
+  )
+
+  -- the run of a plan's requests at the terminal's table
+  abbrev run_of : Terminal → Plan → Run
+  run_of s p = run lim (config_of s.config) (table_of s.table) (requests_of p)
+
+  judged_exactly : (s : Terminal) (p : Plan) → Exactly (judged s p (run_of s p)) (AtTerminal lim s p)
+  unfolding judged judged_rules
+  judged_exactly s p =
+      first_of (ended (run_of s p)) (Ends lim (config_of s.config) (table_of s.table) (requests_of p))
+      (tells_not _ _ (tells_config (config_of s.config) p) and tells_not _ _ (tells_eq _ _) and tells_eq _ _
+      and tells_not _ _ (tells_zones (table_of s.table) p.zones) and all)
+      (λ none. ends_exactly (config_of s.config) (table_of s.table) (requests_of p))
+
+  pub apply_is_exact : ApplyIsExact lim
+  unfolding apply_read
+  apply_is_exact s b =
+      exactly_of (outcome_first s b)
+      (standing_first s.config s.table (λ n. plain n 0) (apply_read lim s b (read_plan lim b)).outcome
+      (Reading lim b (AtTerminal lim s))
+      (λ none. reading_exactly b (λ o. (apply_read lim s b o).outcome) (λ k t. refl) (AtTerminal lim s)
+      (λ p e. exactly_of (outcome_by lim s (judged s p (run_of s p)) (run_of s p)) (judged_exactly s p))))
 
   -- at its own base a plan is not refused with 23, 24 or 26
-  module _ (b : List ℕ) (p : m.Said) (e : o.sections b ≡ got p []) where
-    whole_read : m.read b ≡ got p []
-    unfolding then at_end
-    whole_read = ok.read_so b ∙ ap (λ (x : Out m.Said). then x at_end) e
+  module _ (b : List ℕ) (p : Plan) (e : read_plan lim b ≡ got p []) where
+    own : Configuration
+    own = record { regions = p.regions; gic = p.marks.gic }
 
-    own : ForBaseBy m (base_by m p) p
-    own = (ok.proper.gave b p [] whole_read).1
-
-    own_run : run_of_by m (base_by m p) p
-        ≡ run_by (o.number (o.said p)) (o.after (o.said p)) 0 (m.zones p) (requests_from (m.asked p))
-    own_run =
-        run_so (m.given p) (table_of (store m.limits (m.zones p))) (requests_from (m.asked p))
-        ∙ (λ i. run_by (o.number (ok.gives_model (m.given p) p own.config i))
-        (o.after (ok.gives_model (m.given p) p own.config i)) 0 (own.zones i) (requests_from (m.asked p)))
-
-    own_judged : judged_by m (base_by m p) p (run_of_by m (base_by m p) p)
-        ≡ first_rule (plain 25 0 when eqb (m.edition p) last_edition ∷ []) (ended (run_of_by m (base_by m p) p))
-    unfolding base_rules first_rule
+    own_judged : judged (base_of lim p) p (run_of (base_of lim p) p)
+        ≡ first_rule (plain 25 0 when eqb p.marks.edition last_edition ∷ [])
+        (ended (run lim own p.zones (requests_of p)))
+    unfolding judged judged_rules first_rule own
     own_judged =
+        let r = whole_read lim b p [] e in
         rw (
-          not_holds _ ((ok.proper.tells (m.given p) p).1 own.config),
-          not_holds _ (eq-eqb (m.edition p) (m.edition p) refl),
-          not_holds _ ((tells_zones (table_of (store m.limits (m.zones p))) (m.zones p)).1 own.zones),
+          not_holds _
+              ((tells_config (config_of (base_of lim p).config) p).1 (
+                ap (λ (c : Configuration). c.regions) (own_config_law lim b p [] r),
+                ap (λ (c : Configuration). c.gic) (own_config_law lim b p [] r),
+              )),
+          not_holds _ (eq-eqb p.marks.edition p.marks.edition refl),
+          not_holds _ ((tells_zones (table_of (base_of lim p).table) p.zones).1 (own_zones lim b p [] r)),
+          own_config_law lim b p [] r,
+          own_zones lim b p [] r,
         )
 
-    alone_then : Exactly (apply_by m (base_by m p) b).outcome (AloneBy m o p)
-    unfolding apply_read_by
+    alone_then : Exactly (apply lim (base_of lim p) b).outcome (Alone lim p)
+    unfolding apply_read own
     alone_then =
-        let s : Kept m = base_by m p in
-        let r : Run = run_of_by m s p in
-        let qs : List Request = requests_from (m.asked p) in
+        let s : Terminal = base_of lim p in
+        let r : Run = run_of s p in
         exactly_of (outcome_first s b)
-        (standing_first s.config s.table (λ n. plain n 0) (apply_read_by m s b (m.read b)).outcome _
-        (λ none. exactly_of (ap (λ (x : Out m.Said). (apply_read_by m s b x).outcome) whole_read
-        ∙ outcome_by m.limits s (judged_by m s p r) r
+        (standing_first s.config s.table (λ n. plain n 0) (apply_read lim s b (read_plan lim b)).outcome _
+        (λ none. exactly_of (ap (λ (o : Out Plan). (apply_read lim s b o).outcome) e
+        ∙ outcome_by lim s (judged s p r) r
         ∙ own_judged)
-        (first_of (ended r) (EndsOf m o (o.said p) (m.zones p) qs) (tells_eq _ _ and all)
-        (λ none. exactly_of (ap ended own_run) (ends_by_exactly (o.number (o.said p)) (o.after (o.said p)) (m.zones p) qs)))))
+        (first_of (ended (run lim own p.zones (requests_of p))) (Ends lim own p.zones (requests_of p))
+        (tells_eq _ _ and all)
+        (λ none. ends_exactly own p.zones (requests_of p)))))
 
-  pub alone_is_exact_by : AloneIsExactBy m o
-  unfolding answer_alone_by answer_read_by
-  alone_is_exact_by b =
-      exactly_of (ok.alone_so b ∙ ap (answer_read_by m b) (ok.read_so b))
-      (reading_exactly o.sections ok.part ok.told b (answer_read_by m b) (λ k t. refl) (AloneBy m o)
-      (alone_then b))
+  pub alone_is_exact : AloneIsExact lim
+  unfolding answer_alone answer_read
+  alone_is_exact b = reading_exactly b (answer_read lim b) (λ k t. refl) (Alone lim) (alone_then b)
 
-  pub never_alone_by : NeverAloneBy m o
+  pub never_alone : NeverAlone lim
   unfolding any
-  never_alone_by b = by (o.alone b) ((alone_is_exact_by b (o.alone b)).0 refl)
+  never_alone b = by (answer_alone lim b) ((alone_is_exact b (answer_alone lim b)).0 refl)
     where
       Others : ℕ → Type 0
       Others n = (n ≡ 23 → ⊥) × (n ≡ 24 → ⊥) × (n ≡ 26 → ⊥)
@@ -673,122 +569,53 @@ module _ (m : StepRule) (o : Outside m) (ok : Honest m o) where
       of : (x o : Outcome) → x ≡ o → any (eqb x.number) (23 ∷ 24 ∷ 26 ∷ []) ≡ false → Others o.number
       of x o q e = subst (λ (y : Outcome). Others y.number) q (others x.number e)
 
-      by_end : (c : o.Model) (t : List Zone) (qs : List Request) (r : Outcome) → EndsOf m o c t qs r
-          → Others r.number
-      by_end c t qs r (all_accepted f) = others 0 refl
-      by_end c t qs r (twenty_seven i h f ne) = others 27 refl
+      by_end : (c : Configuration) (t : List Zone) (qs : List Request) (o : Outcome) → Ends lim c t qs o
+          → Others o.number
+      by_end c t qs o (all_accepted f) = others 0 refl
+      by_end c t qs o (twenty_seven i h f ne) = others 27 refl
 
-      by : (r : Outcome) → ReadingBy o.sections b (AloneBy m o) r → Others r.number
-      by r (twenty at h e) = others 20 refl
-      by r (twenty_one at h e) = others 21 refl
-      by r (twenty_two p at h e) = others 22 refl
-      by r (reads p x e (inl (h, q))) = of (plain 1 0) x q refl
-      by r (reads p x e (inr (n, inl (h, q)))) = of (plain 2 0) x q refl
-      by r (reads p x e (inr (n, inr (k, inl (h, q))))) = of (plain 25 0) x q refl
-      by r (reads p x e (inr (n, inr (k, inr (j, w))))) =
-          by_end (o.said p) (m.zones p) (requests_from (m.asked p)) x w
-
--- ---- document 01's terminals
-module _ (lim : Limits) where
-  -- 1 and 2
-  module _ (c : StoredConfig) (t : StoredTable) where
-    pub tells_unsound : Tells (not (is_sound (check lim c))) (check lim c ≡ Sound → ⊥)
-    tells_unsound = tells_not _ _ (sound_answer (check lim c), λ e. ap is_sound e ∙ sound_is)
-
-    pub tells_bad : Tells (not (check_table lim c t)) (check_table lim c t ≡ false)
-    tells_bad = (not-true (check_table lim c t), not_fails (check_table lim c t))
-
-    pub table_stands : check_table lim c t ≡ true → SoundTable lim (config_of c) (table_of t)
-    unfolding check_table
-    table_stands e = sound_parts lim (config_of c) (table_of t) (parts _ e).1.1.0
-
-  pub plain_is_honest : Honest (plain_steps lim) (plain_outside lim)
-  unfolding answer translated run_answer run_from standing_rules next next_by apply answer_alone read_plan read_file
-  plain_is_honest = record {
-    proper = plain_is_proper lim;
-    check = λ c. is_sound (check lim c);
-    tells_passed = λ c. (sound_answer (check lim c), λ e. ap is_sound e ∙ sound_is);
-    standing_so = λ c t. refl;
-    answer_so = λ c t q. refl;
-    address_so = λ c t id s a. refl;
-    requests_so = λ c t qs. refl;
-    deliver_so = λ s b. refl;
-    alone_so = λ b. refl;
-    number_so = λ c t q. refl;
-    after_so = λ c t q. refl;
-    leads = λ c t q. refl;
-    number_exact = refusal_is_exact lim;
-    passed_there = λ c full e. (full, e);
-    sound_there = table_stands;
-    accepted_there = λ c t q e. (e, refl);
-    read_so = λ b. refl;
-    part = (lawful_plan lim).part;
-    told = (lawful_plan lim).refuses;
-    gives_model = λ c p g i. record { regions = g.regions i; gic = g.gic i };
-  }
-
-  pub standing_exactly : (c : StoredConfig) (t : StoredTable) {R : Type 0} (say : ℕ → R) (x : R) (P : R → Type 0)
-      → Exactly x P
-      → Exactly (cond (eqb (standing lim c t) 0) x (say (standing lim c t))) (FirstOf (standing_lines say lim c t) P)
-  standing_exactly c t say x P h =
-      standing_exactly_by (plain_steps lim) (plain_outside lim) plain_is_honest c t say x P h
-
-  pub ends_exactly : (c : Configuration) (t : List Zone) (qs : List Request)
-      → Exactly (ended (run lim c t qs)) (Ends lim c t qs)
-  unfolding run_from
-  ends_exactly c t qs = ends_by_exactly (refusal lim c) (next lim c) t qs
-
-  pub answer_is_exact : AnswerIsExact lim
-  answer_is_exact = answer_is_exact_by (plain_steps lim) (plain_outside lim) plain_is_honest
-
-  pub translated_is_exact : TranslatedIsExact lim
-  translated_is_exact = translated_is_exact_by (plain_steps lim) (plain_outside lim) plain_is_honest
-
-  pub run_answer_is_exact : RunAnswerIsExact lim
-  run_answer_is_exact = run_answer_is_exact_by (plain_steps lim) (plain_outside lim) plain_is_honest
-
-  pub apply_is_exact : ApplyIsExact lim
-  apply_is_exact = apply_is_exact_by (plain_steps lim) (plain_outside lim) plain_is_honest
-
-  pub alone_is_exact : AloneIsExact lim
-  alone_is_exact = alone_is_exact_by (plain_steps lim) (plain_outside lim) plain_is_honest
-
-  pub never_alone : NeverAlone lim
-  never_alone = never_alone_by (plain_steps lim) (plain_outside lim) plain_is_honest
+      by : (o : Outcome) → Reading lim b (Alone lim) o → Others o.number
+      by o (twenty at h e) = others 20 refl
+      by o (twenty_one at h e) = others 21 refl
+      by o (twenty_two p at h e) = others 22 refl
+      by o (reads p x e (inl (h, q))) = of (plain 1 0) x q refl
+      by o (reads p x e (inr (n, inl (h, q)))) = of (plain 2 0) x q refl
+      by o (reads p x e (inr (n, inr (m, inl (h, q))))) = of (plain 25 0) x q refl
+      by o (reads p x e (inr (n, inr (m, inr (k, w))))) =
+          by_end (record { regions = p.regions; gic = p.marks.gic }) p.zones (requests_of p) x w
 
   -- ---- where neither 1 nor 2 applies
-  module _ (c : StoredConfig) (t : StoredTable) (ok : ChecksPass lim c t) where
+  module _ (c : StoredConfig) (t : StoredTable) (ok : Stands lim c t) where
     past_standing : {R : Type 0} (say : ℕ → R) (vs : List (Rule R)) (x : R)
-        → first_rule (standing_tests say (is_sound (check lim c)) (check_table lim c t) ++ vs) x ≡ first_rule vs x
-    unfolding standing_tests first_rule
+        → first_rule (standing_as c t say ++ vs) x ≡ first_rule vs x
+    unfolding standing_as first_rule
     past_standing say vs x = rw (not_holds _ (ap is_sound ok.config ∙ sound_is), not_holds _ ok.table)
 
     pub none_told : standing lim c t ≡ 0
-    unfolding standing_rules standing_tests first_rule
+    unfolding standing_rules standing_as first_rule
     none_told = past_standing (λ n. n) [] 0
 
     inside_request : (q : Request) → answer lim c t q ≡ refusal lim (config_of c) (table_of t) q
-    unfolding answer standing_rules standing_tests first_rule
+    unfolding answer standing_rules standing_as first_rule
     inside_request q = past_standing (λ n. n) [] (refusal lim (config_of c) (table_of t) q)
 
     inside_address : (id : ℕ) (side : Side) (g : Guest)
         → translated lim c t id side g ≡ translation (table_of t) id side g.0
-    unfolding translated translation standing_rules standing_tests
+    unfolding translated translation standing_rules standing_as
     inside_address id side g =
         let z : List Zone = table_of t in
         ap (λ (n : ℕ). translated_as n g.0 (covering_in g.0 (region_set z (find id z) side)))
         (past_standing (λ n. n) (translation_rules z id side g.0) 0)
 
     inside_run : (qs : List Request) → run_answer lim c t qs ≡ ended (run lim (config_of c) (table_of t) qs)
-    unfolding run_answer standing_rules standing_tests first_rule
+    unfolding run_answer standing_as first_rule
     inside_run qs =
         let r : Outcome = ended (run lim (config_of c) (table_of t) qs) in
-        standing_as_law (λ n. plain n 0) r (is_sound (check lim c)) (check_table lim c t)
-        ∙ past_standing (λ n. plain n 0) [] r
+        standing_as_law c t (λ n. plain n 0) r ∙ past_standing (λ n. plain n 0) [] r
 
   -- neither line of 1 and 2 holds
   pub stands_of : (c : StoredConfig) (t : StoredTable) → ((check lim c ≡ Sound → ⊥) → ⊥)
-      → (check_table lim c t ≡ false → ⊥) → ChecksPass lim c t
+      → (check_table lim c t ≡ false → ⊥) → Stands lim c t
   stands_of c t n k = record {
     config =
         sound_answer (check lim c)

@@ -34,7 +34,7 @@ use Rattle.rules.proofs.Plan.{lawful_zones}
 use Rattle.rules.proofs.Planner.{plan_fits}
 use Rattle.rules.proofs.Sizes.{sized_zones, encoded_length, most_length}
 use Rattle.promises.specs.Answers.{standing_lines, AtTerminal, twenty, twenty_one, twenty_two, reads, Reading}
-use Rattle.promises.specs.Answers.{all_accepted, twenty_seven, Ends, ChecksPass}
+use Rattle.promises.specs.Answers.{all_accepted, twenty_seven, Ends, Stands}
 use Rattle.promises.specs.Differing.{TwentySixIsShown, short, fits, Told, ZonesAreWritten}
 use Rattle.promises.specs.Differing.{part_at, PartsAre, SectionsDiffer, SectionsOf, PlaceIsAlike, ZonesLongestSuffices}
 use Rattle.promises.proofs.Answers.{apply_is_exact, standing_exactly, stands_of, table_stands}
@@ -223,7 +223,7 @@ module _ (l : Limits) where
       never : (n : ℕ) (o : Outcome) → plain n 0 ≡ o → o.number ≡ 28 → (n ≡ 28 → ⊥) → ⊥
       never n o q f ne = ne (ap (λ (x : Outcome). x.number) q ∙ f)
 
-      last_of : (o : Outcome) → o.number ≡ 28 → ChecksPass l c t → Told (zones_bytes l t) (length w) o → ⊥
+      last_of : (o : Outcome) → o.number ≡ 28 → Stands l c t → Told (zones_bytes l t) (length w) o → ⊥
       last_of o f st (short h) =
           omega (
             arith,

@@ -13,6 +13,7 @@ pub mod Cut
 pub mod Rights
 pub mod Answers
 pub mod Stretches
+pub mod Outside
 pub mod Past
 pub mod Storing
 pub mod MarkLog

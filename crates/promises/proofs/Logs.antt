@@ -55,7 +55,8 @@ use Rattle.promises.specs.Logs.{LogsReadBack, LogsAreTight, LogLengths, PastTheL
 use Rattle.promises.specs.Logs.{right_at, claim_at, AllHold, end_zones, end_bytes, FalseAt, TrueLogHolds}
 use Rattle.promises.specs.Logs.{wrong, short as tooShort, fits, LogSays, LogIsExact, Proper, FalseClaimIsExact}
 use Rattle.promises.specs.Logs.{AllHoldIsExact, LogRefusalLeaves, LogSuccessFills, LogLongestSuffices, LogComesTo, LogReadingIsExact}
-use Rattle.promises.proofs.Answers.{standing_exactly, none_told, table_stands, reading_exactly}
+use Rattle.promises.proofs.Answers.{standing_exactly, none_told, table_stands}
+use Rattle.promises.proofs.Outside.{reading_exactly}
 use Rattle.promises.proofs.Differing.{zones_within}
 use Rattle.promises.proofs.Filling.{filled}
 

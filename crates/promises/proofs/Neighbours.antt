@@ -51,7 +51,7 @@ use Rattle.rules.proofs.OneZone.{zone_there, zone_not, own_after, zone_after}
 use Rattle.rules.proofs.Owners.{found_id}
 use Rattle.rules.proofs.Run.{goes_on, stops_here, run_leads, stopped}
 use Rattle.rules.proofs.Stored.{table_back, stands_well}
-use Rattle.promises.specs.Answers.{ChecksPass}
+use Rattle.promises.specs.Answers.{Stands}
 use Rattle.promises.specs.Neighbours.{Alike, TranslatesAlike, SevenOrFourteen, InStep, names, end_of, accepted}
 use Rattle.promises.specs.Neighbours.{OwesNothing, OnlyTheseTell, AlikeOutside, bare, zones_after}
 use Rattle.promises.specs.Neighbours.{requests_read, taken, PlansOweNothingBy, PlansTellBy, asked_up_to, HistoriesOweNothingBy}
@@ -602,7 +602,7 @@ module _ (lim : Limits) where
   pub seven_or_fourteen_tells : SevenOrFourteenTells lim
   seven_or_fourteen_tells = only_these_tell (plain_steps lim) plain_is_neighbourly
 
-  stands_plainly : (c : StoredConfig) (t : StoredTable) → standing lim c t ≡ 0 → ChecksPass lim c t
+  stands_plainly : (c : StoredConfig) (t : StoredTable) → standing lim c t ≡ 0 → Stands lim c t
   unfolding standing_rules above_zero all test_of
   stands_plainly c t e =
       let none = silent_number (standing_rules lim c t) refl e in

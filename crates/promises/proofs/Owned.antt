@@ -70,11 +70,11 @@ use Rattle.promises.specs.Owned.{OwnedTableCheckIsExact, OwnedStandingIsInside, 
 use Rattle.promises.specs.Owned.{OwnedPlansAreTight, OwnedPlanLengths, OwnedIsProper, OwnedPassedIsGood}
 use Rattle.promises.specs.Owned.{Neither, NeverTwelveNorFourteen, OwnedStandsThere, FirstAnswers, FirstTranslates}
 use Rattle.promises.specs.Owned.{owned_outside, OwnedAnswersAreExact, OwnedTerminals, OwnedWriter}
-use Rattle.promises.specs.Answers.{ChecksPass}
+use Rattle.promises.specs.Answers.{Stands}
 use Rattle.promises.specs.Steps.{run_of_by}
 use Rattle.promises.proofs.Answers.{tells_kind, tells_lt, kind_matches, none_told, standing_is_inside}
-use Rattle.promises.proofs.Answers.{answer_is_exact_by, translated_is_exact_by, run_answer_is_exact_by}
-use Rattle.promises.proofs.Answers.{apply_is_exact_by, alone_is_exact_by, never_alone_by, answered_stands, Honest}
+use Rattle.promises.proofs.Outside.{answer_is_exact_by, translated_is_exact_by, run_answer_is_exact_by}
+use Rattle.promises.proofs.Outside.{apply_is_exact_by, alone_is_exact_by, never_alone_by, answered_stands, Honest}
 use Rattle.promises.proofs.Steps.{refusal_stays_by, configuration_stays_by, apply_keeps_sound_by}
 use Rattle.promises.proofs.Steps.{accepted_is_plan_by, plan_is_accepted_by, past_the_longest_by, steps_follow}
 use Rattle.promises.proofs.Steps.{equal_editions_by, lower_is_behind_by, never_ahead_by}
@@ -503,7 +503,6 @@ module _ (lim : Limits) where
           };
           owners = sym f.config.owners i;
         };
-    gave = owned_gave;
     ends = λ b p t e. owned_ends lim b p t e;
     refuses = λ b k t e. owned_refuses lim b k t e;
   }
@@ -530,6 +529,7 @@ module _ (lim : Limits) where
   unfolding owned_answer owned_translated owned_run_answer owned_standing_rules owned_next read_owned read_file
   owned_is_honest = record {
     proper = owned_is_proper;
+    gave = owned_gave;
     check = λ c. is_owned_sound (owned_check lim c);
     tells_passed = λ c. (owned_sound_answer (owned_check lim c), λ e. ap is_owned_sound e ∙ owned_sound_is);
     standing_so = λ c t. refl;
@@ -567,7 +567,7 @@ module _ (lim : Limits) where
 
   -- ---- the first machine from outside
   stands_there : (c : StoredOwned) (t : StoredTable) → length c.config.records ≡ lim.regions
-      → owned_standing lim c t ≡ 0 → ChecksPass lim c.config t
+      → owned_standing lim c t ≡ 0 → Stands lim c.config t
   unfolding owned_standing_rules test_of above_zero all
   stands_there c t full e =
       let h = silent_number (owned_standing_rules lim c t) refl e in

@@ -16,7 +16,7 @@ use Rattle.rules.specs.declared.Translated.{Translated}
 use Rattle.rules.proofs.Keeps.{parts_sound}
 use Rattle.rules.proofs.OwnedPlan.{owned_stands_well}
 use Rattle.rules.proofs.Owners.{parts_owned}
-use Rattle.promises.specs.Answers.{plain_outside, Outside}
+use Rattle.promises.specs.Outside.{plain_outside, Outside}
 use Rattle.promises.specs.Closure.{Corrections}
 use Rattle.promises.specs.Owned.{owned_outside}
 use Rattle.promises.specs.OwnedConfiguration.{OwnedPassed}
@@ -28,13 +28,13 @@ use Rattle.promises.specs.Standing.{AllRecords, RightsAreKeptBy, OwnedRightsAreK
 use Rattle.promises.specs.Standing.{BudgetIsAnswered, KeptApart}
 use Rattle.promises.specs.Rights.{RightsHold}
 use Rattle.promises.specs.Tables.{SoundUnder}
-use Rattle.promises.proofs.Answers.{stands_by, answered_stands, translated_stands, inside_request_by}
-use Rattle.promises.proofs.Answers.{inside_address_by, plain_is_honest, Honest}
+use Rattle.promises.proofs.Outside.{stands_by, answered_stands, translated_stands, inside_request_by}
+use Rattle.promises.proofs.Outside.{inside_address_by, plain_is_honest, Honest}
 use Rattle.promises.proofs.Budget.{accepted_is_budget, budget_is_accepted}
 use Rattle.promises.proofs.Closure.{accepted_is_upstream, upstream_is_accepted}
 use Rattle.promises.proofs.Owned.{owned_is_honest}
 use Rattle.promises.proofs.Rights.{rights_hold}
-use Rattle.promises.proofs.Stretches.{stretch_is_consecutive_by, nothing_remains_by}
+use Rattle.promises.proofs.Outside.{stretch_is_consecutive_by, nothing_remains_by}
 use Rattle.promises.proofs.Steps.{configuration_stays_by, apply_keeps_sound_by}
 use Rattle.promises.proofs.Tables.{no_address_in_two_zones, no_cpu_on_gic}
 use Rattle.promises.proofs.Translation.{zones_meet_on_gic}

@@ -2,47 +2,46 @@
 -- region covers one of them, so each is translated by the same region.
 use Prim.Native.Nat.{ℕ, ◌+◌, ◌-◌, ◌≤◌, ◌<◌}
 use native.Mathlib.Omega.{arith}
-use mathlib.Core.Bool.{Bool, true, false, cond, not}
-use mathlib.Core.List.{List, [], ◌∷◌, ◌++◌}
+use mathlib.Core.Bool.{Bool, true, false, cond}
+use mathlib.Core.List.{List, ◌++◌}
 use mathlib.Core.Path.{◌≡◌, refl, sym, ap, ◌∙◌}
 use borrow.Author.Tests.{ltb-true, leb-true, lt-ltb, eqb-true, not-false}
 use lib.Dec.{eqb}
 use lib.ListN.{length, get_or}
 use Rattle.lists.specs.First.{first_index, all}
-use Rattle.lists.specs.Rules.{◌when◌, first_rule}
+use Rattle.lists.specs.Rules.{Rule, first_rule}
 use Rattle.lists.proofs.Every.{any_make}
 use Rattle.lists.proofs.First.{any_first, first_is}
+use Rattle.lists.proofs.Rules.{test_of, above_zero, silent_number}
 use Rattle.lists.proofs.Tests.{parts, false_of}
 use Rattle.rules.specs.Changes.{region_set}
-use Rattle.rules.specs.Applying.{plain_steps}
-use Rattle.rules.specs.Configuration.{config_of, Configuration}
+use Rattle.rules.specs.Configuration.{check, config_of, Configuration, StoredConfig}
 use Rattle.rules.specs.Limits.{Limits}
 use Rattle.rules.specs.Regions.{in_reach, no_region}
-use Rattle.rules.specs.Requests.{find}
-use Rattle.rules.specs.Steps.{StepRule}
+use Rattle.rules.specs.Requests.{find, standing_rules}
 use Rattle.rules.specs.Tables.{table_of, has_id, Zone, StoredTable}
 use Rattle.rules.specs.Translation.{covers_guest, covering_in, phys_in, remaining_in, translation_rules, translated_as}
-use Rattle.rules.specs.Translation.{translation}
+use Rattle.rules.specs.Translation.{translation, translated}
 use Rattle.rules.specs.declared.Guest.{Guest}
 use Rattle.rules.specs.declared.Region.{Region}
 use Rattle.rules.specs.declared.Side.{Side}
 use Rattle.rules.specs.declared.Translated.{Translated}
+use Rattle.rules.proofs.Configuration.{sound_answer}
 use Rattle.rules.proofs.Keeps.{SoundTable}
 use Rattle.rules.proofs.Translation.{covers_parts, parts_cover, same_distance, remains_to_end, covers_on, goes_on}
 use Rattle.rules.proofs.Translation.{remains_less, none_told}
-use Rattle.promises.specs.Answers.{plain_outside, Outside}
-use Rattle.promises.specs.Stretches.{further, RemainingIs, StretchGoesOn, StretchIsConsecutiveBy, NothingRemainsBy}
-use Rattle.promises.specs.Stretches.{StretchIsConsecutive, NothingRemains}
+use Rattle.promises.specs.Answers.{Stands}
+use Rattle.promises.specs.Stretches.{further, RemainingIs, StretchGoesOn, StretchIsConsecutive, NothingRemains}
 use Rattle.promises.specs.Stretches.{StretchInReach}
 use Rattle.promises.specs.Translation.{CoversGuest}
-use Rattle.promises.proofs.Answers.{stands_by, translated_stands, inside_address_by, plain_is_honest, Honest}
+use Rattle.promises.proofs.Answers.{table_stands, standing_is_inside}
 use Rattle.promises.proofs.Closure.{there}
 use Rattle.promises.proofs.Tables.{inv_zones_wf}
 use Rattle.promises.proofs.Translation.{xs, low_enough, zone_there, within, covers, comes_out, remains}
 use Rattle.promises.proofs.Translation.{translates, one_covers}
 
 -- something remains only where the number is 0
-accepted : (n a i : ℕ) (r : Region) → i < (translated_as n a r).remaining → n ≡ 0
+pub accepted : (n a i : ℕ) (r : Region) → i < (translated_as n a r).remaining → n ≡ 0
 unfolding translated_as
 accepted n a i r h = by (eqb n 0) refl h
   where
@@ -142,7 +141,7 @@ module _ (lim : Limits) where
       (omega arith, omega arith)
 
   -- in a sound table no other region covers an address of the stretch
-  sound_further : (c : Configuration) (t : List Zone) → SoundTable lim c t → (id : ℕ) (side : Side) (a i : ℕ)
+  pub sound_further : (c : Configuration) (t : List Zone) → SoundTable lim c t → (id : ℕ) (side : Side) (a i : ℕ)
       → i < (translation t id side a).remaining → translation t id side (a + i) ≡ further i (translation t id side a)
   unfolding xs zs covering_in
   sound_further c t ok id side a i h =
@@ -156,72 +155,53 @@ module _ (lim : Limits) where
       (parts_cover (a + i) (get_or (region_set t (find id t) side) j no_region) m) (still_covers t id side a i h) in
       omega arith)
 
--- ---- from outside
-module _ (m : StepRule) (o : Outside m) (ok : Honest m o) where
-  module _ (c : m.Config) (t : StoredTable) (id : ℕ) (side : Side) (g : Guest) where
-    number : ℕ
-    number =
-        first_rule
-        ((1 when not (ok.check c) ∷ 2 when not (o.passes c t) ∷ []) ++ translation_rules (table_of t) id side g.0) 0
+  -- ---- from outside
+  module _ (c : StoredConfig) (t : StoredTable) (id : ℕ) (side : Side) (g : Guest) where
+    rules : List (Rule ℕ)
+    rules = standing_rules lim c t ++ translation_rules (table_of t) id side g.0
 
     region : Region
     region = covering_in g.0 (region_set (table_of t) (find id (table_of t)) side)
 
-    as_told : o.address c t id side g ≡ translated_as number g.0 region
-    unfolding number region
-    as_told = ok.address_so c t id side g
+    stands : first_rule rules 0 ≡ 0 → Stands lim c t
+    unfolding rules standing_rules translation_rules test_of above_zero all
+    stands e =
+        let none = silent_number rules refl e in
+        record { config = sound_answer (check lim c) (not-false _ (none 1)); table = not-false _ (none 2) }
 
-    -- where something remains it is answered 0
-    remaining_answered : (i : ℕ) → i < (o.address c t id side g).remaining → (o.address c t id side g).number ≡ 0
-    unfolding translated_as
-    remaining_answered i h =
-        ap (λ (x : Translated). x.number) as_told
-        ∙ accepted number g.0 i region (omega (arith, h, ap (λ (x : Translated). x.remaining) as_told))
-
-    further_outside : (i : ℕ) → i < (o.address c t id side g).remaining
-        → o.address c t id side (record { 0 = g.0 + i }) ≡ further i (o.address c t id side g)
+    further_outside : (i : ℕ) → i < (translated lim c t id side g).remaining
+        → translated lim c t id side (record { 0 = g.0 + i }) ≡ further i (translated lim c t id side g)
+    unfolding translated rules region
     further_outside i h =
-        let st = translated_stands m o ok c t id side g (remaining_answered i h) in
-        let inside = inside_address_by m o ok c t st id side in
-        let table = ok.sound_there c t (stands_by m o ok c t st).1 in
+        let ok : Stands lim c t = stands (accepted (first_rule rules 0) g.0 i region h) in
+        let inside = (standing_is_inside lim c t ok).address id side in
         inside (record { 0 = g.0 + i })
-        ∙ sound_further m.limits (config_of (o.first c)) (table_of t) table id side g.0 i
-        (omega (arith, ap (λ (x : Translated). x.remaining) (inside g)))
+        ∙ sound_further (config_of c) (table_of t) (table_stands lim c t ok.table) id side g.0 i
+        (omega (arith, ap (λ (o : Translated). o.remaining) (inside g)))
         ∙ ap (further i) (sym (inside g))
 
-    none_refused : ((o.address c t id side g).number ≡ 0 → ⊥) → (o.address c t id side g).remaining ≡ 0
-    unfolding translated_as
-    none_refused ne =
-        ap (λ (x : Translated). x.remaining) as_told
-        ∙ sym (ap (λ (x : Translated). x.remaining) (none_told number g.0 region
-        (λ z. ne (ap (λ (x : Translated). x.number) as_told ∙ z))))
+    none_refused : ((translated lim c t id side g).number ≡ 0 → ⊥) → (translated lim c t id side g).remaining ≡ 0
+    unfolding translated translated_as rules region
+    none_refused ne = sym (ap (λ (o : Translated). o.remaining) (none_told (first_rule rules 0) g.0 region ne))
 
-    some_accepted : (o.address c t id side g).number ≡ 0 → (o.address c t id side g).remaining ≡ 0 → ⊥
-    unfolding xs
+    some_accepted : (translated lim c t id side g).number ≡ 0 → (translated lim c t id side g).remaining ≡ 0 → ⊥
+    unfolding translated translated_as rules xs
     some_accepted e z =
-        let st = translated_stands m o ok c t id side g e in
-        let inside = inside_address_by m o ok c t st id side g in
+        let inside = (standing_is_inside lim c t (stands e)).address id side g in
         let a : (translation (table_of t) id side g.0).number ≡ 0 =
-        sym (ap (λ (x : Translated). x.number) inside) ∙ e in
+        sym (ap (λ (o : Translated). o.number) inside) ∙ e in
         let r : Region = covering_in g.0 (region_set (table_of t) (find id (table_of t)) side) in
         let k : covers_guest g.0 r ≡ true = covers (table_of t) id side g.0 a in
         let (l, u) = covers_parts g.0 r k in
         omega (
           arith,
           z,
-          ap (λ (x : Translated). x.remaining) inside,
+          ap (λ (o : Translated). o.remaining) inside,
           remains (table_of t) id side g.0 a ∙ remains_to_end g.0 r k,
         )
 
-  pub stretch_is_consecutive_by : StretchIsConsecutiveBy m o
-  stretch_is_consecutive_by = further_outside
-
-  pub nothing_remains_by : NothingRemainsBy m o
-  nothing_remains_by c t id side g = ((λ z e. some_accepted c t id side g e z), none_refused c t id side g)
-
-module _ (lim : Limits) where
   pub stretch_is_consecutive : StretchIsConsecutive lim
-  stretch_is_consecutive = stretch_is_consecutive_by (plain_steps lim) (plain_outside lim) (plain_is_honest lim)
+  stretch_is_consecutive = further_outside
 
   pub nothing_remains : NothingRemains lim
-  nothing_remains = nothing_remains_by (plain_steps lim) (plain_outside lim) (plain_is_honest lim)
+  nothing_remains c t id side g = ((λ z e. some_accepted c t id side g e z), none_refused c t id side g)

@@ -56,20 +56,6 @@ module _ (lim : Limits) where
           zones = sym f.zones i;
           asked = p.asked;
         };
-    gave =
-        λ b p t e. (
-          length_room lim.regions no_region p.regions,
-          let r = whole_read lim b p t e in
-              let c = own_config_law lim b p [] r in
-              record {
-                config = record {
-                  regions = ap (λ (x : Configuration). x.regions) c;
-                  gic = ap (λ (x : Configuration). x.gic) c;
-                };
-                edition = refl;
-                zones = own_zones lim b p [] r;
-              },
-        );
     ends = λ b p t e. plan_ends lim b p t e;
     refuses = λ b k t e. plan_refuses lim b k t e;
   }

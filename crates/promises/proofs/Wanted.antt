@@ -45,7 +45,7 @@ use Rattle.rules.proofs.Wanted.{same_id, same_id_law, same_region, same_side, sa
 use Rattle.rules.proofs.Wanted.{absent_holds, held_present, in_holdings, set_distinct, holdings_distinct}
 use Rattle.promises.specs.Configuration.{Passed}
 use Rattle.promises.specs.Tables.{In, SoundUnder}
-use Rattle.promises.specs.Wanted.{SameHoldings, ListLeads, EmptyIsAlike, work_lines, WorkedIsExact, WorkedLeads}
+use Rattle.promises.specs.Wanted.{Alike, ListLeads, EmptyIsAlike, work_lines, WorkedIsExact, WorkedLeads}
 use Rattle.promises.specs.Wanted.{NothingWorked, NoShorterList, Reached}
 use Rattle.promises.proofs.Answers.{tells_lt, tells_either, tells_unsound, tells_bad}
 use Rattle.promises.proofs.Closure.{held_at, config_ok, table_ok, there, low_id, set_ok, upstream_is_accepted, accepted_is_upstream}
@@ -701,11 +701,11 @@ module _ (lim : Limits) (s : StoredConfig) (t w : List Zone) (ok : SoundUnder li
         })
 
   -- ---- all four
-  like : (v : List Zone) → ((x : ℕ) → present x v ≡ present x w) → ((k : Holding) → holds v k ≡ holds w k) → SameHoldings v w
+  like : (v : List Zone) → ((x : ℕ) → present x v ≡ present x w) → ((k : Holding) → holds v k ≡ holds w k) → Alike v w
   unfolding holds
   like v a b = record { zones = a; sets = λ id side r. b (holding id side r) }
 
-  pub whole_list : (v : List Zone) × Leads lim s t (requests_for t w) v × SameHoldings v w
+  pub whole_list : (v : List Zone) × Leads lim s t (requests_for t w) v × Alike v w
   unfolding requests_for
   whole_list =
       let (a, la, za, sa) = first in
@@ -721,7 +721,7 @@ module _ (lim : Limits) (s : StoredConfig) (t w : List Zone) (ok : SoundUnder li
       )
 
   -- two tables that are alike leave nothing to do
-  nothing_left : SameHoldings t w → requests_for t w ≡ []
+  nothing_left : Alike t w → requests_for t w ≡ []
   unfolding requests_for holds
   nothing_left a =
       let g : keep (lacks w) (holdings t) ≡ [] =
@@ -749,13 +749,13 @@ module _ (lim : Limits) where
       let n : 0 + length (requests_for t w) ≡ length (requests_for t w) = omega arith in (
         ap (λ (r : Run). r.inner) e,
         ap (λ (r : Run). r.place) e ∙ n,
-        subst (λ (u : List Zone). SameHoldings u w) (sym (ap (λ (r : Run). r.table) e)) a,
+        subst (λ (u : List Zone). Alike u w) (sym (ap (λ (r : Run). r.table) e)) a,
       )
 
   pub empty_is_alike : EmptyIsAlike lim
   empty_is_alike s t w ok good = (
     (λ e. let (v, l, a) = whole_list lim s t w ok good in
-        subst (λ (u : List Zone). SameHoldings u w) (sym (subst (λ (qs : List Request). Leads lim s t qs v) e l)) a),
+        subst (λ (u : List Zone). Alike u w) (sym (subst (λ (qs : List Request). Leads lim s t qs v) e l)) a),
     nothing_left lim s t w ok good,
   )
 
@@ -843,7 +843,7 @@ module _ (lim : Limits) where
                 (record { number = n; place = 0; inner = 0 })) (granted_stands g)
                 ∙ ap₂ (λ (m n : ℕ). record { number = cond (eqb m 0) 0 27; place = n; inner = m }) l.0 l.1);
             alike =
-                subst (λ (qs : List Request). SameHoldings (run lim (config_of c) (table_of t) qs).table (table_of w)) (sym same)
+                subst (λ (qs : List Request). Alike (run lim (config_of c) (table_of t) qs).table (table_of w)) (sym same)
                 l.2;
           }
 

@@ -34,7 +34,7 @@ use Rattle.rules.proofs.Records.{asked_read, records_read}
 use Rattle.rules.proofs.Stored.{table_back, run_from_keeps}
 use Rattle.rules.proofs.WantedBytes.{requests_again, records_length, list_fits}
 use Rattle.promises.specs.Tables.{SoundUnder}
-use Rattle.promises.specs.Wanted.{work_lines, SameHoldings}
+use Rattle.promises.specs.Wanted.{work_lines, Alike}
 use Rattle.promises.specs.WantedOrder.{InOrder}
 use Rattle.promises.specs.WantedPlans.{unlisted, all_listed, ListedIsExact, ListedRoomSuffices, ListedIsRead, SectionIsList, PlanLeads, asked_for, list_bytes, WriterLeads}
 use Rattle.promises.specs.WantedPlans.{Led}
@@ -244,7 +244,7 @@ module _ (lim : Limits) where
           config = refl;
           edition = refl;
           alike =
-              subst (λ (v : List Zone). SameHoldings v (table_of w)) (sym back)
+              subst (λ (v : List Zone). Alike v (table_of w)) (sym back)
               (list_leads lim s.config (table_of s.table) (table_of w) ok good).2;
           order =
               subst (InOrder (table_of s.table) (table_of w)) (sym back)

@@ -33,10 +33,10 @@ use Rattle.rules.proofs.Filling.{leaves_all}
 use Rattle.rules.proofs.Planner.{plan_fits}
 use Rattle.rules.proofs.Sizes.{most_length}
 use Rattle.rules.proofs.Writer.{Writable, zero_writable, writable_written, writer_refuses}
-use Rattle.promises.specs.Answers.{standing_lines, all_accepted, twenty_seven as refusedAt, Ends, ChecksPass}
+use Rattle.promises.specs.Answers.{standing_lines, all_accepted, twenty_seven as refusedAt, Ends, Stands}
 use Rattle.promises.specs.Steps.{Proper}
 use Rattle.promises.specs.Writing.{written_by, WrittenIsAcceptedBy, AcceptedIsWrittenBy, WritesWhenMayAskBy}
-use Rattle.promises.specs.Writing.{RefusalLeavesBufferBy, SuccessFillsBy, CanLendBy, WrittenIsAccepted}
+use Rattle.promises.specs.Writing.{RefusalLeavesBufferBy, SuccessFillsBy, LendableBy, WrittenIsAccepted}
 use Rattle.promises.specs.Writing.{AcceptedIsWritten, WritesWhenMayAsk, RefusalLeavesBuffer, SuccessFills}
 use Rattle.promises.specs.Writing.{twenty_seven, twenty_eight, fits, writer_lines, Writes, WriteIsExact, WriterLongestSuffices}
 use Rattle.promises.proofs.Answers.{tells_lt, tells_eq, standing_exactly, ends_exactly, stands_of, table_stands}
@@ -63,7 +63,7 @@ module _ (m : StepRule) where
       ap (λ (o : Outcome). take o.place (write_by m s q w).buffer) h.place ∙ h.front
 
   -- when it writes
-  pub may_ask : Sayable m.limits → (s : Kept m) (q : List Asked) → CanLendBy m s q → (room : ℕ)
+  pub may_ask : Sayable m.limits → (s : Kept m) (q : List Asked) → LendableBy m s q → (room : ℕ)
       → Writable m s q room → MayAskBy m s q
   may_ask say s q can room h =
       let most : s.edition ≤ last_edition = can.edition in
@@ -228,7 +228,7 @@ module _ (lim : Limits) where
 
   -- the plan for a sound state is within the longest one
   pub plan_within : Sayable lim → (s : Terminal) (q : List Asked) → length s.config.records ≡ lim.regions
-      → ChecksPass lim s.config s.table → s.edition < last_edition → ListFits 4 0 lim.requests AskedFits q
+      → Stands lim s.config s.table → s.edition < last_edition → ListFits 4 0 lim.requests AskedFits q
       → length (plan_bytes lim s q) ≤ longest_size lim
   plan_within say s q full st low fit =
       most_length lim (plan_for s q)
@@ -242,7 +242,7 @@ module _ (lim : Limits) where
       never : (n : ℕ) (o : Outcome) → plain n 0 ≡ o → o.number ≡ 28 → (n ≡ 28 → ⊥) → ⊥
       never n o q f ne = ne (ap (λ (x : Outcome). x.number) q ∙ f)
 
-      last_of : (o : Outcome) → o.number ≡ 28 → ChecksPass lim s.config s.table → (s.edition ≡ last_edition → ⊥)
+      last_of : (o : Outcome) → o.number ≡ 28 → Stands lim s.config s.table → (s.edition ≡ last_edition → ⊥)
           → (lim.requests < length q → ⊥) → Writes lim s q (length w) o → ⊥
       last_of o f st low few (twenty_seven i h g ne) = omega arith
       last_of o f st low few (twenty_eight g h) =

@@ -1,21 +1,19 @@
 -- "The first number that applies", for every kind of answer: the document's tables, line by line in its order, each a
 -- number with its place and the condition under which it is given. An answer is given exactly when its line's condition
--- holds and no earlier line's does. Each statement is made once, over a kind of terminals as it is seen from outside
--- (`Outside`); document 01's terminals are one kind, those with owners another (Owned).
-use Rattle.std.specs.Prelude.{ℕ, ◌+◌, ◌-◌, ◌%◌, ◌≤◌, ◌<◌, Bool, true, false, List, [], ◌∷◌, ◌⊎◌, ◌↔◌, ◌≡◌, length, get_or, take, drop}
+-- holds and no earlier line's does.
+use Rattle.std.specs.Prelude.{ℕ, ◌+◌, ◌-◌, ◌%◌, ◌≤◌, ◌<◌, true, false, List, [], ◌∷◌, ◌⊎◌, ◌↔◌, ◌≡◌, length, get_or, take, drop}
 use Rattle.lists.specs.Lines.{◌given◌, FirstOf, Exactly, Line}
 use Rattle.lists.specs.Runs.{runs}
-use Rattle.formats.specs.Formats.{Out, got, bad}
+use Rattle.formats.specs.Formats.{got, bad}
 use Rattle.rules.specs.Addresses.{Shared}
-use Rattle.rules.specs.Applying.{last_edition, plain, plan_config, plain_steps, base_by, apply, answer_alone, Kept, Terminal}
+use Rattle.rules.specs.Applying.{last_edition, plain, apply, base_of, answer_alone, Terminal}
 use Rattle.rules.specs.Changes.{region_set}
 use Rattle.rules.specs.Configuration.{gic_of, config_of, check, check_number, check_place, check_earlier, Configuration}
 use Rattle.rules.specs.Configuration.{StoredConfig}
 use Rattle.rules.specs.Limits.{highest_id, page_of, Limits}
-use Rattle.rules.specs.Plan.{plan_format, requests_from, Plan}
+use Rattle.rules.specs.Plan.{plan_format, requests_of, Plan}
 use Rattle.rules.specs.Requests.{find, refusal, next, standing, answer}
 use Rattle.rules.specs.Run.{run, ended, run_answer}
-use Rattle.rules.specs.Steps.{StepRule}
 use Rattle.rules.specs.Tables.{no_zone, regions_of, table_of, check_table, Zone, StoredTable}
 use Rattle.rules.specs.Translation.{translation, translated}
 use Rattle.rules.specs.declared.Checked.TheVariants.{Sound, BadCount, BadGic, NotZero, Malformed, OutOfReach, Overlap}
@@ -29,19 +27,15 @@ use Rattle.rules.specs.declared.Side.{Side}
 use Rattle.rules.specs.declared.Side.TheVariants.{Cpu, Iommu}
 use Rattle.rules.specs.declared.Translated.{Translated}
 use Rattle.promises.specs.Configuration.{Means}
-use Rattle.promises.specs.Steps.{Deliveries}
 use Rattle.promises.specs.Tables.{In, MayWrite, MayExecute}
 use Rattle.promises.specs.Translation.{CoversGuest}
 
 -- ---- 1 and 2, before all else: the configuration is unsound, the table is
-abbrev pub standing_by : {R : Type 0} → (ℕ → R) → Type 0 → Bool → List (Line R)
-standing_by say Passes passes = say 1 given (Passes → ⊥) ∷ say 2 given (passes ≡ false) ∷ []
-
 abbrev pub standing_lines : {R : Type 0} → (ℕ → R) → Limits → StoredConfig → StoredTable → List (Line R)
-standing_lines say l c t = standing_by say (check l c ≡ Sound) (check_table l c t)
+standing_lines say l c t = say 1 given (check l c ≡ Sound → ⊥) ∷ say 2 given (check_table l c t ≡ false) ∷ []
 
 -- neither applies
-pub record ChecksPass (l : Limits) (c : StoredConfig) (t : StoredTable) : Type 0 where
+pub record Stands (l : Limits) (c : StoredConfig) (t : StoredTable) : Type 0 where
   pub config : check l c ≡ Sound
   pub table : check_table l c t ≡ true
 
@@ -116,6 +110,12 @@ RequestSays l c t q =
 abbrev pub RefusalIsExact : Limits → Type 0
 RefusalIsExact l = (c : Configuration) (t : List Zone) (q : Request) → Exactly (refusal l c t q) (RequestSays l c t q)
 
+-- from outside
+abbrev pub AnswerIsExact : Limits → Type 0
+AnswerIsExact l =
+    (c : StoredConfig) (t : StoredTable) (q : Request)
+    → Exactly (answer l c t q) (FirstOf (standing_lines (λ n. n) l c t) (RequestSays l (config_of c) (table_of t) q))
+
 -- ---- translation
 -- a number with physical address 0 and 0 bytes that remain
 abbrev pub nowhere : ℕ → Translated
@@ -134,174 +134,82 @@ ComesOut t id s a o =
     (r : Region) × In r (region_set t (find id t) s) × CoversGuest r a
     × (record { number = 0; phys = record { 0 = r.p.0 + (a - r.v.0) }; remaining = r.v.0 + r.size - a } ≡ o)
 
+-- from outside
+abbrev pub TranslatedIsExact : Limits → Type 0
+TranslatedIsExact l =
+    (c : StoredConfig) (t : StoredTable) (id : ℕ) (s : Side) (a : Guest)
+    → Exactly (translated l c t id s a)
+    (FirstOf (standing_lines nowhere l c t)
+    (FirstOf (translation_lines (table_of t) id s a.0) (ComesOut (table_of t) id s a.0)))
+
 -- ---- runs
 -- what stands past the end of the requests
 abbrev pub no_ask : Request
 no_ask = record { zone = 0; kind = NoRequest }
 
--- by what a request is answered at a table, and the table after it
-module _ (number : List Zone → Request → ℕ) (after : List Zone → Request → List Zone) where
-  -- the number of request i, at the table that the requests before it leave
-  abbrev pub number_by : List Zone → List Request → ℕ → ℕ
-  number_by t qs i = number (runs after t (take i qs)) (get_or qs i no_ask)
-
-  -- all are accepted, and the place is their number; or request i is the first that is refused, and the place is i
-  pub data EndsBy (t : List Zone) (qs : List Request) : Outcome → Type 0 where
-    all_accepted : ((j : ℕ) → j < length qs → number_by t qs j ≡ 0) → EndsBy t qs (plain 0 (length qs))
-    twenty_seven : (i : ℕ) → i < length qs → ((j : ℕ) → j < i → number_by t qs j ≡ 0) → (number_by t qs i ≡ 0 → ⊥)
-        → EndsBy t qs (record { number = 27; place = i; inner = number_by t qs i })
-
--- by document 01's rules
+-- the number of request i, at the table that the requests before it leave
 abbrev pub number_at : Limits → Configuration → List Zone → List Request → ℕ → ℕ
-number_at l c = number_by (refusal l c) (next l c)
+number_at l c t qs i = refusal l c (runs (next l c) t (take i qs)) (get_or qs i no_ask)
 
-abbrev pub Ends : Limits → Configuration → List Zone → List Request → Outcome → Type 0
-Ends l c = EndsBy (refusal l c) (next l c)
+-- all are accepted, and the place is their number; or request i is the first that is refused, and the place is i
+pub data Ends (l : Limits) (c : Configuration) (t : List Zone) (qs : List Request) : Outcome → Type 0 where
+  all_accepted : ((j : ℕ) → j < length qs → number_at l c t qs j ≡ 0) → Ends l c t qs (plain 0 (length qs))
+  twenty_seven : (i : ℕ) → i < length qs → ((j : ℕ) → j < i → number_at l c t qs j ≡ 0) → (number_at l c t qs i ≡ 0 → ⊥)
+      → Ends l c t qs (record { number = 27; place = i; inner = number_at l c t qs i })
+
+-- from outside
+abbrev pub RunAnswerIsExact : Limits → Type 0
+RunAnswerIsExact l =
+    (c : StoredConfig) (t : StoredTable) (qs : List Request)
+    → Exactly (run_answer l c t qs) (FirstOf (standing_lines (λ n. plain n 0) l c t) (Ends l (config_of c) (table_of t) qs))
 
 -- ---- plans
--- what reading the bytes says, by the reader of a plan's sections: 20 or 21 at the offset of a field; 22 at the first
--- byte after the last section; or a plan, of which Then speaks
-pub data ReadingBy {P : Type 0} (read : List ℕ → Out P) (b : List ℕ) (Then : P → Outcome → Type 0) : Outcome → Type 0 where
-  twenty : (at : ℕ) → at ≤ length b → read b ≡ bad 20 (drop at b) → ReadingBy read b Then (plain 20 at)
-  twenty_one : (at : ℕ) → at ≤ length b → read b ≡ bad 21 (drop at b) → ReadingBy read b Then (plain 21 at)
-  twenty_two : (p : P) (at : ℕ) → at < length b → read b ≡ got p (drop at b) → ReadingBy read b Then (plain 22 at)
-  reads : (p : P) (o : Outcome) → read b ≡ got p [] → Then p o → ReadingBy read b Then o
+-- what reading the bytes says: 20 or 21 at the offset of a field; 22 at the first byte after section 4; or a plan, of
+-- which Then speaks
+pub data Reading (l : Limits) (b : List ℕ) (Then : Plan → Outcome → Type 0) : Outcome → Type 0 where
+  twenty : (at : ℕ) → at ≤ length b → (plan_format l).read b ≡ bad 20 (drop at b) → Reading l b Then (plain 20 at)
+  twenty_one : (at : ℕ) → at ≤ length b → (plan_format l).read b ≡ bad 21 (drop at b) → Reading l b Then (plain 21 at)
+  twenty_two : (p : Plan) (at : ℕ) → at < length b → (plan_format l).read b ≡ got p (drop at b)
+      → Reading l b Then (plain 22 at)
+  reads : (p : Plan) (o : Outcome) → (plan_format l).read b ≡ got p [] → Then p o → Reading l b Then o
 
-abbrev pub Reading : Limits → List ℕ → (Plan → Outcome → Type 0) → Outcome → Type 0
-Reading l = ReadingBy (plan_format l).read
+-- 23 to 26 of a plan at a terminal: its regions or its GIC position differ from the terminal's, its edition does, there
+-- is no next edition, its zones differ
+abbrev pub base_lines : Terminal → Plan → List (Line Outcome)
+base_lines s p =
+    plain 23 0 given (((config_of s.config).regions ≡ p.regions) × ((config_of s.config).gic ≡ p.marks.gic) → ⊥)
+    ∷ plain 24 0 given (s.edition ≡ p.marks.edition → ⊥)
+    ∷ plain 25 0 given (s.edition ≡ last_edition)
+    ∷ plain 26 0 given (table_of s.table ≡ p.zones → ⊥)
+    ∷ []
 
--- ---- a kind of terminals from outside: what its step rule does not name, by the names that the rules have for it
-pub record Outside (m : StepRule) : Type 1 where
-  -- a configuration as the rules speak of it: that of a stored one, and that of a plan
-  pub Model : Type 0
-  pub model : m.Config → Model
-  pub said : m.Said → Model
-  -- document 01's configuration in a stored one
-  pub first : m.Config → StoredConfig
-  -- the check of a configuration finds nothing, else 1; that of a table says yes, else 2
-  pub Passes : m.Config → Type 0
-  pub passes : m.Config → StoredTable → Bool
-  -- the number of a request and the next table; and what the document's lines say of the number
-  pub number : Model → List Zone → Request → ℕ
-  pub after : Model → List Zone → Request → List Zone
-  pub Says : Model → List Zone → Request → ℕ → Type 0
-  -- the reader of a plan's sections, whatever stands behind them
-  pub sections : List ℕ → Out m.Said
-  -- what is answered: to a request, of an address, to requests in turn, to a plan at a terminal and to a plan alone
-  pub answer : m.Config → StoredTable → Request → ℕ
-  pub address : m.Config → StoredTable → ℕ → Side → Guest → Translated
-  pub requests : m.Config → StoredTable → List Request → Outcome
-  pub deliver : Deliveries m
-  pub alone : List ℕ → Outcome
-
-module _ (m : StepRule) (o : Outside m) where
-  -- 1 and 2 of a stored configuration and table
-  abbrev pub standing_of : {R : Type 0} → (ℕ → R) → m.Config → StoredTable → List (Line R)
-  standing_of say c t = standing_by say (o.Passes c) (o.passes c t)
-
-  -- how requests end, under a configuration
-  abbrev pub EndsOf : o.Model → List Zone → List Request → Outcome → Type 0
-  EndsOf c = EndsBy (o.number c) (o.after c)
-
-  -- a request
-  abbrev pub AnswerIsExactBy : Type 0
-  AnswerIsExactBy =
-      (c : m.Config) (t : StoredTable) (q : Request)
-      → Exactly (o.answer c t q) (FirstOf (standing_of (λ n. n) c t) (o.Says (o.model c) (table_of t) q))
-
-  -- an address
-  abbrev pub TranslatedIsExactBy : Type 0
-  TranslatedIsExactBy =
-      (c : m.Config) (t : StoredTable) (id : ℕ) (s : Side) (a : Guest)
-      → Exactly (o.address c t id s a)
-      (FirstOf (standing_of nowhere c t)
-      (FirstOf (translation_lines (table_of t) id s a.0) (ComesOut (table_of t) id s a.0)))
-
-  -- requests in turn
-  abbrev pub RunAnswerIsExactBy : Type 0
-  RunAnswerIsExactBy =
-      (c : m.Config) (t : StoredTable) (qs : List Request)
-      → Exactly (o.requests c t qs)
-      (FirstOf (standing_of (λ n. plain n 0) c t) (EndsOf (o.model c) (table_of t) qs))
-
-  -- 23 to 26 of a plan at a terminal: it gives another configuration, its edition differs from the terminal's, there is
-  -- no next edition, its zones differ
-  abbrev pub base_lines_by : Kept m → m.Said → List (Line Outcome)
-  base_lines_by s p =
-      plain 23 0 given (m.Gives s.config p → ⊥)
-      ∷ plain 24 0 given (s.edition ≡ m.edition p → ⊥)
-      ∷ plain 25 0 given (s.edition ≡ last_edition)
-      ∷ plain 26 0 given (table_of s.table ≡ m.zones p → ⊥)
-      ∷ []
-
-  -- then 27 or 0, as the run of its requests at the terminal's table ends
-  abbrev pub AtTerminalBy : Kept m → m.Said → Outcome → Type 0
-  AtTerminalBy s p =
-      FirstOf (base_lines_by s p) (EndsOf (o.model s.config) (table_of s.table) (requests_from (m.asked p)))
-
-  -- at a terminal: 1 and 2 of its own state, before any byte is read
-  abbrev pub ApplyIsExactBy : Type 0
-  ApplyIsExactBy =
-      (s : Kept m) (b : List ℕ)
-      → Exactly (o.deliver s b).outcome
-      (FirstOf (standing_of (λ n. plain n 0) s.config s.table) (ReadingBy o.sections b (AtTerminalBy s)))
-
-  -- a plan alone: 1 and 2 of its own base, 25, and 27 or 0 by its own configuration and zones
-  abbrev pub AloneBy : m.Said → Outcome → Type 0
-  AloneBy p =
-      FirstOf (standing_of (λ n. plain n 0) (base_by m p).config (base_by m p).table)
-      (FirstOf (plain 25 0 given (m.edition p ≡ last_edition) ∷ [])
-      (EndsOf (o.said p) (m.zones p) (requests_from (m.asked p))))
-
-  -- alone: 20, 21, 22 come first
-  abbrev pub AloneIsExactBy : Type 0
-  AloneIsExactBy = (b : List ℕ) → Exactly (o.alone b) (ReadingBy o.sections b AloneBy)
-
-  -- so the program never answers 23, 24 or 26
-  abbrev pub NeverAloneBy : Type 0
-  NeverAloneBy =
-      (b : List ℕ) → ((o.alone b).number ≡ 23 → ⊥) × ((o.alone b).number ≡ 24 → ⊥) × ((o.alone b).number ≡ 26 → ⊥)
-
--- ---- document 01's terminals
-abbrev pub plain_outside : (l : Limits) → Outside (plain_steps l)
-plain_outside l = record {
-  Model = Configuration;
-  model = config_of;
-  said = plan_config;
-  first = λ c. c;
-  Passes = λ c. check l c ≡ Sound;
-  passes = check_table l;
-  number = refusal l;
-  after = next l;
-  Says = RequestSays l;
-  sections = (plan_format l).read;
-  answer = answer l;
-  address = translated l;
-  requests = run_answer l;
-  deliver = apply l;
-  alone = answer_alone l;
-}
-
-abbrev pub AnswerIsExact : Limits → Type 0
-AnswerIsExact l = AnswerIsExactBy (plain_steps l) (plain_outside l)
-
-abbrev pub TranslatedIsExact : Limits → Type 0
-TranslatedIsExact l = TranslatedIsExactBy (plain_steps l) (plain_outside l)
-
-abbrev pub RunAnswerIsExact : Limits → Type 0
-RunAnswerIsExact l = RunAnswerIsExactBy (plain_steps l) (plain_outside l)
-
+-- then 27 or 0, as the run of its requests at the terminal's table ends
 abbrev pub AtTerminal : Limits → Terminal → Plan → Outcome → Type 0
-AtTerminal l = AtTerminalBy (plain_steps l) (plain_outside l)
+AtTerminal l s p = FirstOf (base_lines s p) (Ends l (config_of s.config) (table_of s.table) (requests_of p))
 
+-- at a terminal: 1 and 2 of its own state, before any byte is read
 abbrev pub ApplyIsExact : Limits → Type 0
-ApplyIsExact l = ApplyIsExactBy (plain_steps l) (plain_outside l)
+ApplyIsExact l =
+    (s : Terminal) (b : List ℕ)
+    → Exactly (apply l s b).outcome
+    (FirstOf (standing_lines (λ n. plain n 0) l s.config s.table) (Reading l b (AtTerminal l s)))
 
+-- a plan alone: 1 and 2 of its own base, 25, and 27 or 0 by its own configuration and zones
+abbrev pub Alone : Limits → Plan → Outcome → Type 0
+Alone l p =
+    FirstOf (standing_lines (λ n. plain n 0) l (base_of l p).config (base_of l p).table)
+    (FirstOf (plain 25 0 given (p.marks.edition ≡ last_edition) ∷ [])
+    (Ends l (record { regions = p.regions; gic = p.marks.gic }) p.zones (requests_of p)))
+
+-- alone: 20, 21, 22 come first
 abbrev pub AloneIsExact : Limits → Type 0
-AloneIsExact l = AloneIsExactBy (plain_steps l) (plain_outside l)
+AloneIsExact l = (b : List ℕ) → Exactly (answer_alone l b) (Reading l b (Alone l))
 
+-- so the program never answers 23, 24 or 26
 abbrev pub NeverAlone : Limits → Type 0
-NeverAlone l = NeverAloneBy (plain_steps l) (plain_outside l)
+NeverAlone l =
+    (b : List ℕ)
+    → ((answer_alone l b).number ≡ 23 → ⊥) × ((answer_alone l b).number ≡ 24 → ⊥) × ((answer_alone l b).number ≡ 26 → ⊥)
 
 -- ---- where neither 1 nor 2 applies, the outside forms are the inner ones
 pub record OutsideIsInside (l : Limits) (c : StoredConfig) (t : StoredTable) : Type 0 where
@@ -312,7 +220,7 @@ pub record OutsideIsInside (l : Limits) (c : StoredConfig) (t : StoredTable) : T
 
 -- for every configuration and table that stand
 abbrev pub StandingIsInside : Limits → Type 0
-StandingIsInside l = (c : StoredConfig) (t : StoredTable) → ChecksPass l c t → OutsideIsInside l c t
+StandingIsInside l = (c : StoredConfig) (t : StoredTable) → Stands l c t → OutsideIsInside l c t
 
 -- ---- the configuration's check, in numbers: 0 or C1 to C6, its place, and for C6 the lowest earlier position
 pub data Finds (l : Limits) (s : StoredConfig) : ℕ → ℕ → ℕ → Type 0 where

@@ -29,7 +29,7 @@ Refuses21 l s b place = apply l s b ≡ record { outcome = plain 21 place; state
 
 -- a terminal on limits `own`, itself sound under them, and bytes that are a whole plan on limits `wide`, in the
 -- terminal's format
-pub record MeetsPlan (own wide : Limits) (s : Terminal) (b : List ℕ) (p : Plan) : Type 0 where
+pub record Meets (own wide : Limits) (s : Terminal) (b : List ℕ) (p : Plan) : Type 0 where
   pub stands : standing own s.config s.table ≡ 0
   pub bytes : Bytes b
   pub reads : read_plan wide b ≡ got p []
@@ -53,14 +53,14 @@ counts_above l p =
 
 -- the first count above its own limits is refused, where it stands
 abbrev pub AboveIsRefused : Limits → Limits → Type 0
-AboveIsRefused own wide = (s : Terminal) (b : List ℕ) (p : Plan) → MeetsPlan own wide s b p
+AboveIsRefused own wide = (s : Terminal) (b : List ℕ) (p : Plan) → Meets own wide s b p
     → (k : ℕ) → Applies (counts_above own p) (0 when false) k
     → Refuses21 own s b (get_or (counts_above own p) k (0 when false)).0
 
 -- with no count above its own limits it reads the plan alike
 abbrev pub WithinIsRead : Limits → Limits → Type 0
 WithinIsRead own wide =
-    (s : Terminal) (b : List ℕ) (p : Plan) → MeetsPlan own wide s b p → Silent (counts_above own p) (0 when false)
+    (s : Terminal) (b : List ℕ) (p : Plan) → Meets own wide s b p → Silent (counts_above own p) (0 when false)
     → read_plan own b ≡ got p []
 
 -- ---- there are such
@@ -70,7 +70,7 @@ gic_only l = record { config = store_config l (record { regions = G ∷ []; gic 
 
 -- such a terminal meets a plan, and P holds of it
 abbrev pub MetWith : Limits → Limits → (Plan → Type 0) → Type 0
-MetWith own wide P = (b : List ℕ) × (p : Plan) × MeetsPlan own wide (gic_only own) b p × P p
+MetWith own wide P = (b : List ℕ) × (p : Plan) × Meets own wide (gic_only own) b p × P p
 
 -- limits that allow one more of each
 abbrev pub one_more : Limits → Limits
@@ -114,7 +114,7 @@ AsBefore p = (length p.regions ≤ old_limits.regions) × (length p.zones ≤ ol
 -- does not change: at 16, before the regions, or behind them. A plan with neither it reads
 abbrev pub OldTerminalsRefuse : Type 0
 OldTerminalsRefuse =
-    (s : Terminal) (b : List ℕ) (p : Plan) → MeetsPlan old_limits limits s b p
+    (s : Terminal) (b : List ℕ) (p : Plan) → Meets old_limits limits s b p
     → (ManyRegions p → Refuses21 old_limits s b 16)
     × (ManyZones p → Refuses21 old_limits s b (20 + length p.regions * region_size))
     × (AsBefore p → read_plan old_limits b ≡ got p [])

@@ -12,6 +12,7 @@ pub mod Plans
 pub mod Rights
 pub mod Answers
 pub mod Stretches
+pub mod Outside
 pub mod Terminals
 pub mod Wanted
 pub mod WantedOrder

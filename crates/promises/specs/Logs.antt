@@ -14,7 +14,8 @@ use Rattle.rules.specs.Requests.{next, answers}
 use Rattle.rules.specs.Sizes.{longest_size}
 use Rattle.rules.specs.Tables.{Zone}
 use Rattle.rules.specs.declared.LogAnswer.{LogAnswer}
-use Rattle.promises.specs.Answers.{standing_lines, number_at, ReadingBy, ChecksPass}
+use Rattle.promises.specs.Answers.{standing_lines, number_at, Stands}
+use Rattle.promises.specs.Outside.{ReadingBy}
 use Rattle.promises.specs.Filling.{Fills}
 
 -- ---- the format
@@ -116,7 +117,7 @@ pub record LogReadingIsExact (l : Limits) : Type 0 where
 -- a log that reads whole, whose own contents stand
 pub record Proper (l : Limits) (b : List ℕ) (g : Log) : Type 0 where
   pub reads : read_log l b ≡ got g []
-  pub stands : ChecksPass l (own_config l g) (own_table l g)
+  pub stands : Stands l (own_config l g) (own_table l g)
 
 -- so index i is answered exactly where it is that of the first false claim of such a log, with what was claimed and what
 -- the rules answer

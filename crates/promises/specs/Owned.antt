@@ -26,8 +26,9 @@ use Rattle.rules.specs.declared.Region.{Region}
 use Rattle.rules.specs.declared.Request.{Request}
 use Rattle.rules.specs.declared.Side.{Side}
 use Rattle.rules.specs.declared.Side.TheVariants.{Iommu}
-use Rattle.promises.specs.Answers.{kind_lines, AnswerIsExactBy, TranslatedIsExactBy, RunAnswerIsExactBy, ApplyIsExactBy}
-use Rattle.promises.specs.Answers.{AloneIsExactBy, NeverAloneBy, Outside}
+use Rattle.promises.specs.Answers.{kind_lines}
+use Rattle.promises.specs.Outside.{AnswerIsExactBy, TranslatedIsExactBy, RunAnswerIsExactBy, ApplyIsExactBy}
+use Rattle.promises.specs.Outside.{AloneIsExactBy, NeverAloneBy, Outside}
 use Rattle.promises.specs.OwnedConfiguration.{OwnedPassed}
 use Rattle.promises.specs.Steps.{RefusalStaysBy, ConfigurationStaysBy, ApplyKeepsSoundBy, AcceptedIsPlanBy}
 use Rattle.promises.specs.Steps.{PlanIsAcceptedBy, PastTheLongestBy, GoodConfig, StepsFollow, EqualEditionsBy}

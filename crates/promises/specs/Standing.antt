@@ -14,12 +14,12 @@ use Rattle.rules.specs.Tables.{table_of, Zone, StoredTable}
 use Rattle.rules.specs.declared.Guest.{Guest}
 use Rattle.rules.specs.declared.Request.{Request}
 use Rattle.rules.specs.declared.Side.{Side}
-use Rattle.promises.specs.Answers.{plain_outside, Outside}
+use Rattle.promises.specs.Outside.{plain_outside, Outside}
 use Rattle.promises.specs.Budget.{FormedFor}
 use Rattle.promises.specs.Closure.{Corrections}
 use Rattle.promises.specs.Owned.{owned_outside}
 use Rattle.promises.specs.Rights.{RightsHold}
-use Rattle.promises.specs.Stretches.{StretchIsConsecutiveBy, NothingRemainsBy}
+use Rattle.promises.specs.Outside.{StretchIsConsecutiveBy, NothingRemainsBy}
 use Rattle.promises.specs.Tables.{CoversPhys, HeldBy, CpuReaches, SoundUnder}
 
 -- zones that are kept apart: no address outside the GIC is held by two of them, no CPU region covers one of the GIC, and

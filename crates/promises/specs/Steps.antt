@@ -5,7 +5,7 @@ use Rattle.lists.specs.Bytes.{Bytes}
 use Rattle.lists.specs.Places.{places}
 use Rattle.lists.specs.Runs.{runs}
 use Rattle.formats.specs.Formats.{got, bad, ListFits}
-use Rattle.rules.specs.Applying.{last_edition, store, plain, Kept, base_by, apply_by, TerminalOf, AppliedOf, ForBaseBy}
+use Rattle.rules.specs.Applying.{last_edition, store, plain, Kept, apply_by, TerminalOf, AppliedOf, ForBaseBy}
 use Rattle.rules.specs.Limits.{Sayable}
 use Rattle.rules.specs.Plan.{requests_from, AskedFits, Asked}
 use Rattle.rules.specs.Planner.{plan_for_by, plan_bytes_by, MayAskBy}
@@ -41,10 +41,6 @@ pub record Proper (m : StepRule) : Type 1 where
   pub tight : (b : List ℕ) (p : m.Said) (t : List ℕ) → Bytes b → m.read b ≡ got p t
       → (b ≡ m.write p) × (length (m.asked p) ≤ m.limits.requests)
   pub only : (s : Kept m) (p : m.Said) → ForBaseBy m s p → p ≡ plan_for_by m s (m.asked p)
-  -- what a plan that reads whole gives, stored, is a whole configuration, and with its edition and zones it is the base
-  -- that the plan is for
-  pub gave : (b : List ℕ) (p : m.Said) (t : List ℕ) → m.read b ≡ got p t
-      → m.Whole (m.given p) × ForBaseBy m (base_by m p) p
   -- bytes that read whole have nothing left, and no refusal of bytes has number 0
   pub ends : (b : List ℕ) (p : m.Said) (t : List ℕ) → m.read b ≡ got p t → t ≡ []
   pub refuses : (b : List ℕ) (k : ℕ) (t : List ℕ) → m.read b ≡ bad k t → k ≡ 0 → ⊥

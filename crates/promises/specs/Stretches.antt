@@ -1,20 +1,17 @@
 -- How far a translation goes: as many bytes as remain come out one after another, and no more of that region follow.
 use Rattle.std.specs.Prelude.{ℕ, ◌+◌, ◌-◌, ◌≤◌, ◌<◌, List, ◌↔◌, ◌≡◌, get_or}
 use Rattle.lists.specs.First.{first_index}
-use Rattle.rules.specs.Applying.{plain_steps}
 use Rattle.rules.specs.Changes.{region_set}
 use Rattle.rules.specs.Configuration.{StoredConfig}
 use Rattle.rules.specs.Limits.{Limits}
 use Rattle.rules.specs.Regions.{no_region}
 use Rattle.rules.specs.Requests.{find}
 use Rattle.rules.specs.Tables.{Zone, StoredTable}
-use Rattle.rules.specs.Steps.{StepRule}
-use Rattle.rules.specs.Translation.{covers_guest, translation}
+use Rattle.rules.specs.Translation.{covers_guest, translation, translated}
 use Rattle.rules.specs.declared.Guest.{Guest}
 use Rattle.rules.specs.declared.Region.{Region}
 use Rattle.rules.specs.declared.Side.{Side}
 use Rattle.rules.specs.declared.Translated.{Translated}
-use Rattle.promises.specs.Answers.{plain_outside, Outside}
 use Rattle.promises.specs.Tables.{In, SoundUnder}
 use Rattle.promises.specs.Translation.{CoversGuest, TranslatesTo}
 
@@ -22,26 +19,19 @@ use Rattle.promises.specs.Translation.{CoversGuest, TranslatesTo}
 abbrev pub further : ℕ → Translated → Translated
 further i o = record { number = 0; phys = record { 0 = o.phys.0 + i }; remaining = o.remaining - i }
 
--- ---- from outside, of every kind of terminals
-module _ (m : StepRule) (o : Outside m) where
-  -- for every i below what remains, address + i translates to physical + i, with what remains less i; of any words
-  abbrev pub StretchIsConsecutiveBy : Type 0
-  StretchIsConsecutiveBy =
-      (c : m.Config) (t : StoredTable) (id : ℕ) (s : Side) (a : Guest) (i : ℕ)
-      → i < (o.address c t id s a).remaining
-      → o.address c t id s (record { 0 = a.0 + i }) ≡ further i (o.address c t id s a)
-
-  -- nothing remains on refusal, and only then
-  abbrev pub NothingRemainsBy : Type 0
-  NothingRemainsBy =
-      (c : m.Config) (t : StoredTable) (id : ℕ) (s : Side) (a : Guest)
-      → ((o.address c t id s a).remaining ≡ 0) ↔ ((o.address c t id s a).number ≡ 0 → ⊥)
-
+-- ---- from outside
+-- for every i below what remains, address + i translates to physical + i, with what remains less i; of any words
 abbrev pub StretchIsConsecutive : Limits → Type 0
-StretchIsConsecutive l = StretchIsConsecutiveBy (plain_steps l) (plain_outside l)
+StretchIsConsecutive l =
+    (c : StoredConfig) (t : StoredTable) (id : ℕ) (s : Side) (a : Guest) (i : ℕ)
+    → i < (translated l c t id s a).remaining
+    → translated l c t id s (record { 0 = a.0 + i }) ≡ further i (translated l c t id s a)
 
+-- nothing remains on refusal, and only then
 abbrev pub NothingRemains : Limits → Type 0
-NothingRemains l = NothingRemainsBy (plain_steps l) (plain_outside l)
+NothingRemains l =
+    (c : StoredConfig) (t : StoredTable) (id : ℕ) (s : Side) (a : Guest)
+    → ((translated l c t id s a).remaining ≡ 0) ↔ ((translated l c t id s a).number ≡ 0 → ⊥)
 
 -- ---- in any table, sound or not
 -- the region that puts the address there covers as many bytes from it on as remain, and none after them

@@ -16,7 +16,7 @@ use Rattle.rules.specs.declared.Side.{Side}
 use Rattle.promises.specs.Tables.{SoundUnder}
 
 -- the same zones, and in each the same two sets, whatever their order
-pub record SameHoldings (t w : List Zone) : Type 0 where
+pub record Alike (t w : List Zone) : Type 0 where
   pub zones : (id : ℕ) → present id t ≡ present id w
   pub sets : (id : ℕ) (side : Side) (r : Region)
       → held_in r (region_set t (find id t) side) ≡ held_in r (region_set w (find id w) side)
@@ -27,19 +27,19 @@ ListLeads l =
     (s : StoredConfig) (t w : List Zone) → SoundUnder l s t → SoundUnder l s w
     → ((run l (config_of s) t (requests_for t w)).inner ≡ 0)
     × ((run l (config_of s) t (requests_for t w)).place ≡ length (requests_for t w))
-    × SameHoldings (run l (config_of s) t (requests_for t w)).table w
+    × Alike (run l (config_of s) t (requests_for t w)).table w
 
 -- the list is empty exactly for two tables with the same zones and sets
 abbrev pub EmptyIsAlike : Limits → Type 0
 EmptyIsAlike l =
-    (s : StoredConfig) (t w : List Zone) → SoundUnder l s t → SoundUnder l s w → (requests_for t w ≡ []) ↔ SameHoldings t w
+    (s : StoredConfig) (t w : List Zone) → SoundUnder l s t → SoundUnder l s w → (requests_for t w ≡ []) ↔ Alike t w
 
 -- no list of requests that are accepted in turn, and lead to a table with the wanted zones and sets, is shorter: so 29
 -- hides no list that a plan would have room for
 abbrev pub NoShorterList : Limits → Type 0
 NoShorterList l =
     (s : StoredConfig) (t w : List Zone) → SoundUnder l s t → SoundUnder l s w → (qs : List Request)
-    → (run l (config_of s) t qs).inner ≡ 0 → SameHoldings (run l (config_of s) t qs).table w
+    → (run l (config_of s) t qs).inner ≡ 0 → Alike (run l (config_of s) t qs).table w
     → length (requests_for t w) ≤ length qs
 
 -- ---- from outside, on any stored configuration and tables
@@ -64,7 +64,7 @@ WorkedIsExact l =
 pub record Reached (l : Limits) (c : StoredConfig) (t w : StoredTable) : Type 0 where
   pub few : length (worked l c t w).requests ≤ l.requests
   pub answer : run_answer l c t (worked l c t w).requests ≡ plain 0 (length (worked l c t w).requests)
-  pub alike : SameHoldings (run l (config_of c) (table_of t) (worked l c t w).requests).table (table_of w)
+  pub alike : Alike (run l (config_of c) (table_of t) (worked l c t w).requests).table (table_of w)
 
 abbrev pub WorkedLeads : Limits → Type 0
 WorkedLeads l =
@@ -75,4 +75,4 @@ WorkedLeads l =
 abbrev pub NothingWorked : Limits → Type 0
 NothingWorked l =
     (c : StoredConfig) (t w : StoredTable) → length c.records ≡ l.regions → check_table l c t ≡ true
-    → check_table l c w ≡ true → SameHoldings (table_of t) (table_of w) → worked l c t w ≡ no_list 0
+    → check_table l c w ≡ true → Alike (table_of t) (table_of w) → worked l c t w ≡ no_list 0

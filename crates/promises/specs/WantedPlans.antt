@@ -14,7 +14,7 @@ use Rattle.rules.specs.Tables.{table_of, StoredTable}
 use Rattle.rules.specs.Wanted.{requests_for, worked, asked_as, records_of, listed, Listed}
 use Rattle.rules.specs.Writer.{write, asked_of}
 use Rattle.rules.specs.declared.Request.{Request}
-use Rattle.promises.specs.Wanted.{work_lines, SameHoldings}
+use Rattle.promises.specs.Wanted.{work_lines, Alike}
 use Rattle.promises.specs.WantedOrder.{InOrder}
 use Rattle.promises.specs.Writing.{written}
 
@@ -69,7 +69,7 @@ pub record Led (s : Terminal) (w : StoredTable) (n : ℕ) (a : Applied) : Type 0
   pub outcome : a.outcome ≡ plain 0 n
   pub config : a.state.config ≡ s.config
   pub edition : a.state.edition ≡ s.edition + 1
-  pub alike : SameHoldings (table_of a.state.table) (table_of w)
+  pub alike : Alike (table_of a.state.table) (table_of w)
   pub order : InOrder (table_of s.table) (table_of w) (table_of a.state.table)
 
 -- from two tables to bytes: where there is a next edition and the list is not refused, the planner may ask for it, and

@@ -22,7 +22,7 @@ use Rattle.promises.specs.Steps.{Deliveries}
 module _ (m : StepRule) where
   -- what can be lent at all: an edition of 32 bits, requests whose numbers their fields can say, and a configuration
   -- with a record for all that there is room for
-  pub record CanLendBy (s : Kept m) (q : List Asked) : Type 0 where
+  pub record LendableBy (s : Kept m) (q : List Asked) : Type 0 where
     pub edition : s.edition ≤ last_edition
     pub numbers : All AskedFits q
     pub records : m.Whole s.config
@@ -34,7 +34,7 @@ module _ (m : StepRule) where
   -- applying what it wrote, at that state, is 0 and leads to the table of the run, one edition higher
   abbrev pub WrittenIsAcceptedBy : Deliveries m → Type 0
   WrittenIsAcceptedBy deliver =
-      Sayable m.limits → (s : Kept m) (q : List Asked) (w : List ℕ) → CanLendBy s q
+      Sayable m.limits → (s : Kept m) (q : List Asked) (w : List ℕ) → LendableBy s q
       → (write_by m s q w).outcome.number ≡ 0
       → deliver s (written_by s q w)
       ≡ record {
@@ -57,7 +57,7 @@ module _ (m : StepRule) where
   -- it answers 0 exactly where the state stands, the planner may ask for the requests, and the buffer is long enough
   abbrev pub WritesWhenMayAskBy : Type 0
   WritesWhenMayAskBy =
-      Sayable m.limits → (s : Kept m) (q : List Asked) (w : List ℕ) → CanLendBy s q
+      Sayable m.limits → (s : Kept m) (q : List Asked) (w : List ℕ) → LendableBy s q
       → ((write_by m s q w).outcome.number ≡ 0)
       ↔ ((m.standing s.config s.table ≡ 0) × (MayAskBy m s q × (length (plan_bytes_by m s q) ≤ length w)))
 
@@ -74,8 +74,8 @@ module _ (m : StepRule) where
       → Fills (plan_bytes_by m s q) w (write_by m s q w).outcome (write_by m s q w).buffer
 
 -- ---- for document 01's terminals
-abbrev pub CanLend : Limits → Terminal → List Asked → Type 0
-CanLend l s q = CanLendBy (plain_steps l) s q
+abbrev pub Lendable : Limits → Terminal → List Asked → Type 0
+Lendable l s q = LendableBy (plain_steps l) s q
 
 abbrev pub written : Limits → Terminal → List Asked → List ℕ → List ℕ
 written l s q w = written_by (plain_steps l) s q w
@@ -129,5 +129,5 @@ WriteIsExact l =
 -- a buffer of the longest plan's length is never too short
 abbrev pub WriterLongestSuffices : Limits → Type 0
 WriterLongestSuffices l =
-    Sayable l → (s : Terminal) (q : List Asked) (w : List ℕ) → CanLend l s q → longest_size l ≤ length w
+    Sayable l → (s : Terminal) (q : List Asked) (w : List ℕ) → Lendable l s q → longest_size l ≤ length w
     → (write l s q w).outcome.number ≡ 28 → ⊥

@@ -5,7 +5,7 @@ use Rattle.rules.specs.Applying.{last_edition, plain, answer_alone}
 use Rattle.rules.specs.Desk.{G, whole_plan}
 use Rattle.rules.specs.Fields.{region_size}
 use Rattle.rules.specs.Limits.{limits}
-use Rattle.rules.specs.Logs.{encode_log, check_log, Log}
+use Rattle.rules.specs.Logs.{claimless, false_claim, encode_log, check_log, Log}
 use Rattle.rules.specs.Plan.{Asked}
 use Rattle.rules.specs.Regions.{no_region}
 use Rattle.rules.specs.Tables.{empty_zone, Zone}
@@ -71,6 +71,24 @@ Claims ns a = Checks (encode_log limits (log_of 0 [] ns)) [] a []
 -- a byte after them. 1 and 2 before a false claim. A plan is no log, and a log no plan
 abbrev pub LogsShown : Type 0
 LogsShown =
+    (encode_log limits (log_of 0 [] (0 ∷ 5 ∷ 0 ∷ [])) ≡ spelled_log)
+    × Checks spelled_log (sevens 30) (claimless (plain 0 (length end_zones))) (end_zones ++ sevens 2)
+    × Checks spelled_log (sevens 27) (claimless (plain 28 0)) (sevens 27)
+    × Claims (0 ∷ 0 ∷ 0 ∷ []) (false_claim 1 0 5)
+    × Claims (0 ∷ 5 ∷ 7 ∷ []) (false_claim 2 7 0)
+    × Claims (0 ∷ 6 ∷ 9 ∷ []) (false_claim 1 6 5)
+    × Claims (0 ∷ 5 ∷ []) (claimless (plain 21 180))
+    × Claims (0 ∷ 5 ∷ 0 ∷ 0 ∷ []) (claimless (plain 21 180))
+    × Checks (take (length spelled_log - 1) spelled_log) [] (claimless (plain 20 192)) []
+    × Checks (spelled_log ++ 0 ∷ []) [] (claimless (plain 22 196)) []
+    × Checks (encode_log limits (log_of 1 [] (9 ∷ 5 ∷ 0 ∷ []))) [] (claimless (plain 1 0)) []
+    × Checks (encode_log limits (log_of 0 (empty_zone 256 ∷ []) (9 ∷ 5 ∷ 0 ∷ []))) [] (claimless (plain 2 0)) []
+    × Checks whole_plan [] (claimless (plain 21 12)) []
+    × (answer_alone limits spelled_log ≡ plain 21 12)
+
+-- the same answers, number by number
+abbrev pub LogsTold : Type 0
+LogsTold =
     (encode_log limits (log_of 0 [] (0 ∷ 5 ∷ 0 ∷ [])) ≡ spelled_log)
     × Checks spelled_log (sevens 30) (told 0 (length end_zones) 0 0) (end_zones ++ sevens 2)
     × Checks spelled_log (sevens 27) (told 28 0 0 0) (sevens 27)

@@ -11,7 +11,7 @@ use lib.ListN.{length, take, drop, length-append, length-drop, length-take, take
 use Rattle.lists.specs.Bytes.{little}
 use Rattle.formats.specs.Formats.{Out, got, bad, left, when, then, read_number, number, read_with, with, read_both, both}
 use Rattle.formats.specs.Formats.{start_at, field, read_as, as_type, read_many, many, within, read_count, read_headed, headed}
-use Rattle.formats.specs.Formats.{listed, as_many, exactly, at_end, read_file, Format}
+use Rattle.formats.specs.Formats.{listed, exactly, at_end, read_file, Format}
 use Rattle.formats.proofs.Formats.{part_at, Part, Lawful}
 use Rattle.formats.proofs.Most.{onto, most_number}
 use Rattle.rules.specs.Limits.{mark_count, Limits}

@@ -1,6 +1,6 @@
 -- Where bases differ: the part begins where the two stretches stop being alike; two sections that are not equal do so at a byte of
 -- both, by the format's laws; and 26 is answered only where zones, and so their sections, are not equal.
-use Prim.Native.Nat.{ℕ, ◌-◌, ◌≤◌}
+use Prim.Native.Nat.{ℕ, ◌≤◌}
 use native.Mathlib.Omega.{arith}
 use mathlib.Core.Bool.{Bool, true, false, cond, not}
 use mathlib.Core.List.{List, [], ◌∷◌, ◌++◌}

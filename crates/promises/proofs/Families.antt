@@ -24,7 +24,7 @@ use Rattle.rules.specs.OwnedPlan.{read_owned, owned_steps}
 use Rattle.rules.specs.Owners.{owned_standing, StoredOwned}
 use Rattle.rules.specs.Limits.{mark_count, limits, Limits, Sayable}
 use Rattle.rules.specs.Plan.{short, region_field, asked_field, marks_to, marks_from, marks_section, regions_section, set_format, zone_to, zone_from, zone_format, zones_section, requests_section, plan_to, plan_from, plan_format, read_plan, encode, Short, RegionFits, AskedFits, MarksFit, SetFits, ZoneFits, PlanFits, Asked, Marks, Plan}
-use Rattle.rules.specs.Requests.{after, standing}
+use Rattle.rules.specs.Requests.{standing}
 use Rattle.rules.specs.Regions.{no_region}
 use Rattle.rules.specs.Fields.{short_size, region_size}
 use Rattle.rules.specs.Sizes.{marks_size, regions_size, zone_size, plan_size, zones_at, requests_at, zone_with, plan_with}

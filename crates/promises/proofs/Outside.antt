@@ -3,7 +3,7 @@ use Prim.Native.Nat.{ℕ, ◌+◌, ◌-◌, ◌≤◌, ◌<◌}
 use native.Mathlib.Omega.{arith}
 use mathlib.Core.Bool.{Bool, true, false, cond, not}
 use mathlib.Core.List.{List, [], ◌∷◌, ◌++◌}
-use mathlib.Core.Logic.{◌⊎◌, inl, inr, ⊎_elim}
+use mathlib.Core.Logic.{inl, inr, ⊎_elim}
 use mathlib.Core.Path.{◌≡◌, refl, sym, ap, subst, ◌∙◌}
 use borrow.Author.Tests.{eqb-true, not-true, not-false, eqb-false, eq-eqb, ne_eqb}
 use lib.Dec.{eqb}
@@ -27,7 +27,7 @@ use Rattle.rules.specs.Configuration.{config_of, check, is_sound}
 use Rattle.rules.specs.Limits.{Limits}
 use Rattle.rules.specs.Plan.{read_plan, requests_from}
 use Rattle.rules.specs.Requests.{find, refusal, next_by, next, standing_rules, answer}
-use Rattle.rules.specs.Run.{run, run_by, run_from, ended, ended_after, run_answer, Run}
+use Rattle.rules.specs.Run.{run_by, run_from, ended, ended_after, run_answer, Run}
 use Rattle.rules.specs.Steps.{StepRule}
 use Rattle.rules.specs.Tables.{table_of, Zone, StoredTable}
 use Rattle.rules.specs.Translation.{covers_guest, covering_in, translation_rules, translated_as, translation, translated_after, translated}
@@ -55,10 +55,10 @@ use Rattle.promises.specs.Stretches.{further}
 use Rattle.promises.proofs.Answers.{refusal_is_exact, table_stands, tells_covers, tells_eq, tells_lt}
 use Rattle.promises.proofs.Answers.{xs as asked_set, comes_out as translation_comes_out}
 use Rattle.promises.proofs.Answers.{tells_some, tells_zone, twice}
-use Rattle.promises.proofs.Closure.{there}
-use Rattle.promises.proofs.Translation.{xs, covers, comes_out, remains}
+use Rattle.promises.proofs.Translation.{xs, covers, remains}
 use Rattle.promises.proofs.Stretches.{accepted, sound_further}
 use Rattle.lists.proofs.Room.{length_room}
+use Rattle.rules.specs.Configuration.{Configuration}
 use Rattle.rules.specs.Regions.{no_region}
 use Rattle.rules.proofs.Sections.{whole_read as plan_whole_read, own_config_law, own_zones}
 

@@ -22,7 +22,6 @@ use Rattle.rules.specs.Configuration.{wrong_count, wrong_gic, check}
 use Rattle.rules.specs.Limits.{Limits}
 use Rattle.rules.specs.Owners.{used_at, right_owner, wrong_at, owned_check, owned_check_number, owned_check_place}
 use Rattle.rules.specs.Owners.{owned_check_earlier, StoredOwned}
-use Rattle.rules.specs.Regions.{used}
 use Rattle.rules.specs.declared.Checked.{Checked}
 use Rattle.rules.specs.declared.Checked.TheVariants.{Sound, BadCount, BadGic, NotZero, Malformed, OutOfReach, Overlap}
 use Rattle.rules.specs.declared.OwnedChecked.{OwnedChecked}

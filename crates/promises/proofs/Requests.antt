@@ -15,7 +15,7 @@ use Rattle.rules.specs.Regions.{no_region, used}
 use Rattle.rules.specs.Requests.{no_request, request_rules, refusal, next}
 use Rattle.rules.specs.Run.{bare, make_kind, make_request, run_from}
 use Rattle.rules.specs.declared.Kind.{Kind}
-use Rattle.rules.specs.declared.Kind.TheVariants.{AddZone, RemoveZone, Insert, Remove, NoRequest}
+use Rattle.rules.specs.declared.Kind.TheVariants.{AddZone, RemoveZone, NoRequest}
 use Rattle.rules.specs.declared.Region.{Region}
 use Rattle.rules.proofs.Computing.{request_parts}
 use Rattle.rules.proofs.Keeps.{sound_parts, parts_sound, next_keeps, runs_keep}

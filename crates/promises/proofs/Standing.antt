@@ -2,14 +2,13 @@
 use Prim.Native.Nat.{ℕ}
 use mathlib.Core.Bool.{true}
 use mathlib.Core.List.{List}
-use mathlib.Core.Path.{◌≡◌, refl, sym, ap, subst, ◌∙◌}
+use mathlib.Core.Path.{◌≡◌, sym, ap, subst, ◌∙◌}
 use Rattle.rules.specs.Applying.{plain_steps, apply_by, Kept, AppliedOf}
 use Rattle.rules.specs.Closure.{state_of, Transition}
 use Rattle.rules.specs.Configuration.{config_of, StoredConfig}
 use Rattle.rules.specs.Limits.{Limits}
 use Rattle.rules.specs.OwnedPlan.{owned_steps}
 use Rattle.rules.specs.Owners.{owned_of, owned_sound, owned_standing, StoredOwned}
-use Rattle.rules.specs.Requests.{next}
 use Rattle.rules.specs.Steps.{StepRule}
 use Rattle.rules.specs.Tables.{table_of, Zone, StoredTable}
 use Rattle.rules.specs.declared.Translated.{Translated}

@@ -1,13 +1,11 @@
 -- Demand 3 for document 01's terminals: their step rule is proper, and the rest is said of every proper one.
 use Prim.Native.Nat.{ℕ}
 use mathlib.Core.List.{List, []}
-use mathlib.Core.Path.{◌≡◌, refl, sym, ap}
-use Rattle.lists.proofs.Room.{length_room}
+use mathlib.Core.Path.{◌≡◌, refl, sym}
 use Rattle.rules.specs.Applying.{plain_steps, apply}
 use Rattle.rules.specs.Configuration.{config_of, check, Configuration, StoredConfig}
 use Rattle.rules.specs.Limits.{Limits}
 use Rattle.rules.specs.Plan.{Asked}
-use Rattle.rules.specs.Regions.{no_region}
 use Rattle.rules.specs.Requests.{refusal, next}
 use Rattle.rules.specs.Run.{run_by, run_from, run}
 use Rattle.rules.specs.Tables.{Zone}
@@ -18,7 +16,6 @@ use Rattle.rules.proofs.Configuration.{passed}
 use Rattle.rules.proofs.Keeps.{sound_parts, next_keeps, SoundTable}
 use Rattle.rules.proofs.Plan.{read_encoded, no_slack, plan_ends, plan_refuses}
 use Rattle.rules.proofs.Planner.{plan_fits, plan_for_base}
-use Rattle.rules.proofs.Sections.{whole_read, own_config_law, own_zones}
 use Rattle.rules.proofs.Stored.{stands_well, stored_stands}
 use Rattle.promises.specs.Editions.{at}
 use Rattle.promises.specs.Terminals.{terminal, terminals, PlainIsProper, TerminalsAreLawful, planned, planner}

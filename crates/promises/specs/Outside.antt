@@ -1,6 +1,6 @@
 -- "The first number that applies", as Answers has it, over a kind of terminals as it is seen from outside (`Outside`):
 -- document 01's terminals are one kind, those with owners another (Owned).
-use Rattle.std.specs.Prelude.{ℕ, ◌+◌, ◌-◌, ◌≤◌, ◌<◌, Bool, false, List, [], ◌∷◌, ◌↔◌, ◌≡◌, length, get_or, take, drop}
+use Rattle.std.specs.Prelude.{ℕ, ◌+◌, ◌≤◌, ◌<◌, Bool, false, List, [], ◌∷◌, ◌↔◌, ◌≡◌, length, get_or, take, drop}
 use Rattle.lists.specs.Lines.{◌given◌, FirstOf, Exactly, Line}
 use Rattle.lists.specs.Runs.{runs}
 use Rattle.formats.specs.Formats.{Out, got, bad}
@@ -10,7 +10,7 @@ use Rattle.rules.specs.Configuration.{StoredConfig}
 use Rattle.rules.specs.Limits.{Limits}
 use Rattle.rules.specs.Plan.{plan_format, requests_from}
 use Rattle.rules.specs.Requests.{refusal, next, answer}
-use Rattle.rules.specs.Run.{run, run_answer}
+use Rattle.rules.specs.Run.{run_answer}
 use Rattle.rules.specs.Steps.{StepRule}
 use Rattle.rules.specs.Tables.{table_of, check_table, Zone, StoredTable}
 use Rattle.rules.specs.Translation.{translated}

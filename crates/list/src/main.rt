@@ -21,7 +21,6 @@ fn list(rt: &impl Print, plan: &[u8]) -> io::Result<()> {
     list_into(rt, plan, &mut text)
 }
 
-#[tactic(auto, using(crate::proofs::Room::place_taken))]
 fn list_into(rt: &impl Print, plan: &[u8], text: &mut [u8]) -> io::Result<()> {
     let outcome = list_alone(plan, text);
     if outcome.number != 0 {

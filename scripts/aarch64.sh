@@ -57,7 +57,7 @@ known_lines() {
         'declare void @llvm\.memmove\.p0\.p0\.i64\(ptr writeonly captures\(none\), ptr readonly captures\(none\), i64, i1 immarg\) #1' \
         "  call void @llvm\.memset\.p0\.i64\(ptr $local_name, i8 0, i64 $value, i1 false\)" \
         'declare void @llvm\.memset\.p0\.i64\(ptr writeonly captures\(none\), i8, i64, i1 immarg\) #2'
-    printf '%s\n' "attributes #0 = \{ nounwind \"probe-stack\"=\"inline-asm\"$x86_attribute \}" \
+    printf '%s\n' "attributes #0 = \{ nounwind \"probe-stack\"=\"inline-asm\" \"stack-probe-size\"=\"3072\"$x86_attribute \}" \
         'attributes #1 = \{ nocallback nofree nounwind willreturn memory\(argmem: readwrite\) \}' \
         'attributes #2 = \{ nocallback nofree nounwind willreturn memory\(argmem: write\) \}' \
         '!llvm\.ident = !\{!0\}' '!0 = !\{!"rattle logic=[0-9a-f]+"\}' '![0-9]+ = !\{\}' '![0-9]+ = !\{i8 [0-9]+, i8 [0-9]+\}'
@@ -95,11 +95,13 @@ change_words() {
     while read -r word; do
         case $word in
         --target="$x86_triple") words+=(--target="$arm_triple") ;;
-        -march=x86-64) words+=(-march=armv8-a) ;;
+        # With the word that the kit gives its clang for this processor.
+        -march=x86-64) words+=(-march=armv8-a -mllvm -aarch64-load-store-renaming=false) ;;
         module.bc) words+=("$work/module.ll") ;;
         module.o) words+=("$work/$object") ;;
         --sysroot=*) ;; # for headers and libraries, which a module has no use for
         -ffunction-sections | -fdata-sections | -mllvm | -trap-unreachable | -no-trap-after-noreturn | --no-default-config) words+=("$word") ;;
+        -no-x86-call-frame-opt | -disable-machine-licm | -disable-postra-machine-licm | -sink-common-insts=false) words+=("$word") ;;
         -no-canonical-prefixes | -fintegrated-cc1 | -fno-crash-diagnostics | -Werror | -c | -x | ir | -o | -fPIC | -O3) words+=("$word") ;;
         *) fail "a word for the compiler is not known for aarch64: $word" ;;
         esac

@@ -282,7 +282,7 @@ fn edits(repository: &Repository) -> Told {
 
 /// Each `crate/name` of a document, but for a crate's folders.
 fn edits_named(document: &str, crates: &BTreeSet<String>) -> BTreeSet<String> {
-    let is_part = |c: char| c.is_ascii_alphanumeric() || c == '_';
+    let is_part = |c: char| c.is_ascii_alphanumeric() || c == '_' || c == '-';
     let paths = document.split(|c: char| !is_part(c) && c != '/');
     let pairs = paths.flat_map(|path| path.split('/').zip(path.split('/').skip(1)).collect::<Vec<_>>());
     let is_edit = |(krate, name): &(&str, &str)| crates.contains(*krate) && is_name(name) && !["specs", "proofs"].contains(name);
@@ -358,7 +358,7 @@ mod tests {
     #[test]
     fn edits_that_a_document_names() {
         let crates = BTreeSet::from(["zones".to_string(), "rules".to_string()]);
-        let named = edits_named("`zones/one_less`, must-fail/rules/two, crates/zones/specs, tests/zones, plan/three", &crates);
+        let named = edits_named("`zones/one_less`, must-fail/rules/two, crates/zones/specs, crates/rules/must-fail, tests/zones, plan/three", &crates);
         assert!(named.iter().eq(["rules/two", "zones/one_less"]));
     }
 }

@@ -358,7 +358,10 @@ mod tests {
     #[test]
     fn edits_that_a_document_names() {
         let crates = BTreeSet::from(["zones".to_string(), "rules".to_string()]);
-        let named = edits_named("`zones/one_less`, must-fail/rules/two, crates/zones/specs, crates/rules/must-fail, tests/zones, plan/three", &crates);
+        let named = edits_named(
+            "`zones/one_less`, must-fail/rules/two, crates/zones/specs, crates/rules/must-fail, tests/zones, plan/three",
+            &crates,
+        );
         assert!(named.iter().eq(["rules/two", "zones/one_less"]));
     }
 }

@@ -325,7 +325,8 @@ check_progress() {
     [ "$(sed -n 's/^\([a-z_]*\)\( staticlib\)\{0,1\}:.*/\1/p' "$root/crates.txt" | sort)" = "$(sed -n 's/^\([a-z_]*\) [0-9]*$/\1/p' "$root/scripts/launcher/seconds.txt" | sort)" ] ||
         say_failed "scripts/launcher/seconds.txt has other crates than crates.txt"
     # shellcheck disable=SC2016 # for the toolchain
-    fake_rt '[ "$1" = run ] || { echo /kit/START-HERE.md; exit; }' 'echo "crate lists: modules loaded=0 checked=1"' 'sleep 12' \
+    fake_rt '[ "$1" = run ] || { echo /kit/START-HERE.md; exit; }' 'echo "crate lists: modules loaded=0 checked=1"' \
+        'echo "rt: chose --jobs 2 for formats"' 'sleep 12' \
         'echo "crate formats: modules loaded=1 checked=1"' 'sleep 2' \
         'mkdir -p out' 'printf "#!/bin/sh\necho 0 1 0\n" >out/apply' 'chmod +x out/apply'
     crates=$(. "$root/scripts/launcher/build.sh" && crates_of apply | wc -w)

@@ -100,20 +100,36 @@ account() {
     fi
 }
 
-# Until it is ended: each crate when it is proved, and whenever nothing was said for ten seconds, how far it is. `rt` proves one crate after another.
+# Until it is ended: each crate when it is proved, and whenever nothing was said for ten seconds, how far it is. `rt` proves one crate after another,
+# lowest first, and says nothing of a crate that it needs not prove: all before the one that it begins are done.
 tell_progress() {
-    local log=$1 crates crate began=$SECONDS last=$SECONDS since=$SECONDS proved=' '
+    local log=$1 crates crate word at=0 began=$SECONDS last=$SECONDS since=$SECONDS proved=' ' current=
     exec 9>&-
     read -ra crates <<<"$2"
     # A sleep that outlives the build must not keep its caller's streams open.
     while sleep 1 >/dev/null 2>&1 3>&- && kill -0 $$ 2>/dev/null; do
-        while read -r crate; do
-            [[ $proved != *" $crate "* ]] || continue
-            proved+="$crate "
-            progress "$crate proved in $((SECONDS - since)) s"
-            since=$SECONDS
-        done < <(sed -n 's/^crate \([a-z_]*\): modules .*/\1/p' "$log" || true)
+        while read -r word crate; do
+            at=$((at + 1))
+            if [ "$word" = begun ]; then
+                begin_crate "$crate"
+            elif [[ $proved != *" $crate "* ]]; then
+                proved+="$crate "
+                progress "$crate proved in $((SECONDS - since)) s"
+                since=$SECONDS
+            fi
+        done < <(sed -n 's/^rt: chose --jobs [0-9]* for \([a-z_]*\)$/begun \1/p; s/^crate \([a-z_]*\): modules .*/proved \1/p' "$log" | tail -n +$((at + 1)))
         [ $((SECONDS - last)) -lt 10 ] || progress "$(under_way)"
+    done
+}
+
+# Of tell_progress.
+begin_crate() {
+    local crate
+    current=$1 since=$SECONDS
+    [[ " ${crates[*]} " == *" $1 "* ]] || return 0
+    for crate in "${crates[@]}"; do
+        [ "$crate" != "$1" ] || return 0
+        [[ $proved == *" $crate "* ]] || proved+="$crate "
     done
 }
 
@@ -125,10 +141,10 @@ progress() {
     printf '  %s%s, %s so far\n' "$1" "${crates:+: ${#words[@]} of ${#crates[@]} crates}" "$(time_of $((SECONDS - began)))" >&2
 }
 
-# Of tell_progress: the first crate that is not proved yet. All that it stands on is, so it is being proved.
+# Of tell_progress: the crate that is being proved: the one that was begun, or else the first that is not proved yet.
 under_way() {
     local crate
-    for crate in "${crates[@]}"; do
+    for crate in ${current:+"$current"} "${crates[@]}"; do
         [[ $proved == *" $crate "* ]] || { echo "proving $crate" && return; }
     done
     echo 'compiling'

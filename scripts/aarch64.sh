@@ -34,10 +34,12 @@ x86_attribute=' "target-cpu"="x86-64"'
 # The forms of lines, as patterns for the whole line.
 known_lines() {
     local number='i(1|8|16|32|64)' local_name='%[A-Za-z0-9_.]+' function='@("[A-Za-z0-9_:+]+"|peatmitten_[a-z0-9_]+)'
-    local one="($number|ptr)" value="($local_name|-?[0-9]+|true|false|null)" label="label $local_name" to pair
-    local taken="$one noundef( zeroext)? $local_name" handed="$one $value" flags='((nuw|nsw|exact|disjoint|nneg|samesign) )*'
+    local one="($number|ptr)" value="($local_name|-?[0-9]+|true|false|null|@static\.[0-9]+)" label="label $local_name" to pair
+    local taken="$one( noundef)?( zeroext)? $local_name" handed="$one $value" flags='((nuw|nsw|exact|disjoint|nneg|samesign) )*'
     to="  $local_name = " pair="\{ $one, $one \}"
     printf '%s\n' '' ';.*' 'source_filename = "rattle"' "target datalayout = \"$x86_layout\"" "target triple = \"$x86_triple\""
+    # Bytes that do not change, as the marks of a listing.
+    printf '%s\n' '@static\.[0-9]+ = private unnamed_addr constant \[[0-9]+ x i8\] c"[^"]*", align 1'
     # Within the module functions are called as its compiler likes. They answer one number or pointer, or a pair: both processors have its second
     # part where that part's own alignment puts it.
     printf '%s\n' "define internal (void|noundef (zeroext )?$one|(noundef )?$pair) $function\(($taken(, $taken)*)?\) #0 \{" '\}'

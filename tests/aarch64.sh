@@ -90,6 +90,10 @@ check_functions() {
 
 # Lines at the module's own level, and words for the compiler.
 check_rest() {
+    refuse '@static.9 = private unnamed_addr constant [1 x i64] [i64 1], align 8' \
+        '0,/^define /s//@static.9 = private unnamed_addr constant [1 x i64] [i64 1], align 8\n&/'
+    refuse '@static.9 = private unnamed_addr global [1 x i8] c"a", align 1' \
+        '0,/^define /s//@static.9 = private unnamed_addr global [1 x i8] c"a", align 1\n&/'
     refuse '@other = global i64 0' '0,/^define /s//@other = global i64 0\n&/'
     refuse '%other = type { i64, i64 }' '0,/^define /s//%other = type { i64, i64 }\n&/'
     refuse 'module asm "nop"' '0,/^define /s//module asm "nop"\n&/'

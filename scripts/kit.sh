@@ -13,7 +13,7 @@ fail() {
 
 find_kit() {
     command -v rt >/dev/null || fail "the Rattle toolchain is not installed: its command rt is not on the PATH"
-    kit=$(cd "$(dirname "$(readlink -f "$(command -v rt)")")/.." && pwd -P)
+    kit=$(cd "$(dirname "$(rt doc)")" && pwd -P)
     clang=$kit/toolchain/bin/clang
     archiver=$kit/toolchain/bin/llvm-ar
     if [ ! -x "$clang" ] || [ ! -x "$archiver" ]; then fail "the kit at $kit has no clang and llvm-ar in toolchain/bin"; fi

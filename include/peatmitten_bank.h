@@ -4,7 +4,7 @@
  *
  * The functions of libpeatmitten_bank.a, a second static library. It needs nothing of the first; a program that calls both includes peatmitten.h
  * too, and links both. (Where it was just built, it is libbank.a; `./peatmitten bank library` says where.) What peatmitten.h says of its functions holds of these too: they are total, and what it
- * asks of pointers and threads, its stack (PEATMITTEN_STACK; measured were 6,776 bytes on x86-64, for peatmitten_bank_apply_words), its imports and
+ * asks of pointers and threads, its stack (PEATMITTEN_STACK; measured were 6,840 bytes on x86-64, for peatmitten_bank_apply_words), its imports and
  * its processors are the same. Limits, words of configurations and tables, kinds, sides and numbers are its own, but for what stands here.
  *
  * A plan for such a terminal has an owners section between its regions and its base zones. No mark of a plan tells which machine it is for: each

@@ -41,8 +41,8 @@ static inline const char *peatmitten_words(uint32_t number)
     case PEATMITTEN_REGION_THERE:
         return "the region is already in that set";
     case PEATMITTEN_PHYSICAL_OVERLAP:
-        return "a forbidden physical overlap: another zone holds this very region; only the GIC may be in the IOMMU "
-               "sets of several zones";
+        return "a forbidden physical overlap: with a region that another zone holds, or of a CPU region with one in "
+               "the zone's own CPU set; only the GIC may be in the IOMMU sets of several zones";
     case PEATMITTEN_GUEST_OVERLAP:
         return "the region overlaps another one of that set in guest addresses";
     case PEATMITTEN_SET_FULL:

@@ -34,32 +34,36 @@ x86_attribute=' "target-cpu"="x86-64"'
 # The forms of lines, as patterns for the whole line.
 known_lines() {
     local number='i(1|8|16|32|64)' local_name='%[A-Za-z0-9_.]+' function='@("[A-Za-z0-9_:+]+"|peatmitten_[a-z0-9_]+)'
-    local one="($number|ptr)" value="($local_name|-?[0-9]+|true|false)" label="label $local_name" to
-    local taken="$one noundef( zeroext)? $local_name" handed="$one $value" flags='((nuw|nsw|exact|disjoint|nneg|samesign) )*'
-    to="  $local_name = "
+    local one="($number|ptr)" value="($local_name|-?[0-9]+|true|false|null|@static\.[0-9]+)" label="label $local_name" to pair
+    local taken="$one( noundef)?( zeroext)? $local_name" handed="$one $value" flags='((nuw|nsw|exact|disjoint|nneg|samesign) )*'
+    to="  $local_name = " pair="\{ $one, $one \}"
     printf '%s\n' '' ';.*' 'source_filename = "rattle"' "target datalayout = \"$x86_layout\"" "target triple = \"$x86_triple\""
-    # Within the module functions are called as its compiler likes.
-    printf '%s\n' "define internal (void|noundef (zeroext )?$one) $function\(($taken(, $taken)*)?\) #0 \{" '\}'
+    # Bytes that do not change, as the marks of a listing.
+    printf '%s\n' '@static\.[0-9]+ = private unnamed_addr constant \[[0-9]+ x i8\] c"[^"]*", align 1'
+    # Within the module functions are called as its compiler likes. They answer one number or pointer, or a pair: both processors have its second
+    # part where that part's own alignment puts it.
+    printf '%s\n' "define internal (void|noundef (zeroext )?$one|(noundef )?$pair) $function\(($taken(, $taken)*)?\) #0 \{" '\}'
     # Others are called as C does. It hands over pointers and numbers of 32 and 64 bits as they are, eight of them in registers on aarch64.
     taken="(ptr|i32|i64) noundef $local_name"
     printf '%s\n' "define noundef (i32|i64) @peatmitten_[a-z0-9_]+\(($taken(, $taken){0,7})?\) #0 \{"
     printf '%s\n' '[A-Za-z0-9_.]+:( *; preds = .*)?' "  br $label" "  br i1 $value, $label, $label" '  unreachable' \
-        "  switch $number $value, $label \[" "    $number -?[0-9]+, $label" '  \]' '  ret void' "  ret $handed"
+        "  switch $number $value, $label \[" "    $number -?[0-9]+, $label" '  \]' '  ret void' "  ret $handed" "  ret $pair $local_name"
     printf '%s\n' "${to}alloca ($one|\[[0-9]+ x i8\]), align [0-9]+" \
         "${to}load $one, ptr $local_name, align [0-9]+(, !range ![0-9]+)?(, !noundef ![0-9]+)?" \
+        "${to}load $pair, ptr $local_name, align [0-9]+" "${to}extractvalue $pair $local_name, [01]" \
         "  store $handed, ptr $local_name, align [0-9]+" \
         "${to}getelementptr ((inbounds|nuw|nusw) )*i8, ptr $local_name, i64 $value"
     printf '%s\n' "$to(add|sub|mul|udiv|urem|and|or|xor|shl|lshr) $flags$number $value, $value" \
         "${to}icmp $flags(eq|ne|ult|ule|ugt|uge|slt) $one $value, $value" \
         "$to(zext|trunc) $flags$number $value to $number"
-    printf '%s\n' "($to|  )call (void|$one) $function\(($handed(, $handed)*)?\)" \
+    printf '%s\n' "($to|  )call (void|$one|$pair) $function\(($handed(, $handed)*)?\)" \
         "  call void @llvm\.memmove\.p0\.p0\.i64\(ptr $local_name, ptr $local_name, i64 $value, i1 false\)" \
-        'declare void @llvm\.memmove\.p0\.p0\.i64\(ptr writeonly captures\(none\), ptr readonly captures\(none\), i64, i1 immarg\) #1' \
+        'declare void @llvm\.memmove\.p0\.p0\.i64\(ptr writeonly captures\(none\), ptr readonly captures\(none\), i64, i1 immarg\) #[12]' \
         "  call void @llvm\.memset\.p0\.i64\(ptr $local_name, i8 0, i64 $value, i1 false\)" \
-        'declare void @llvm\.memset\.p0\.i64\(ptr writeonly captures\(none\), i8, i64, i1 immarg\) #2'
-    printf '%s\n' "attributes #0 = \{ nounwind \"probe-stack\"=\"inline-asm\"$x86_attribute \}" \
-        'attributes #1 = \{ nocallback nofree nounwind willreturn memory\(argmem: readwrite\) \}' \
-        'attributes #2 = \{ nocallback nofree nounwind willreturn memory\(argmem: write\) \}' \
+        'declare void @llvm\.memset\.p0\.i64\(ptr writeonly captures\(none\), i8, i64, i1 immarg\) #[12]'
+    printf '%s\n' "attributes #0 = \{ nounwind \"probe-stack\"=\"inline-asm\" \"stack-probe-size\"=\"3072\"$x86_attribute \}" \
+        'attributes #[12] = \{ nocallback nofree nounwind willreturn memory\(argmem: readwrite\) \}' \
+        'attributes #[12] = \{ nocallback nofree nounwind willreturn memory\(argmem: write\) \}' \
         '!llvm\.ident = !\{!0\}' '!0 = !\{!"rattle logic=[0-9a-f]+"\}' '![0-9]+ = !\{\}' '![0-9]+ = !\{i8 [0-9]+, i8 [0-9]+\}'
 }
 
@@ -95,11 +99,13 @@ change_words() {
     while read -r word; do
         case $word in
         --target="$x86_triple") words+=(--target="$arm_triple") ;;
-        -march=x86-64) words+=(-march=armv8-a) ;;
+        # With the word that the kit gives its clang for this processor.
+        -march=x86-64) words+=(-march=armv8-a -mllvm -aarch64-load-store-renaming=false) ;;
         module.bc) words+=("$work/module.ll") ;;
         module.o) words+=("$work/$object") ;;
         --sysroot=*) ;; # for headers and libraries, which a module has no use for
         -ffunction-sections | -fdata-sections | -mllvm | -trap-unreachable | -no-trap-after-noreturn | --no-default-config) words+=("$word") ;;
+        -no-x86-call-frame-opt | -disable-machine-licm | -disable-postra-machine-licm | -sink-common-insts=false) words+=("$word") ;;
         -no-canonical-prefixes | -fintegrated-cc1 | -fno-crash-diagnostics | -Werror | -c | -x | ir | -o | -fPIC | -O3) words+=("$word") ;;
         *) fail "a word for the compiler is not known for aarch64: $word" ;;
         esac

@@ -2,7 +2,6 @@
 # Sourced by the scripts beside it: the tools of the Rattle kit, which stay where they are.
 #
 #   kit     the kit's folder
-#   tools   the folder of its LLVM, within it
 #   clang   its compiler
 #   archiver  what puts objects into an archive
 #   work    a folder for a script's own files, which is removed when the script ends
@@ -14,11 +13,10 @@ fail() {
 
 find_kit() {
     command -v rt >/dev/null || fail "the Rattle toolchain is not installed: its command rt is not on the PATH"
-    kit=${RATTLE_HOME:-$(cd "$(dirname "$(readlink -f "$(command -v rt)")")/.." && pwd -P)}
-    tools=on/$(uname -m)/toolchain
-    clang=$kit/$tools/bin/clang
-    archiver=$kit/$tools/bin/llvm-ar
-    if [ ! -x "$clang" ] || [ ! -x "$archiver" ]; then fail "the kit at $kit has no clang and llvm-ar in $tools/bin"; fi
+    kit=$(cd "$(dirname "$(rt doc)")" && pwd -P)
+    clang=$kit/toolchain/bin/clang
+    archiver=$kit/toolchain/bin/llvm-ar
+    if [ ! -x "$clang" ] || [ ! -x "$archiver" ]; then fail "the kit at $kit has no clang and llvm-ar in toolchain/bin"; fi
 }
 
 make_work() {

@@ -64,6 +64,9 @@ check_values() {
     beside 'define noundef i32 @peatmitten_other(i128 noundef %a0) #0'
     beside 'define noundef i32 @peatmitten_other(ptr noundef %a0, ...) #0'
     within '  %other = extractvalue { i64, i64 } poison, 0'
+    within '  %other = extractvalue { i64, double } %a0, 1'
+    within '  %other = insertvalue { i64, i64 } poison, i64 1, 0'
+    within '  store { i64, i64 } zeroinitializer, ptr %a0, align 8'
     within '  %other = add <2 x i64> zeroinitializer, zeroinitializer'
     within '  %other = alloca <4 x i32>, align 16'
     within '  %other = fadd double 1.0, 1.0'
@@ -87,6 +90,10 @@ check_functions() {
 
 # Lines at the module's own level, and words for the compiler.
 check_rest() {
+    refuse '@static.9 = private unnamed_addr constant [1 x i64] [i64 1], align 8' \
+        '0,/^define /s//@static.9 = private unnamed_addr constant [1 x i64] [i64 1], align 8\n&/'
+    refuse '@static.9 = private unnamed_addr global [1 x i8] c"a", align 1' \
+        '0,/^define /s//@static.9 = private unnamed_addr global [1 x i8] c"a", align 1\n&/'
     refuse '@other = global i64 0' '0,/^define /s//@other = global i64 0\n&/'
     refuse '%other = type { i64, i64 }' '0,/^define /s//%other = type { i64, i64 }\n&/'
     refuse 'module asm "nop"' '0,/^define /s//module asm "nop"\n&/'

@@ -120,7 +120,8 @@ run_cases() {
     expect 0 '0 168 0 0: all claims hold' "$program" <"$plans/true.log"
     expect 1 "30 2 14 0: a claim of the log is false: the rules answer that request otherwise
 claimed: accepted
-right: a forbidden physical overlap: another zone holds this very region; only the GIC may be in the IOMMU sets of several zones" "$program" <"$plans/false.log"
+right: a forbidden physical overlap: with a region that another zone holds, or of a CPU region with one in the zone's own CPU set; only the GIC \
+may be in the IOMMU sets of several zones" "$program" <"$plans/false.log"
     expect 1 "21 12 0 0: a count is out of range, or the third mark is another format's" "$program" <"$plans/first.plan"
     expect 1 '20 0 0 0: the plan or the log ends before a field is wholly there' "$program" </dev/null
     expect 1 '22 63904 0 0: the plan or the log goes on after its last section' "$program" <"$root/vectors/logs/longest-and-one-byte.log"

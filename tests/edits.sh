@@ -1,6 +1,6 @@
 #!/usr/bin/env bash
 # Each must-fail edit still says which text it changes: the line behind `old:` stands once, and only once, in the file that it names. The gate
-# begins with this, since the edits themselves (must_fail.sh) are tried after the proofs.
+# begins with this, since `rt ci` tries the edits themselves after the proofs.
 set -euo pipefail
 test_name=edits
 . "$(dirname "$0")/host.sh"

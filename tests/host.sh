@@ -17,7 +17,7 @@
 
 root=$(cd "$(dirname "${BASH_SOURCE[0]}")/.." && pwd)
 
-# Where the library for a processor is built; x86-64's by the toolchain itself.
+# Where the library for a processor is built.
 library_folder() {
     case $1 in
     x86_64) echo "$root/target/staticlib" ;;
@@ -178,13 +178,13 @@ need_tool() {
     [ -z "$EMULATOR" ] || TOOL=("$EMULATOR" "${TOOL[@]}")
 }
 
-# Sets PROGRAM to what runs the proved program $1. Such programs are for x86-64; on another processor the toolchain has an emulator.
+# Sets PROGRAM to what runs the proved program $1. Such programs are for x86-64; on another processor an emulator runs them, with the kit's C library.
 find_program() {
-    local tools
+    local libraries
     PROGRAM=("$root/target/bin/$1")
-    [ -x "${PROGRAM[0]}" ] || say_failed "the program $1 is not built: 'rt check $1'"
+    [ -x "${PROGRAM[0]}" ] || say_failed "the program $1 is not built: ./peatmitten builds it"
     if [ "$(uname -m)" != x86_64 ]; then
-        tools=$(dirname "$(dirname "$(rt doc)")")/on/$(uname -m)/toolchain
-        PROGRAM=("$tools/bin/qemu-x86_64" "$tools/lib/ld-linux-x86-64.so.2" --library-path "$tools/lib" "${PROGRAM[@]}")
+        libraries=$(dirname "$(rt doc)")/toolchain/lib
+        PROGRAM=(qemu-x86_64 "$libraries/ld-linux-x86-64.so.2" --library-path "$libraries" "${PROGRAM[@]}")
     fi
 }

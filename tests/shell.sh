@@ -10,7 +10,7 @@ if ! command -v shellcheck >/dev/null; then
     { apt-get update && DEBIAN_FRONTEND=noninteractive apt-get install -y --no-install-recommends shellcheck; } >/dev/null ||
         say_failed "there is no shellcheck, and it could not be installed"
 fi
-mapfile -t scripts < <(grep -rlIm1 '^#!.*sh$' --exclude-dir=target --exclude-dir=.git .)
+mapfile -t scripts < <(grep -rlIm1 '^#!.*sh$' --exclude-dir=target --exclude-dir=out --exclude-dir=.git .)
 [ ${#scripts[@]} -gt 20 ] || say_failed "only these scripts were found: ${scripts[*]}"
 shellcheck --check-sourced "${scripts[@]}" || say_failed "shellcheck finds something"
 bare=$(grep -rnE 'shellcheck .*disable=[A-Z0-9,]+ *$' "${scripts[@]}" scripts tests || true)

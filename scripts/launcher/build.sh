@@ -30,39 +30,58 @@ take_turn() {
     fi
 }
 
-# What a crate is proved with, lowest first: its own line in crates.txt, the libraries of the toolchain left out.
-crates_of() {
-    local crate
-    for crate in $(sed -n "s/^$1: //p" "$root/crates.txt") "$1"; do
-        [ ! -d "$root/crates/$crate" ] || printf '%s ' "$crate"
-    done
+# The crates that crates.txt says a crate stands on; a static library's line has a word more.
+below_of() {
+    sed -n "s/^$1\( staticlib\)\{0,1\}: *//p" "$root/crates.txt"
 }
 
-# seconds_of CRATE..: how long the proofs take that are still to be made, on two processors: half of all, or as long as those that stand on each
-# other. Each crate's seconds, in seconds.txt, are those that `rt prove` printed with nothing beside it.
-seconds_of() {
-    local crate below all=0 longest=0 line
-    local -A took=() ends=()
-    while read -r crate line; do took[$crate]=$line; done <"$root/scripts/launcher/seconds.txt"
-    for crate; do
-        ends[$crate]=0
-        # shellcheck disable=SC2013 # the words of one line
-        for below in $(sed -n "s/^$crate: //p" "$root/crates.txt"); do
-            [ "${ends[$below]:-0}" -le "${ends[$crate]}" ] || ends[$crate]=${ends[$below]}
-        done
-        if [ "${ends[$crate]}" -gt 0 ] || ! is_proved "$crate"; then
-            ends[$crate]=$((ends[$crate] + ${took[$crate]:-0}))
-            all=$((all + ${took[$crate]:-0}))
-        fi
-        [ "${ends[$crate]}" -le "$longest" ] || longest=${ends[$crate]}
+# What a crate is proved with, lowest first, and then the crate; the libraries of the toolchain are left out.
+crates_of() {
+    local -A seen=()
+    visit "$1"
+}
+
+# Of crates_of.
+visit() {
+    local crate
+    # shellcheck disable=SC2013 # the words of one line
+    for crate in $(below_of "$1"); do
+        if [ -d "$root/crates/$crate" ] && [ -z "${seen[$crate]:-}" ]; then visit "$crate"; fi
     done
-    echo $((longest > all / 2 ? longest : all / 2))
+    seen[$1]=yes
+    printf '%s ' "$1"
+}
+
+# to_prove CRATE: of the crates that it is proved with, and of it itself, those whose proof is still to be made, lowest first: each that was
+# changed since, and each that stands on such a one.
+to_prove() {
+    local crate below
+    local -A open=([$1]=yes)
+    for crate in $(crates_of "$1"); do
+        is_proved "$crate" || open[$crate]=yes
+        # shellcheck disable=SC2013 # the words of one line
+        for below in $(below_of "$crate"); do
+            [ -z "${open[$below]:-}" ] || open[$crate]=yes
+        done
+        [ -z "${open[$crate]:-}" ] || printf '%s ' "$crate"
+    done
 }
 
 # Whether a crate was proved since it was changed, as far as times tell.
 is_proved() {
-    local proof=$root/target/stamp/$1
-    [ -f "$proof" ] && [ -z "$(find "$root/crates/$1" -newer "$proof" -print -quit)" ]
+    local proof=$root/crates/$1/out/rlib/stamp
+    [ -f "$proof" ] && [ -z "$(find "$root/crates/$1" -path "$root/crates/$1/out" -prune -o -type f -newer "$proof" -print -quit)" ]
+}
+
+# seconds_of CRATE..: how long their proofs take from nothing, one after another. Each crate's seconds stand in seconds.txt.
+seconds_of() {
+    local crate seconds all=0
+    local -A took=()
+    while read -r crate seconds; do took[$crate]=$seconds; done <"$root/scripts/launcher/seconds.txt"
+    for crate; do
+        all=$((all + ${took[$crate]:-0}))
+    done
+    echo "$all"
 }
 
 # account NAME CRATES COMMAND..: runs a command that builds NAME and proves these crates. What it says goes to a file.
@@ -81,20 +100,36 @@ account() {
     fi
 }
 
-# Until it is ended: each crate when it is proved, and whenever nothing was said for ten seconds, how far it is.
+# Until it is ended: each crate when it is proved, and whenever nothing was said for ten seconds, how far it is. `rt` proves one crate after another,
+# lowest first, and says nothing of a crate that it needs not prove: all before the one that it begins are done.
 tell_progress() {
-    local log=$1 crates crate began=$SECONDS last=$SECONDS proved=' ' seconds
+    local log=$1 crates crate word at=0 began=$SECONDS last=$SECONDS since=$SECONDS proved=' ' current=
     exec 9>&-
     read -ra crates <<<"$2"
     # A sleep that outlives the build must not keep its caller's streams open.
     while sleep 1 >/dev/null 2>&1 3>&- && kill -0 $$ 2>/dev/null; do
-        while read -r _ crate _ seconds _; do
-            [[ $proved != *" $crate "* ]] || continue
-            proved+="$crate "
-            [[ $seconds == '('[0-9]* ]] || continue
-            progress "$crate proved in ${seconds#(} s"
-        done < <(grep '^rt: [a-z_]* proved (' "$log" || true)
+        while read -r word crate; do
+            at=$((at + 1))
+            if [ "$word" = begun ]; then
+                begin_crate "$crate"
+            elif [[ $proved != *" $crate "* ]]; then
+                proved+="$crate "
+                progress "$crate proved in $((SECONDS - since)) s"
+                since=$SECONDS
+            fi
+        done < <(sed -n 's/^rt: chose --jobs [0-9]* for \([a-z_]*\)$/begun \1/p; s/^crate \([a-z_]*\): modules .*/proved \1/p' "$log" | tail -n +$((at + 1)))
         [ $((SECONDS - last)) -lt 10 ] || progress "$(under_way)"
+    done
+}
+
+# Of tell_progress.
+begin_crate() {
+    local crate
+    current=$1 since=$SECONDS
+    [[ " ${crates[*]} " == *" $1 "* ]] || return 0
+    for crate in "${crates[@]}"; do
+        [ "$crate" != "$1" ] || return 0
+        [[ $proved == *" $crate "* ]] || proved+="$crate "
     done
 }
 
@@ -106,10 +141,10 @@ progress() {
     printf '  %s%s, %s so far\n' "$1" "${crates:+: ${#words[@]} of ${#crates[@]} crates}" "$(time_of $((SECONDS - began)))" >&2
 }
 
-# Of tell_progress: the first crate that is not proved yet. All that it stands on is, so it is being proved.
+# Of tell_progress: the crate that is being proved: the one that was begun, or else the first that is not proved yet.
 under_way() {
     local crate
-    for crate in "${crates[@]}"; do
+    for crate in ${current:+"$current"} "${crates[@]}"; do
         [[ $proved == *" $crate "* ]] || { echo "proving $crate" && return; }
     done
     echo 'compiling'
@@ -118,20 +153,24 @@ under_way() {
 # prove CRATE NAME COMMAND..: has a command make NAME from the proofs of a crate, with a word on what comes.
 prove() {
     local name=$2 crates seconds about=
-    crates=$(crates_of "$1")
+    crates=$(to_prove "$1")
     shift 2
     need_toolchain
     # shellcheck disable=SC2086 # names of crates
     seconds=$(seconds_of $crates)
-    [ "$seconds" -lt 10 ] || about=": about $(time_of "$seconds") of proofs on two processors"
+    [ "$seconds" -lt 10 ] || about=": about $(time_of "$seconds") of proofs"
     note "proving and building $name, once$about"
     account "$name" "$crates" "$@"
 }
 
-# build CRATE NAME FILE COMMAND..: has COMMAND make the file of that name, unless it is there and newer than all sources.
+# build CRATE NAME FILE COMMAND..: has COMMAND make the file of that name, unless it is there and newer than all sources. What `rt` made
+# beside the sources, in a crate's out/, is none.
 build() {
-    local crate=$1 name=$2 file=$3 sources=("$root/crates" "$root/crates.txt" "$root/scripts/"*.sh)
+    local crate=$1 name=$2 file=$3 path sources=("$root/crates.txt" "$root/scripts/"*.sh)
     shift 3
+    for path in "$root"/crates/*/*; do
+        [ "${path##*/}" = out ] || sources+=("$path")
+    done
     if [ -f "$file" ] && is_fresh "$name" "${sources[@]}"; then
         return
     fi
@@ -148,9 +187,14 @@ build_program() {
     build "$1" "$1" "$root/target/bin/$1" make_program "$1"
 }
 
-# Where the kit is, is kept: on another processor than x86-64 its emulator runs the program, without asking for rt again.
+# `rt run` leaves the program in the crate's out/, and runs it once, on a file. Where the kit is, is kept: on another processor than x86-64 its C
+# library runs the program, without asking for rt again.
 make_program() {
-    rt check "$1" && dirname "$(dirname "$(rt doc)")" >"$stamps/kit"
+    local made=$root/crates/$1/out/$1 kept=$root/target/bin/$1 file
+    local -A files=([apply]=first.plan [bank_apply]=bank/own.plan [list]=map.plan [log_check]=true.log)
+    file=${files[$1]:-}
+    mkdir -p "${kept%/*}" && (cd "$root/crates/$1" && rt run -- ${file:+"$root/examples/$file"}) &&
+        cp "$made" "$kept.new" && mv "$kept.new" "$kept" && dirname "$(rt doc)" >"$stamps/kit"
 }
 
 # build_library PROCESSOR: both archives; sets library to the first one's file, and bank_library to that for terminals with owners.
@@ -163,7 +207,7 @@ build_library() {
 
 # build_for_PROCESSOR CRATE NAME FILE
 build_for_x86_64() {
-    build "$1" "$2-x86_64" "$3" rt staticlib "$1"
+    build "$1" "$2-x86_64" "$3" scripts/library.sh "$1" "${3%/*}"
 }
 
 build_for_aarch64() {

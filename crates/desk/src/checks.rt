@@ -1,6 +1,6 @@
 // The check of the desk's configuration and each fault it can find, and the check of the desk's tables.
 use crate::given::{config, two_zones};
-use crate::report::{name, say};
+use crate::report::{name, number, say, text};
 use rules::Checked;
 use rules::limits::MOST_REGIONS;
 use std::io;
@@ -23,8 +23,7 @@ pub fn examples(rt: &impl Print) -> io::Result<()> {
     check(rt, 4, 3, 2, b'W')?;
     check(rt, 4, 3, 2, b'B')?;
     let none = [0u64; TABLE_WORDS];
-    print!(rt; "no zones")?;
-    sound(rt, 4, Table { words: none })?;
+    sound(rt, b"no zones", 4, Table { words: none })?;
     zones(rt, 4, 5)?;
     zones(rt, 0, 5)?;
     zones(rt, 4, 6)?;
@@ -34,33 +33,40 @@ pub fn examples(rt: &impl Print) -> io::Result<()> {
 
 // A, B, C and the GIC, so many counted, with the GIC at a position and a region put at another.
 fn check(rt: &impl Print, count: u64, gic: u64, position: usize, letter: u8) -> io::Result<()> {
-    print!(rt; "the check of {count} with the GIC at {gic} and")?;
+    text(rt, b"the check of")?;
+    number(rt, count)?;
+    text(rt, b" with the GIC at")?;
+    number(rt, gic)?;
+    text(rt, b" and")?;
     name(rt, letter)?;
-    print!(rt; " at {position}:")?;
+    text(rt, b" at")?;
+    number(rt, position as u64)?;
+    text(rt, b":")?;
     let words = config(count, gic, position, letter);
     found(rt, check_config(Config { words }))
 }
 
 // The number, the place and the earlier place that the check gives.
 fn found(rt: &impl Print, f: Checked) -> io::Result<()> {
-    println!(rt;
-        " {} {} {}",
-        check_number(f),
-        check_place(f),
-        check_earlier(f)
-    )
+    number(rt, check_number(f) as u64)?;
+    number(rt, check_place(f) as u64)?;
+    number(rt, check_earlier(f) as u64)?;
+    text(rt, b"\n")
 }
 
 // Two empty zones, the second of them 6.
 fn zones(rt: &impl Print, configured: u64, first: u64) -> io::Result<()> {
     let words = two_zones(first);
-    print!(rt; "zones {first} and 6")?;
-    sound(rt, configured, Table { words })
+    text(rt, b"zones")?;
+    number(rt, first)?;
+    sound(rt, b" and 6", configured, Table { words })
 }
 
-fn sound(rt: &impl Print, configured: u64, t: Table) -> io::Result<()> {
+fn sound(rt: &impl Print, asked: &[u8], configured: u64, t: Table) -> io::Result<()> {
     let words = config(configured, 3, 0, b'A');
     let holds = check_table(Config { words }, t);
-    print!(rt; " under {configured}")?;
-    say(rt, " regions are sound", holds)
+    text(rt, asked)?;
+    text(rt, b" under")?;
+    number(rt, configured)?;
+    say(rt, b" regions are sound", holds)
 }

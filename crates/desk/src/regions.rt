@@ -1,6 +1,6 @@
 // The desk examples on regions, and each way in which two of them can lie.
 use crate::given::region;
-use crate::report::{name, say};
+use crate::report::{name, say, text};
 use region::{guest_overlap, in_reach, phys_overlap, region_eq, well_formed};
 use std::io;
 
@@ -21,10 +21,10 @@ fn alone(rt: &impl Print, letters: &[u8]) -> io::Result<()> {
 
 fn ask(rt: &impl Print, letter: u8) -> io::Result<()> {
     let r = region(letter);
-    print!(rt; "region")?;
+    text(rt, b"region")?;
     name(rt, letter)?;
-    say(rt, "\n    is well formed", well_formed(r))?;
-    say(rt, "    is in reach", in_reach(r))
+    say(rt, b"\n    is well formed", well_formed(r))?;
+    say(rt, b"    is in reach", in_reach(r))
 }
 
 // One region beside each of the others.
@@ -38,11 +38,11 @@ fn beside(rt: &impl Print, one: u8, others: &[u8]) -> io::Result<()> {
 fn ask_both(rt: &impl Print, one: u8, other: u8) -> io::Result<()> {
     let r = region(one);
     let s = region(other);
-    print!(rt; "regions")?;
+    text(rt, b"regions")?;
     name(rt, one)?;
-    print!(rt; " and")?;
+    text(rt, b" and")?;
     name(rt, other)?;
-    say(rt, "\n    are equal", region_eq(r, s))?;
-    say(rt, "    overlap physically", phys_overlap(r, s))?;
-    say(rt, "    overlap in guest addresses", guest_overlap(r, s))
+    say(rt, b"\n    are equal", region_eq(r, s))?;
+    say(rt, b"    overlap physically", phys_overlap(r, s))?;
+    say(rt, b"    overlap in guest addresses", guest_overlap(r, s))
 }

@@ -8,20 +8,42 @@ use rules::limits::{MOST_IN_SET, MOST_ZONES};
 use std::io;
 use zones::{REGION_WORDS, SET_WORDS, TABLE_WORDS, zone_start};
 
+pub fn text(rt: &impl Print, t: &[u8]) -> io::Result<()> {
+    rt.write_all(t)
+}
+
+pub fn number(rt: &impl Print, n: u64) -> io::Result<()> {
+    print!(rt; " {n}")
+}
+
+fn hex(rt: &impl Print, name: &[u8], n: u64) -> io::Result<()> {
+    text(rt, name)?;
+    print!(rt; "{n:x}")
+}
+
 // What was asked, and whether it is so.
-pub fn say(rt: &impl Print, asked: &str, holds: bool) -> io::Result<()> {
-    let answer = if holds { "yes" } else { "no" };
-    println!(rt; "{asked}: {answer}")
+pub fn say(rt: &impl Print, asked: &[u8], holds: bool) -> io::Result<()> {
+    text(rt, asked)?;
+    if holds {
+        text(rt, b": yes\n")
+    } else {
+        text(rt, b": no\n")
+    }
 }
 
 fn numbers(rt: &impl Print, v: u64, p: u64, size: u64, rights: u64) -> io::Result<()> {
-    print!(rt; " (v 0x{v:x} p 0x{p:x} size 0x{size:x} rights {rights})")
+    hex(rt, b" (v 0x", v)?;
+    hex(rt, b" p 0x", p)?;
+    hex(rt, b" size 0x", size)?;
+    text(rt, b" rights")?;
+    number(rt, rights)?;
+    text(rt, b")")
 }
 
 // A region: its letter, A to E or G, or else its numbers.
 pub fn name(rt: &impl Print, letter: u8) -> io::Result<()> {
     match letter {
-        b'A'..=b'E' | b'G' => print!(rt; " {}", letter as char),
+        b'A'..=b'E' | b'G' => text(rt, &[b' ', letter]),
         _ => of_numbers(rt, region(letter)),
     }
 }
@@ -46,11 +68,13 @@ pub fn show_table(rt: &impl Print, t: &[u64; TABLE_WORDS]) -> io::Result<()> {
 fn show_zone(rt: &impl Print, t: &[u64; TABLE_WORDS], b: usize) -> io::Result<()>
     requires { b + zone_words ≤ table_words }
 {
-    print!(rt; "    zone {}: CPU", t[b])?;
+    text(rt, b"    zone")?;
+    number(rt, t[b])?;
+    text(rt, b": CPU")?;
     show_set(rt, t, b + 1)?;
-    print!(rt; "; IOMMU")?;
+    text(rt, b"; IOMMU")?;
     show_set(rt, t, b + 1 + SET_WORDS)?;
-    println!(rt)
+    text(rt, b"\n")
 }
 
 // The set whose count stands at word b.
@@ -58,7 +82,7 @@ fn show_set(rt: &impl Print, t: &[u64; TABLE_WORDS], b: usize) -> io::Result<()>
     requires { b + set_words ≤ table_words }
 {
     if t[b] == 0 {
-        print!(rt; " none")?;
+        text(rt, b" none")?;
     }
     for i in 0..MOST_IN_SET {
         if (i as u64) < t[b] {

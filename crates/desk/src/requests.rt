@@ -1,7 +1,7 @@
 // The desk examples on requests. A request is four bytes: its kind, its zone, its region and a space. The zone is a digit, a letter from
 // a for 10 to w for 32, x for 255 or y for 256; the region is F, nothing, where the kind takes none.
 use crate::given::{config, region, two_zones};
-use crate::report::{name, say, show_table};
+use crate::report::{name, number, say, show_table, text};
 use std::io;
 use zones::{CONFIG_WORDS, TABLE_WORDS, make_request, same_words, step_in};
 
@@ -64,16 +64,18 @@ pub fn rights_examples(rt: &impl Print) -> io::Result<()> {
 // leave.
 fn run(rt: &impl Print, configured: u64, gic: u64, first: u64, requests: &[u8]) -> io::Result<()> {
     heading(rt, configured, gic, first)?;
-    println!(rt)?;
+    text(rt, b"\n")?;
     at_desk(rt, config(configured, gic, 0, b'A'), first, requests)
 }
 
 // The document's four regions with another at a position, and zones 5 and 6.
 fn run_with(rt: &impl Print, position: usize, letter: u8, requests: &[u8]) -> io::Result<()> {
     heading(rt, 4, 3, 5)?;
-    print!(rt; ";")?;
+    text(rt, b";")?;
     name(rt, letter)?;
-    println!(rt; " at {position}")?;
+    text(rt, b" at")?;
+    number(rt, position as u64)?;
+    text(rt, b"\n")?;
     at_desk(rt, config(4, 3, position, letter), 5, requests)
 }
 
@@ -84,7 +86,13 @@ fn at_desk(rt: &impl Print, c: [u64; CONFIG_WORDS], first: u64, requests: &[u8])
 }
 
 fn heading(rt: &impl Print, configured: u64, gic: u64, first: u64) -> io::Result<()> {
-    print!(rt; "---- {configured} regions, the GIC at {gic}; zones {first} and 6")
+    text(rt, b"----")?;
+    number(rt, configured)?;
+    text(rt, b" regions, the GIC at")?;
+    number(rt, gic)?;
+    text(rt, b"; zones")?;
+    number(rt, first)?;
+    text(rt, b" and 6")
 }
 
 fn in_turn(
@@ -93,9 +101,10 @@ fn in_turn(
     t: &mut [u64; TABLE_WORDS],
     requests: &[u8],
 ) -> io::Result<()> {
-    for n in 0..requests.len() / REQUEST {
-        let k = n * REQUEST;
+    let mut k: usize = 0;
+    while requests.len() - k >= REQUEST {
         request(rt, c, t, requests[k], requests[k + 1], requests[k + 2])?;
+        k += REQUEST;
     }
     Ok(())
 }
@@ -114,14 +123,17 @@ fn request(
     let kept = same(&before, t);
     answered(rt, kind, id, letter, n)?;
     if n != 0 {
-        say(rt, "    the table is the one that was given", kept)?;
+        say(rt, b"    the table is the one that was given", kept)?;
     }
     Ok(())
 }
 
 fn answered(rt: &impl Print, kind: u8, id: u8, letter: u8, n: u32) -> io::Result<()> {
     asked(rt, digit(kind), letter)?;
-    println!(rt; " {}: {n}", zone_of(id))
+    number(rt, zone_of(id) as u64)?;
+    text(rt, b":")?;
+    number(rt, n as u64)?;
+    text(rt, b"\n")
 }
 
 fn digit(b: u8) -> u32 {
@@ -139,29 +151,37 @@ fn zone_of(id: u8) -> u32 {
 
 fn asked(rt: &impl Print, kind: u32, letter: u8) -> io::Result<()> {
     match kind {
-        0 => print!(rt; "no request, of"),
-        1 => of_zone(rt, "add", letter),
-        2 => of_zone(rt, "remove", letter),
+        0 => text(rt, b"no request, of"),
+        1 => of_zone(rt, b"add", letter),
+        2 => of_zone(rt, b"remove", letter),
         _ => moved(rt, kind, letter),
     }
 }
 
 // Such a request has no region; one that has is no request.
-fn of_zone(rt: &impl Print, what: &str, letter: u8) -> io::Result<()> {
-    print!(rt; "{what}")?;
+fn of_zone(rt: &impl Print, what: &[u8], letter: u8) -> io::Result<()> {
+    text(rt, what)?;
     if letter != b'F' {
-        print!(rt; " with")?;
+        text(rt, b" with")?;
         name(rt, letter)?;
-        print!(rt; ",")?;
+        text(rt, b",")?;
     }
     Ok(())
 }
 
 // Kinds 3 and 4 are of the CPU, 5 and 6 of the IOMMU; the odd ones insert.
 fn moved(rt: &impl Print, kind: u32, letter: u8) -> io::Result<()> {
-    print!(rt; "{}", if kind < 5 { "CPU" } else { "IOMMU" })?;
+    if kind < 5 {
+        text(rt, b"CPU")?;
+    } else {
+        text(rt, b"IOMMU")?;
+    }
     name(rt, letter)?;
-    print!(rt; "{}", if kind % 2 == 1 { " to" } else { " out of" })
+    if kind % 2 == 1 {
+        text(rt, b" to")
+    } else {
+        text(rt, b" out of")
+    }
 }
 
 // Whether two tables are the same. Lent as arrays, so that their lengths need no proof where one is a copy.

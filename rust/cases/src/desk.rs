@@ -1,5 +1,5 @@
 //! Document 01's desk examples on requests, and more of their kind, as field logs: what was asked one after another, the number of each and the zones
-//! at the end, all by hand. The program `log` answers the files; `vectors/DESK.md` says which example stands in which.
+//! at the end, all by hand. The program `log_check` answers the files; `vectors/DESK.md` says which example stands in which.
 
 use ordinary::limits::{MAX_ZONES, PAGE};
 use ordinary::{encode_zones, Record, Region, Table, Zone};

@@ -4,7 +4,7 @@
 //! - [`named`]: configurations, tables, requests, translations, plans at a terminal, listings and logs, chosen or drawn from a fixed seed. The
 //!   answers are stored in `vectors/cases.txt`; `rust/compare` asks the library too.
 //! - [`plan_files`], [`examples`]: the plan files of `vectors/plans` and `examples`, with what the program `apply` prints of each.
-//! - [`log_files`], [`example_logs`]: the log files of `vectors/logs` and `examples`, with what the program `log` prints of each.
+//! - [`log_files`], [`example_logs`]: the log files of `vectors/logs` and `examples`, with what the program `log_check` prints of each.
 //! - [`bank`]: cases and plan files for the second machine.
 //!
 //! The program `plans` of this crate makes the stored files, on any processor and without the library.

@@ -1,4 +1,4 @@
-//! Log files for the program `log`, each with its answer, which was worked out by hand.
+//! Log files for the program `log_check`, each with its answer, which was worked out by hand.
 
 use std::fmt;
 

@@ -53,13 +53,14 @@ fn names(repository: &Repository) -> Told {
 /// Crate, file and name of each that a document names in backquotes.
 fn definitions_named(document: &str) -> BTreeSet<(String, String, String)> {
     let is_letters = |text: &str| !text.is_empty() && text.chars().all(|c| c.is_ascii_alphabetic());
+    let is_word = |text: &str| !text.is_empty() && text.chars().all(|c| c.is_ascii_alphanumeric() || c == '_');
     document
         .split('`')
         .filter_map(|quoted| {
             let (krate, cited) = quoted.split_once('/').unwrap_or(("rules", quoted));
             let (file, name) = cited.split_once('.')?;
-            let is_name = is_letters(file) && is_letters(name) && file.starts_with(|c: char| c.is_ascii_uppercase());
-            let is_crate = is_letters(krate) && krate.chars().all(|c| c.is_ascii_lowercase());
+            let is_name = is_letters(file) && is_word(name) && file.starts_with(|c: char| c.is_ascii_uppercase());
+            let is_crate = is_word(krate) && krate.chars().all(|c| c.is_ascii_lowercase() || c == '_');
             (is_name && is_crate).then(|| (krate.to_string(), file.to_string(), name.to_string()))
         })
         .collect()
@@ -265,27 +266,23 @@ fn stack(repository: &Repository) -> Told {
 
 /// docs/PROMISES.md says of every must-fail edit what it refuses, and names no other.
 fn edits(repository: &Repository) -> Told {
-    let folder = |path: &Path| fs::read_dir(path).map_err(|error| format!("{}: {error}", path.display()));
-    let (mut crates, mut edits) = (BTreeSet::new(), BTreeSet::new());
-    for entry in folder(&repository.0.join("must-fail"))?.flatten() {
-        let krate = entry.file_name().to_string_lossy().into_owned();
-        for edit in folder(&entry.path())?.flatten() {
-            let name = edit.file_name().to_string_lossy().into_owned();
-            edits.extend(name.strip_suffix(".edit").map(|name| format!("{krate}/{name}")));
-        }
-        crates.insert(krate);
+    let found = crate::edits::all(&repository.0.join("crates"))?;
+    if found.is_empty() {
+        return Err("there are no must-fail edits".into());
     }
+    let crates = found.iter().map(|(krate, _)| krate.clone()).collect();
+    let edits: BTreeSet<String> = found.iter().map(|(krate, name)| format!("{krate}/{name}")).collect();
     let named = edits_named(&repository.text("docs/PROMISES.md")?, &crates);
     let others: Vec<&String> = named.symmetric_difference(&edits).collect();
     if !others.is_empty() {
-        return Err(format!("docs/PROMISES.md and must-fail/ do not name the same edits: {others:?}"));
+        return Err(format!("docs/PROMISES.md and the crates' folders must-fail do not have the same edits: {others:?}"));
     }
     Ok(())
 }
 
 /// Each `crate/name` of a document, but for a crate's folders.
 fn edits_named(document: &str, crates: &BTreeSet<String>) -> BTreeSet<String> {
-    let is_part = |c: char| c.is_ascii_alphanumeric() || c == '_';
+    let is_part = |c: char| c.is_ascii_alphanumeric() || c == '_' || c == '-';
     let paths = document.split(|c: char| !is_part(c) && c != '/');
     let pairs = paths.flat_map(|path| path.split('/').zip(path.split('/').skip(1)).collect::<Vec<_>>());
     let is_edit = |(krate, name): &(&str, &str)| crates.contains(*krate) && is_name(name) && !["specs", "proofs"].contains(name);
@@ -299,8 +296,8 @@ mod tests {
     #[test]
     fn names_in_backquotes() {
         let named =
-            definitions_named("`Limits.page` and `promises/Past.pastShown`, not `src/lib.rt`, `lower.name`, `A.b c` or A.b");
-        let expected = [("promises", "Past", "pastShown"), ("rules", "Limits", "page")];
+            definitions_named("`Limits.page` and `promises/Past.past_shown`, not `src/lib.rt`, `lower.name`, `A.b c` or A.b");
+        let expected = [("promises", "Past", "past_shown"), ("rules", "Limits", "page")];
         assert!(named.iter().map(|(a, b, c)| (a.as_str(), b.as_str(), c.as_str())).eq(expected));
     }
 
@@ -322,7 +319,7 @@ mod tests {
 
     #[test]
     fn lengths_that_are_shown() {
-        let text = "SizesShown : Type 0\nSizesShown = (leastSize limits ≡ 60) × (longestSize limits ≡ 63896)\n";
+        let text = "SizesShown : Type 0\nSizesShown = (least_size limits ≡ 60) × (longest_size limits ≡ 63896)\n";
         assert_eq!(sizes_shown(text, "SizesShown"), Some([60, 63896]));
         assert_eq!(sizes_shown(text, "OwnedSizesShown"), None);
     }
@@ -361,7 +358,10 @@ mod tests {
     #[test]
     fn edits_that_a_document_names() {
         let crates = BTreeSet::from(["zones".to_string(), "rules".to_string()]);
-        let named = edits_named("`zones/one_less`, must-fail/rules/two, crates/zones/specs, tests/zones, plan/three", &crates);
+        let named = edits_named(
+            "`zones/one_less`, must-fail/rules/two, crates/zones/specs, crates/rules/must-fail, tests/zones, plan/three",
+            &crates,
+        );
         assert!(named.iter().eq(["rules/two", "zones/one_less"]));
     }
 }

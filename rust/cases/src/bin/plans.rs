@@ -1,5 +1,5 @@
 //! Makes the stored files by the ordinary implementation: the plan files in `vectors/plans` with what the program `apply` must
-//! print of each, the log files in `vectors/logs` with what the program `log` must print, those in `examples`, and the answers to all
+//! print of each, the log files in `vectors/logs` with what the program `log_check` must print, those in `examples`, and the answers to all
 //! other cases in `vectors/cases.txt`; and for the second machine its plans and cases in `vectors/bank` and `examples/bank`.
 //!
 //!     plans           writes them

@@ -11,7 +11,7 @@
 #   EMULATOR     after need_c, empty for the machine's own processor, else the command that runs a program
 #   SANITIZERS   after find_sanitizers, the C compiler's options for the sanitizers that run here
 #   CARGO        after need_rust, what builds the Rust crates; RUST_TARGET is for which target
-#   PROGRAM      after find_program, the command of a program that is proved and built
+#   PROGRAM      after find_program or need_program, the command of a program that is proved and built
 #   TOOL         after need_tool, the command behind ./peatmitten base, run and show
 #   work         after need_work, a folder for a test's own files, which is removed when the test ends
 
@@ -180,9 +180,21 @@ need_tool() {
 
 # Sets PROGRAM to what runs the proved program $1. Such programs are for x86-64; on another processor an emulator runs them, with the kit's C library.
 find_program() {
-    local libraries
     PROGRAM=("$root/target/bin/$1")
     [ -x "${PROGRAM[0]}" ] || say_failed "the program $1 is not built: ./peatmitten builds it"
+    on_this_processor
+}
+
+# need_program NAME FILE: has rt prove and build a program that ./peatmitten does not know, and run it once on a file of the repository's.
+need_program() {
+    (cd "$root/crates/$1" && rt run -- "$root/$2") >/dev/null || say_failed "the program $1 is not proved, or not built"
+    PROGRAM=("$root/crates/$1/out/$1")
+    on_this_processor
+}
+
+# On another processor than x86-64 an emulator runs what rt built.
+on_this_processor() {
+    local libraries
     if [ "$(uname -m)" != x86_64 ]; then
         libraries=$(dirname "$(rt doc)")/toolchain/lib
         PROGRAM=(qemu-x86_64 "$libraries/ld-linux-x86-64.so.2" --library-path "$libraries" "${PROGRAM[@]}")

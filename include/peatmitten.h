@@ -27,8 +27,8 @@
  * differently on either; structs are made here, by inline functions.
  *
  * What is proved is the program that the toolchain writes as an LLVM module, from which the library for x86-64 is compiled. That for aarch64
- * is compiled from the same module, with the target's name, its data layout and the processor's name changed in three lines. No proof covers
- * the writing of the module, LLVM's back end for either processor, or these three lines; README, "For which processor", says why they do not
+ * is compiled from the same module, with the lines changed that name the target, its data layout and the processor. No proof covers
+ * the writing of the module, LLVM's back end for either processor, or these lines; README, "For which processor", says why they do not
  * change what the module means, and how it is tested.
  */
 #ifndef PEATMITTEN_H

@@ -4,7 +4,7 @@
 #   scripts/aarch64.sh CRATE FOLDER     reads FOLDER/CRATE.ll and FOLDER/CRATE.words, which scripts/module.sh writes; writes
 #                                       FOLDER/libCRATE.a and FOLDER/CRATE.diff, the lines that were changed
 #
-# Three lines of the module are x86-64's: its name, how data is laid out there, and its name in the functions' attributes. They are changed,
+# These lines of the module are x86-64's: its name, how data is laid out there, and its name in the attributes of functions. They are changed,
 # and nothing else. What all others say must not hang on the processor, so each has to be of a form that is listed below: a module
 # with any other line, as a struct by value, a vector or a function of somebody else, is refused. Then there is no archive.
 set -euo pipefail
@@ -40,9 +40,10 @@ known_lines() {
     printf '%s\n' '' ';.*' 'source_filename = "rattle"' "target datalayout = \"$x86_layout\"" "target triple = \"$x86_triple\""
     # Bytes that do not change, as the marks of a listing.
     printf '%s\n' '@static\.[0-9]+ = private unnamed_addr constant \[[0-9]+ x i8\] c"[^"]*", align 1'
+    # Functions have one of two sets of attributes: the second is of those that are not to be put into their callers.
     # Within the module functions are called as its compiler likes. They answer one number or pointer, or a pair: both processors have its second
     # part where that part's own alignment puts it.
-    printf '%s\n' "define internal (void|noundef (zeroext )?$one|(noundef )?$pair) $function\(($taken(, $taken)*)?\) #0 \{" '\}'
+    printf '%s\n' "define internal (void|noundef (zeroext )?$one|(noundef )?$pair) $function\(($taken(, $taken)*)?\) #[01] \{" '\}'
     # Others are called as C does. It hands over pointers and numbers of 32 and 64 bits as they are, eight of them in registers on aarch64.
     taken="(ptr|i32|i64) noundef $local_name"
     printf '%s\n' "define noundef (i32|i64) @peatmitten_[a-z0-9_]+\(($taken(, $taken){0,7})?\) #0 \{"
@@ -58,12 +59,12 @@ known_lines() {
         "$to(zext|trunc) $flags$number $value to $number"
     printf '%s\n' "($to|  )call (void|$one|$pair) $function\(($handed(, $handed)*)?\)" \
         "  call void @llvm\.memmove\.p0\.p0\.i64\(ptr $local_name, ptr $local_name, i64 $value, i1 false\)" \
-        'declare void @llvm\.memmove\.p0\.p0\.i64\(ptr writeonly captures\(none\), ptr readonly captures\(none\), i64, i1 immarg\) #[12]' \
+        'declare void @llvm\.memmove\.p0\.p0\.i64\(ptr writeonly captures\(none\), ptr readonly captures\(none\), i64, i1 immarg\) #[1-3]' \
         "  call void @llvm\.memset\.p0\.i64\(ptr $local_name, i8 0, i64 $value, i1 false\)" \
-        'declare void @llvm\.memset\.p0\.i64\(ptr writeonly captures\(none\), i8, i64, i1 immarg\) #[12]'
-    printf '%s\n' "attributes #0 = \{ nounwind \"probe-stack\"=\"inline-asm\" \"stack-probe-size\"=\"3072\"$x86_attribute \}" \
-        'attributes #[12] = \{ nocallback nofree nounwind willreturn memory\(argmem: readwrite\) \}' \
-        'attributes #[12] = \{ nocallback nofree nounwind willreturn memory\(argmem: write\) \}' \
+        'declare void @llvm\.memset\.p0\.i64\(ptr writeonly captures\(none\), i8, i64, i1 immarg\) #[1-3]'
+    printf '%s\n' "attributes #[01] = \{ (noinline )?nounwind \"probe-stack\"=\"inline-asm\" \"stack-probe-size\"=\"3072\"$x86_attribute \}" \
+        'attributes #[1-3] = \{ nocallback nofree nounwind willreturn memory\(argmem: readwrite\) \}' \
+        'attributes #[1-3] = \{ nocallback nofree nounwind willreturn memory\(argmem: write\) \}' \
         '!llvm\.ident = !\{!0\}' '!0 = !\{!"rattle logic=[0-9a-f]+"\}' '![0-9]+ = !\{\}' '![0-9]+ = !\{i8 [0-9]+, i8 [0-9]+\}'
 }
 
@@ -84,12 +85,14 @@ check_functions() {
 }
 
 change_lines() {
+    local wanted
     sed -e "s|^target datalayout = \"$x86_layout\"\$|target datalayout = \"$arm_layout\"|" \
         -e "s|^target triple = \"$x86_triple\"\$|target triple = \"$arm_triple\"|" \
-        -e "/^attributes #0 = /s|$x86_attribute||" "$module" >"$work/module.ll"
+        -e "/^attributes #[01] = /s|$x86_attribute||" "$module" >"$work/module.ll"
     diff "$module" "$work/module.ll" >"$work/changes.diff" || true
-    [ "$(grep -c '^>' "$work/changes.diff")" = 3 ] ||
-        fail "$(grep -c '^>' "$work/changes.diff") lines of the module are x86-64's own, not 3: target, layout, attributes"
+    wanted=$((2 + $(grep -c "^attributes .*$x86_attribute" "$module" || true)))
+    [ "$(grep -c '^>' "$work/changes.diff")" = "$wanted" ] ||
+        fail "$(grep -c '^>' "$work/changes.diff") lines of the module are x86-64's own, not $wanted: target, layout, attributes"
 }
 
 # Sets words: the kit's own for x86-64, with the processor and the files changed.

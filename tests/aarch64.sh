@@ -1,6 +1,6 @@
 #!/usr/bin/env bash
-# The libraries for aarch64, on any processor. The script that makes one from the proved library's module (scripts/aarch64.sh) changes three
-# lines and gives the same archive again. A module with anything that it does not know is refused in one line, and leaves no archive.
+# The libraries for aarch64, on any processor. The script that makes one from the proved library's module (scripts/aarch64.sh) changes the
+# lines that name the processor, and gives the same archive again. A module with anything that it does not know is refused in one line, and leaves no archive.
 set -euo pipefail
 test_name=aarch64
 . "$(dirname "$0")/host.sh"
@@ -22,7 +22,7 @@ check_archive() { # CRATE
     [ "$status $said" = '0 ' ] || say_failed "the own module of $1: status $status, said '$said'"
     cmp -s "$work/lib$1.a" "$built/lib$1.a" || say_failed "the archive of $1 is another one the second time"
     changed=$(sed -n 's/^> //p' "$work/$1.diff" | sed 's/ = .*//' | tr '\n' ' ')
-    [ "$changed" = 'target datalayout target triple attributes #0 ' ] || say_failed "these lines of $1 are changed: $changed"
+    [[ $changed =~ ^'target datalayout target triple attributes #0 '('attributes #1 ')?$ ]] || say_failed "these lines of $1 are changed: $changed"
 }
 
 # refuse TEXT SED..: the module, edited so, is refused with that text.
@@ -100,7 +100,7 @@ check_rest() {
     refuse 'target datalayout = "e' 's/^target datalayout = "e-m:e-/&p:32:32-/'
     refuse 'target triple = "x86_64-pc-windows-msvc"' 's/^target triple = .*/target triple = "x86_64-pc-windows-msvc"/'
     refuse '"target-features"="+avx"' 's/"target-cpu"="x86-64"/& "target-features"="+avx"/'
-    refuse '2 lines of the module are x86-64' '/^target triple/d'
+    refuse " lines of the module are x86-64's own, not " '/^target triple/d'
     refuse 'does not compile for aarch64: ' '0,/^  ret i32 .*/s//  ret i32 %none/'
     cp "$built/agent.ll" "$work/"
     sed 's/^-O3$/-mavx/' "$built/agent.words" >"$work/agent.words"

@@ -42,7 +42,9 @@ pub fn is_sound(c: &[u64; CONFIG_WORDS], t: &[u64; TABLE_WORDS]) -> bool
     table_sound(c, t, &keys)
 }
 
-// The number that comes before any request is looked at: 1 for the configuration, 2 for the table, or 0.
+// The number that comes before any request is looked at: 1 for the configuration, 2 for the table, or 0. It stays a call of its own: put into
+// a caller, its keys would lie on the stack while the caller goes on.
+#[inline(never)]
 pub fn standing(c: &[u64; CONFIG_WORDS], t: &[u64; TABLE_WORDS]) -> u32
     ensures { result ≡ standing limits (stored_config c.now) (stored_table t.now) }
 {

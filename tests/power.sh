@@ -29,7 +29,6 @@ build_tool() {
         say_failed "the tool does not build"
 }
 
-# For edition 1 of the terminal that first.plan leaves: remove zone 5.
 # run PLAN..: the program under test, with what the variables POWER_.. say; sets status and printed.
 run() {
     status=0

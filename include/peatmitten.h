@@ -18,7 +18,7 @@
  *
  * Stack: PEATMITTEN_STACK bytes are enough. tests/stack.sh measures it: it calls every function on a stack filled with a pattern, over the
  * stored plans, looks how deep the pattern is gone, and prints it for each function. Measured were on x86-64 5,168 bytes for
- * peatmitten_write_words, 4,832 for peatmitten_end_words, 4,784 for peatmitten_apply_words, and less for the others; on aarch64, with the older
+ * peatmitten_write_words, 4,864 for peatmitten_end_words, 4,784 for peatmitten_apply_words, and less for the others; on aarch64, with the older
  * kit, 6,752 for peatmitten_end_words and 4,608 for peatmitten_apply_words: no function has a table, a
  * configuration or a plan on its stack, but a number for each configured region, two or three times at a time. Nothing is allocated.
  *

@@ -297,9 +297,8 @@ uint32_t peatmitten_read(const uint8_t *plan, size_t length, uint64_t place[1]);
  * returns, what they were. Nothing else is written but the places, not even what lies behind the edition in its word.
  * While the call runs, the table may hold what earlier requests of the plan made of it, also where a later one is then refused. So no
  * other thread may read it meanwhile, and memory that must be whole at every moment is not lent: an agent lends a copy that it has in
- * memory, and writes the state to its file after the call. Its file then never has such a table, whenever the power is cut. From the load to
- * that write it holds a lock: else a second agent loads the same state, and what one of the two keeps is lost. examples/c/state_file.h has both. For
- * storage without files there is peatmitten_beside_words.
+ * memory, and writes the state to its file after the call. Its file then never has such a table, whenever the power is cut.
+ * For storage without files there is peatmitten_beside_words.
  * `plan` points to `length` bytes; it must not be null even where the length is 0.
  *
  * A plan that was damaged in its requests alone may still be accepted: an agent checks a signature before it comes here.

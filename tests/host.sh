@@ -11,7 +11,7 @@
 #   EMULATOR     after need_c, empty for the machine's own processor, else the command that runs a program
 #   SANITIZERS   after find_sanitizers, the C compiler's options for the sanitizers that run here
 #   CARGO        after need_rust, what builds the Rust crates; RUST_TARGET is for which target
-#   PROGRAM      after find_program or need_program, the command of a program that is proved and built
+#   PROGRAM      after need_program, the command of a program that is proved and built
 #   TOOL         after need_tool, the command behind ./peatmitten base, run and show
 #   work         after need_work, a folder for a test's own files, which is removed when the test ends
 
@@ -39,14 +39,8 @@ say_failed() {
 }
 
 need_work() {
-    # Without links in its path, since programs name a file that they replace by its real path.
-    work=$(realpath "$(mktemp -d)")
+    work=$(mktemp -d)
     trap 'rm -rf "$work"' EXIT
-}
-
-# After need_work: whether a file can be given another owner and group here. Root can, where the system knows these numbers.
-can_give_away() {
-    touch "$work/given_away" && chown 65534:65533 "$work/given_away" 2>/dev/null
 }
 
 # write_second_plan FILE: a plan for edition 1 of the terminal that examples/first.plan leaves: remove zone 5.
@@ -176,13 +170,6 @@ need_tool() {
     "$root/peatmitten" show "$root/examples/first.plan" >/dev/null || say_failed "the tool is not built"
     TOOL=("$root/rust/target/$RUST_TARGET/release/peatmitten-tool")
     [ -z "$EMULATOR" ] || TOOL=("$EMULATOR" "${TOOL[@]}")
-}
-
-# Sets PROGRAM to what runs the proved program $1. Such programs are for x86-64; on another processor an emulator runs them, with the kit's C library.
-find_program() {
-    PROGRAM=("$root/target/bin/$1")
-    [ -x "${PROGRAM[0]}" ] || say_failed "the program $1 is not built: ./peatmitten builds it"
-    on_this_processor
 }
 
 # need_program NAME FILE: has rt prove and build a program that ./peatmitten does not know, and run it once on a file of the repository's.

@@ -1,9 +1,7 @@
 #!/usr/bin/env bash
 # A cut in power, or a call of the system that fails, at every call that the C example and the tool make while they apply two plans: what
 # is then in the state file loads, is the old state or the new one, is never older than what was printed, and the plans that are
-# left can be applied to it: the lock is free, and what was left over goes. Mode, owner and group are the old ones, a link to the state is one still,
-# and what links that were planted beside lead to stays. The calls are played by tests/power_shim.c; the C example is built with the sanitizers
-# that run here.
+# left can be applied to it. The calls are played by tests/power_shim.c; the C example is built with the sanitizers that run here.
 set -euo pipefail
 test_name=power
 . "$(dirname "$0")/host.sh"
@@ -11,12 +9,10 @@ need_library
 need_c
 need_rust
 need_work
-folder=$work/folder
-state=$folder/state
-new_state=$folder/.state.peatmitten-new
+state=$work/state
 first=$root/examples/first.plan
 second=$work/second.plan
-wrapped=(open open64 read write fsync close rename unlink flock fchmod fchown realpath)
+wrapped=(open open64 read write fsync close rename)
 warnings=(-std=c11 -Wall -Wextra -Wpedantic -Werror -O1 -g -U_FORTIFY_SOURCE)
 
 build_example() {
@@ -33,58 +29,28 @@ build_tool() {
         say_failed "the tool does not build"
 }
 
-# run PLAN..: the program under test, with what the variables POWER_.. say; sets status and printed. It does not wait for a lock, so that one
-# which a cut left would be seen.
+# run PLAN..: the program under test, with what the variables POWER_.. say; sets status and printed.
 run() {
     status=0
-    printed=$($EMULATOR "${program[@]}" "$named" "$@" 2>"$work/errors") || status=$?
+    printed=$($EMULATOR "${program[@]}" "$state" "$@" 2>"$work/errors") || status=$?
 }
 
-# restart_with none|FOLDER: no state; or a copy of the folder, whose state is named by a link from another one. Sets named, and rights to what the
-# state must have.
 restart_with() {
-    rm -rf "$folder"
-    if [ "$1" = none ]; then
-        mkdir "$folder"
-        named=$state
-        rights=$new_rights
-    else
-        cp -a "$1" "$folder"
-        named=$work/named
-        rights=$planted_rights
-        echo kept >"$work/victim"
-    fi
-}
-
-# plant: a folder with the state of edition 0, which has a mode and, where that can be, an owner and a group of its own. Links to somebody's file
-# are planted beside it. Sets how a state keeps its rights.
-plant() {
-    planted=$work/planted
-    mkdir "$planted"
-    cp "$work/edition0" "$planted/state"
-    chmod 640 "$planted/state"
-    rights_kept=(fchmod)
-    if can_give_away; then
-        chown 65534:65533 "$planted/state"
-        rights_kept=(fchown fchmod fchown)
-    fi
-    planted_rights=$(stat -c '%a %u %g' "$planted/state")
-    ln -s "$work/victim" "$planted/${new_state##*/}"
-    ln -s "$work/victim" "$planted/state.new"
-    ln -s "$state" "$work/named"
+    rm -f "$state" "$state".*
+    [ "$1" = none ] || cp "$1" "$state"
 }
 
 # Which edition's state the file is, byte for byte; there is none at edition 0 where the terminal had no file.
 stored_edition() {
-    local sum
+    local edition
     [ -e "$state" ] || { echo 0; return; }
-    sum=$(sha256sum <"$state")
-    case $sum in
-    "$sum0") echo 0 ;;
-    "$sum1") echo 1 ;;
-    "$sum2") echo 2 ;;
-    *) echo broken ;;
-    esac
+    for edition in 0 1 2; do
+        if cmp -s "$state" "$work/edition$edition"; then
+            echo "$edition"
+            return
+        fi
+    done
+    echo broken
 }
 
 # The states of editions 0, 1 and 2, from runs without faults. Edition 2 has no zones again, so that of edition 0 differs from it in
@@ -98,27 +64,17 @@ make_states() {
     cp "$state" "$work/edition2"
     cp "$work/edition2" "$work/edition0"
     printf '\0' | dd of="$work/edition0" bs=1 seek=$(($(stat -c %s "$state") - 8)) conv=notrunc status=none
-    sum0=$(sha256sum <"$work/edition0")
-    sum1=$(sha256sum <"$work/edition1")
-    sum2=$(sha256sum <"$work/edition2")
     # A state of any size takes two writes, so that a program which takes a short one for whole is seen.
     export POWER_WRITES=$(($(stat -c %s "$state") / 2 + 1))
 }
 
 # What must hold of a run that ended early, however it did. Prints what does not.
 faults() {
-    local reported=0 stored kept='' line
-    while read -r line; do [[ $line != '0 '* ]] || reported=$((reported + 1)); done <<<"$printed"
+    local reported stored
+    reported=$(printf '%s' "$printed" | grep -c '^0 ' || true)
     stored=$(stored_edition)
-    [ ! -e "$state" ] || kept=$(stat -c '%a %u %g' "$state")
     if [ "$stored" = broken ]; then
         echo "the state file is neither the old state nor a new one"
-    elif [ -n "$kept" ] && [ "$kept" != "$rights" ]; then
-        echo "mode, owner and group of the state file are $kept, not $rights"
-    elif [ -L "$state" ]; then
-        echo "the state file is a link"
-    elif [ "$named" != "$state" ] && { [ ! -L "$named" ] || [ ! -L "$state.new" ] || [ "$(<"$work/victim")" != kept ]; }; then
-        echo "a link that was there is none any more, or was followed"
     elif [ "$stored" -lt "$reported" ] || [ "$stored" -gt $((reported + 1)) ]; then
         echo "$reported plans were reported, and the state file has edition $stored"
     else
@@ -126,20 +82,18 @@ faults() {
     fi
 }
 
-# What is left can be applied, and the last state is that of a run without faults, with nothing beside it. Many cuts leave the same files: from
-# each such, by the state and by the names, kinds and sizes of the others, it is tried once.
+# What is left can be applied, and the last state is that of a run without faults. Many cuts leave the same files: from each such, by its
+# names and bytes, it is tried once.
 complete() {
     local rest=("$first" "$second") left
-    left="${program[0]} $1 $(find "$folder" -printf '%f %y %s ')"
+    left="${program[0]} $(sha256sum "$state"* 2>/dev/null | tr '\n' ' ' || true)"
     ! grep -qxF "$left" "$work/completed" || return 0
     unset POWER_CUT POWER_FAIL POWER_FORGETS
     [ "$1" = 2 ] || run "${rest[@]:$1}"
-    if [ "$(stored_edition)" != 2 ]; then
-        echo "from edition $1 the rest of the plans does not lead to edition 2: status $status, '$printed', $(<"$work/errors")"
-    elif [ -L "$new_state" ] || [ -e "$new_state" ]; then
-        echo "the next run leaves what was left over"
-    else
+    if cmp -s "$state" "$work/edition2"; then
         echo "$left" >>"$work/completed"
+    else
+        echo "from edition $1 the rest of the plans does not lead to edition 2: $printed"
     fi
 }
 
@@ -149,26 +103,21 @@ count_calls() {
     rm -f "$work/log"
     POWER_LOG=$work/log run "$first" "$second"
     [ "$status $printed" = $'0 0 1 0, edition 1\n0 1 0, edition 2' ] || say_failed "without faults: status $status, '$printed'"
-    mapfile -t calls < <(sed "s#$folder/##; s#$folder#folder#; s#$work/##; s#$root/examples/##" "$work/log")
+    mapfile -t calls < <(sed "s#$work/##; s#$work#folder#; s#$root/examples/##" "$work/log")
 }
 
-# The plans are read before the lock is taken, and the state after it. Then how the first plan's state is kept. C prints its answer by a call that is
-# not seen here.
+# How the first plan's state is kept. C prints its answer by a call that is not seen here.
 check_order() {
-    local from=0 made='unlink .state.peatmitten-new open .state.peatmitten-new' saved
-    saved=("${rights_kept[@]}" write write 'fsync file' close 'rename state' 'fsync folder')
-    count_calls "$planted"
-    [[ " ${calls[*]} " == *' open first.plan '*' open second.plan '*' open folder flock folder open state '* ]] ||
-        say_failed "plans, lock and state are not taken in their order: ${calls[*]}"
-    while [ "${calls[*]:from:2}" != "$made" ]; do
+    local from=0 saved=('open state.new' write write 'fsync file' close 'rename state' 'open folder' 'fsync folder' close)
+    count_calls "$work/edition0"
+    while [ "${calls[from]:-}" != 'open state.new' ]; do
         from=$((from + 1))
         [ "$from" -lt ${#calls[@]} ] || say_failed "the state is not written beside: ${calls[*]}"
     done
-    from=$((from + 2))
-    [ "${calls[*]:from:${#saved[@]}}" = "${saved[*]}" ] || say_failed "these are not the calls in their order: ${calls[*]:from:${#saved[@]}}"
+    [ "${calls[*]:from:9}" = "${saved[*]}" ] || say_failed "these are not the calls in their order: ${calls[*]:from:9}"
     if [[ " ${calls[*]} " == *' write answer '* ]]; then
         [[ " ${calls[*]:0:from} " != *' write answer '* ]] || say_failed "an answer is printed before any state is kept"
-        [ "${calls[from + ${#saved[@]}]}" = 'write answer' ] || say_failed "the answer is not printed as soon as its state is kept"
+        [ "${calls[from + 9]}" = 'write answer' ] || say_failed "the answer is not printed as soon as its state is kept"
     fi
 }
 
@@ -192,21 +141,19 @@ check_CUT() {
     [ "$status" = 99 ] || say_failed "cut before $1: status $status"
 }
 
-# A call that failed: status 2, and one line with a file's name and the system's reason; a new file that was begun is removed. Rust does not look
-# whether a file was closed, which says nothing new of one that was read, or written and synced.
+# A call that failed: status 2, and one line with a file's name and the system's reason. Rust does not look whether a file was closed,
+# which says nothing new of one that was read, or written and synced.
 check_FAIL() {
     if [ "$1 $status" = 'close 0' ] && [ "${program[1]:-}" = run ]; then
         return
     fi
     [ "$status" = 2 ] || say_failed "$1 failed: status $status"
-    local doing='find|open|lock|read|remove|keep the (group|mode|owner) of|write|sync|close|replace' reason='Input/output error( \(os error 5\))?'
-    grep -Eqx "(apply_plan|peatmitten): cannot ($doing) (${work}[^ ]*|$first|standard output): $reason" "$work/errors" ||
-        say_failed "$1 failed, and this was said: $(cat "$work/errors")"
+    local doing='(apply_plan|peatmitten): cannot (open|read|write|sync|close|replace)' reason='Input/output error( \(os error 5\))?'
+    grep -Eqx "$doing (${work}[^ ]*|$first|standard output): $reason" "$work/errors" || say_failed "$1 failed, and this was said: $(cat "$work/errors")"
     [ "$(wc -l <"$work/errors")" = 1 ] || say_failed "$1 failed, and more than one line was said"
-    [ -L "$new_state" ] || [ ! -e "$new_state" ] || say_failed "$1 failed, and a new file is left"
 }
 
-# try_all START..: cuts and failing calls, from each of these folders
+# try_all START..: cuts and failing calls, from each of these files
 try_all() {
     local start loses
     wrong=
@@ -227,7 +174,7 @@ check_forgotten() {
     local before=$tried
     wrong=
     export POWER_FORGETS=$1 POWER_LOSES=$2
-    at_every_call CUT "$planted"
+    at_every_call CUT "$work/edition0"
     unset POWER_FORGETS
     [ -n "$wrong" ] || say_failed "an agent that does not sync its $1 passes"
     tried=$before
@@ -235,9 +182,9 @@ check_forgotten() {
 
 # What cannot be printed is told, and the state is kept.
 check_full_output() {
-    restart_with "$planted"
+    restart_with "$work/edition0"
     status=0
-    $EMULATOR "${program[@]}" "$named" "$first" >/dev/full 2>"$work/errors" || status=$?
+    $EMULATOR "${program[@]}" "$state" "$first" >/dev/full 2>"$work/errors" || status=$?
     [[ "$status $(cat "$work/errors")" == "2 "*": cannot write standard output: No space left on device"* ]] ||
         say_failed "standard output is full: status $status, $(cat "$work/errors")"
     [ "$(stored_edition)" = 1 ] || say_failed "standard output is full, and the state is not kept"
@@ -248,16 +195,14 @@ build_example
 build_tool
 write_second_plan "$second"
 touch "$work/completed"
-new_rights="600 $(id -u) $(id -g)"
 tried=0
-program=("$work/apply_plan" -n -s)
+program=("$work/apply_plan" -s)
 make_states
-plant
-try_all none "$planted"
+try_all none "$work/edition0"
 check_forgotten file data
 check_forgotten folder names
 check_full_output
-program=("$work/rust/$RUST_TARGET/debug/peatmitten-tool" run --no-wait)
-try_all "$planted"
+program=("$work/rust/$RUST_TARGET/debug/peatmitten-tool" run)
+try_all "$work/edition0"
 check_full_output
 echo "power: ok, $tried cuts and failing calls"

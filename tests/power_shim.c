@@ -7,23 +7,20 @@
  *     POWER_FAIL=N       the N-th call does nothing and fails: "Input/output error"
  *     POWER_LOSES=..     what a cut takes with it, besides the process:
  *         nothing        all that was written is on the disk
- *         data           of a file that was written and not synced since, every byte; and of one whose mode, owner or group was changed
- *                        and not synced since, these
+ *         data           of a file that was written and not synced since, every byte
  *         names          a rename whose folder was not synced since; and data, as above
  *     POWER_FORGETS=..   which sync does nothing, so that a test can be seen to fail: `file` or `folder`
  *     POWER_WRITES=N     a write takes N bytes at most, as a system may
  *
- * It knows one file that is created and written at a time, which is all that these programs do. A name that is removed and not synced since is not
- * brought back: the cut before its removal leaves the same.
+ * It knows one file that is created and written at a time, which is all that these programs do.
  */
-#define _XOPEN_SOURCE 700
+#define _POSIX_C_SOURCE 200809L
 
 #include <errno.h>
 #include <fcntl.h>
 #include <stdio.h>
 #include <stdlib.h>
 #include <string.h>
-#include <sys/file.h>
 #include <sys/stat.h>
 #include <sys/types.h>
 #include <unistd.h>
@@ -32,20 +29,13 @@ int __real_open(const char *path, int flags, ...);
 int __real_close(int file);
 int __real_fsync(int file);
 int __real_rename(const char *from, const char *to);
-int __real_unlink(const char *path);
-int __real_flock(int file, int operation);
-int __real_fchmod(int file, mode_t mode);
-int __real_fchown(int file, uid_t owner, gid_t group);
-char *__real_realpath(const char *path, char *real);
 ssize_t __real_read(int file, void *bytes, size_t length);
 ssize_t __real_write(int file, const void *bytes, size_t length);
 
-static char created[4096]; /* the file that was created last, by its present name; or none */
-static int has_bytes;      /* whether its bytes are not on the disk yet */
-static int has_rights;     /* the same of its mode, owner and group */
-static char renamed[4096]; /* the name that a rename gave, while its folder is not synced; or none */
-static char before[4096];  /* the file that had that name before, kept here; or none */
-static int written = -1;   /* the descriptor of the file that is written */
+static char unsynced[4096]; /* the file whose bytes are not on the disk yet, by its present name; or none */
+static char renamed[4096];  /* the name that a rename gave, while its folder is not synced; or none */
+static char before[4096];   /* the file that had that name before, kept here; or none */
+static int written = -1;    /* the descriptor of the file that is written */
 
 static int is_set(const char *variable, const char *value)
 {
@@ -75,17 +65,13 @@ static void log_call(const char *name, const char *path)
 
 static void lose_power(void)
 {
-    if (!is_set("POWER_LOSES", "nothing") && has_bytes)
-        truncate(created, 0);
-    if (!is_set("POWER_LOSES", "nothing") && has_rights) {
-        chmod(created, 0600);
-        chown(created, getuid(), getgid());
-    }
+    if (!is_set("POWER_LOSES", "nothing") && unsynced[0] != '\0')
+        truncate(unsynced, 0);
     if (is_set("POWER_LOSES", "names") && renamed[0] != '\0') {
         if (before[0] != '\0')
             __real_rename(before, renamed);
         else
-            __real_unlink(renamed);
+            unlink(renamed);
     }
     _exit(99);
 }
@@ -114,8 +100,7 @@ static int open_counted(const char *path, int flags, int mode)
     file = __real_open(path, flags, mode);
     if (file >= 0 && flags & O_CREAT) {
         written = file;
-        has_bytes = has_rights = 1;
-        snprintf(created, sizeof created, "%s", path);
+        snprintf(unsynced, sizeof unsynced, "%s", path);
     }
     return file;
 }
@@ -160,10 +145,10 @@ int __wrap_fsync(int file)
     if (is_set("POWER_FORGETS", is_folder ? "folder" : "file"))
         return 0;
     if (is_folder) {
-        __real_unlink(before);
+        unlink(before);
         renamed[0] = before[0] = '\0';
     } else {
-        has_bytes = has_rights = 0;
+        unsynced[0] = '\0';
     }
     return __real_fsync(file);
 }
@@ -183,45 +168,10 @@ int __wrap_rename(const char *from, const char *to)
         return -1;
     snprintf(renamed, sizeof renamed, "%s", to);
     snprintf(before, sizeof before, "%s.before", to);
-    __real_unlink(before);
+    unlink(before);
     if (link(to, before) != 0)
         before[0] = '\0';
-    if (strcmp(created, from) == 0)
-        snprintf(created, sizeof created, "%s", to);
+    if (strcmp(unsynced, from) == 0)
+        snprintf(unsynced, sizeof unsynced, "%s", to);
     return __real_rename(from, to);
-}
-
-int __wrap_unlink(const char *path)
-{
-    if (is_failing("unlink", path))
-        return -1;
-    if (strcmp(created, path) == 0)
-        has_bytes = has_rights = 0;
-    return __real_unlink(path);
-}
-
-int __wrap_flock(int file, int operation)
-{
-    return is_failing("flock", file == written ? "file" : "folder") ? -1 : __real_flock(file, operation);
-}
-
-int __wrap_fchmod(int file, mode_t mode)
-{
-    if (is_failing("fchmod", ""))
-        return -1;
-    has_rights |= file == written;
-    return __real_fchmod(file, mode);
-}
-
-int __wrap_fchown(int file, uid_t owner, gid_t group)
-{
-    if (is_failing("fchown", ""))
-        return -1;
-    has_rights |= file == written;
-    return __real_fchown(file, owner, group);
-}
-
-char *__wrap_realpath(const char *path, char *real)
-{
-    return is_failing("realpath", "") ? NULL : __real_realpath(path, real);
 }

@@ -1,8 +1,7 @@
 #!/usr/bin/env bash
 # The tool for plans, logs and state files, by ./peatmitten base, run, show, write, plan, differ, map and log: what it prints, says and keeps, and with
-# which status; and what it says of a refusal in words. A stored plan for each answer is run at its own base, and shown, and must be answered as it is
-# stored; one that is accepted is written back, byte for byte, from what show prints, and drawn. Each stored log is answered as it is stored. A state
-# file is the same from C.
+# which status. Each stored plan is run at its own base, and shown, and must be answered as it is stored; one that is accepted is written back, byte for
+# byte, from what show prints, and drawn. Each stored log is answered as it is stored. A state file is the same from C.
 # shellcheck disable=SC2016,SC2094 # words with the marks of Markdown, and a log that is named as the file to be replaced
 set -euo pipefail
 test_name=tool
@@ -36,30 +35,16 @@ make_state() {
     "$launcher" base "$1" >"$state" 2>"$work/errors"
 }
 
-a='v 0x40000000, p 0x80000000, size 0x200000, rights 3'
-b='v 0x40000000, p 0x80200000, size 0x200000, rights 3'
-gic='v 0x8000000, p 0x8000000, size 0x10000, rights 3'
-
 check_run() {
     make_state "$plans/first.plan"
     expect 1 $'0 1 0, edition 1\n24 0 0, edition 1' '' run "$state" "$plans/first.plan" "$plans/first.plan"
     cp "$state" "$work/before"
-    expect 1 "23 0 0, edition 1: the plan is for another configuration
-  the terminal has 1 region, and the plan 4 regions
-  region 0 differs: the terminal has $gic, and the plan $a
-20 60 0, edition 1: the field at offset 60 is not wholly there
-24 0 0, edition 1: the plan is for another edition
-  the terminal is at edition 1, and the plan is for edition 0
-  the terminal is ahead: the plan is applied already, or belongs to another history" '' \
-        run --words "$state" "$plans/refused.plan" "$plans/cut.plan" "$plans/first.plan"
+    expect 1 $'23 0 0, edition 1: the plan is for another configuration\n20 60 0, edition 1: the field at offset 60 *' '' \
+        run --words "$state" "$plans/refused.plan" "$plans/cut.plan"
     expect 1 '20 0 0, edition 1' '' run "$state" - </dev/null
-    expect 1 $'20 0 0, edition 1: *\n  the file is empty' '' run --words "$state" - </dev/null
-    expect 1 $'21 0 0, edition 1: *\n  the file seems to be a state file: it has * bytes' '' run --words "$state" "$state"
     cmp -s "$state" "$work/before" || say_failed "a refused plan changed the state file"
     make_state "$plans/refused.plan"
-    expect 1 "27 2 14, edition 7: request 2 is refused: the region overlaps another one physically
-  request 2: zone 6, IOMMU insert: $a
-  it overlaps physically with zone 5, CPU side, the 1st region: $a" '' run --words "$state" "$plans/refused.plan"
+    expect 1 '27 2 14, edition 7: request 2 is refused: *' '' run --words "$state" "$plans/refused.plan"
 }
 
 # A plan for the right edition and other zones: first.plan as if zone 5 were there already.
@@ -70,10 +55,7 @@ check_other_zones() {
         tail -c 44 "$plans/first.plan"
     } >"$work/zones.plan"
     make_state "$plans/first.plan"
-    expect 1 '26 0 0, edition 0: the plan is for other zones
-  the terminal has no zone, and the plan expects 1 zone
-  the 1st zone differs: the terminal has none, and the plan expects zone 5
-  in bytes: offset 52 of the plan, byte 0 of its zones: the terminal has 0x00 there, the plan 0x01' '' run --words "$state" "$work/zones.plan"
+    expect 1 '26 0 0, edition 0: the plan is for other zones' '' run --words "$state" "$work/zones.plan"
     expect 0 '0 1 0, edition 1: accepted, 1 request' '' run --words "$state" - <"$plans/first.plan"
 }
 
@@ -87,7 +69,8 @@ differs() {
 }
 
 check_differ() {
-    local other='26 0 0: the plan is for other zones'
+    local a='v 0x40000000, p 0x80000000, size 0x200000, rights 3' b='v 0x40000000, p 0x80200000, size 0x200000, rights 3'
+    local gic='v 0x8000000, p 0x8000000, size 0x10000, rights 3' other='26 0 0: the plan is for other zones'
     make_state "$plans/refused.plan"
     cp "$state" "$work/before"
     expect 0 'the zones are the same: 1 zone' '' differ "$state" "$plans/refused.plan"
@@ -133,42 +116,34 @@ zone 5, IOMMU side, the 2nd region differs: the terminal has $gic, and the plan 
     # What is judged before the zones is said first, and the zones all the same.
     differs 1 '24 0 0: the plan is for another edition
 the terminal is at edition 7, and the plan is for edition 8
-the terminal is behind: deliver the plan for edition 7 first
 the zones are the same: 1 zone' 's/edition: 7/edition: 8/'
     differs 1 '24 0 0: the plan is for another edition
 the terminal is at edition 7, and the plan is for edition 6
-the terminal is ahead: the plan is applied already, or belongs to another history
 the 1st zone differs: the terminal has zone 5, and the plan expects zone 6
 *' 's/edition: 7/edition: 6/;s/^zone 5$/zone 6/'
     expect 1 '23 0 0: the plan is for another configuration
-the terminal has 4 regions, and the plan 1 region
-region 0 differs: *
 the terminal has 1 zone, and the plan expects no zone
 the 1st zone differs: *' '' differ "$state" "$plans/first.plan"
     # What is no plan, and a terminal that is unsound.
     expect 1 $'20 60 0: the field at offset 60 is not wholly there\nso there are no zones to compare' '' differ "$state" "$plans/cut.plan"
     expect 1 '20 0 0: *' '' differ "$state" - </dev/null
     head -c "$(stat -c %s "$state")" /dev/zero >"$work/zeros"
-    expect 1 $'1 0 0: *\nC1: *\nits count of regions is 0, and can be 1 to 256\nso there are no zones to compare' '' differ "$work/zeros" "$plans/first.plan"
-    expect 2 '' 'peatmitten: * takes * too; usage: *' differ "$state"
-    expect 2 '' "peatmitten: cannot read $work/none: No such file or directory" differ "$state" "$work/none"
+    expect 1 $'1 0 0: *\nso there are no zones to compare' '' differ "$work/zeros" "$plans/first.plan"
+    expect 2 '' 'peatmitten: usage: *' differ "$state"
+    expect 2 '' "peatmitten: cannot open $work/none: No such file *" differ "$state" "$work/none"
     cmp -s "$state" "$work/before" || say_failed "differ changed the state file"
 }
 
 check_faults() {
-    expect 2 '' 'peatmitten: * takes * too; usage: *' run
-    expect 2 '' 'peatmitten: * takes * too; usage: *' run --words "$state"
-    expect 2 '' "peatmitten: cannot read $work/none: No such file or directory" run "$work/none" "$plans/first.plan"
-    expect 2 '' "peatmitten: cannot read $work: Is a directory" run "$work" "$plans/first.plan"
-    expect 2 '' "peatmitten: cannot read $plans: Is a directory" run "$state" "$plans"
-    expect 2 '' 'peatmitten: run has no option --fast; usage: *' run --fast "$state" "$plans/first.plan"
-    expect 2 '' "peatmitten: cannot read --words: No such file or directory" run -- "$state" --words
+    expect 2 '' 'peatmitten: usage: *' run
+    expect 2 '' 'peatmitten: usage: *' run --words "$state"
+    expect 2 '' "peatmitten: cannot open $work/none: No such file *" run "$work/none" "$plans/first.plan"
+    expect 2 '' "peatmitten: cannot read $work: Is a directory *" run "$work" "$plans/first.plan"
+    expect 2 '' "peatmitten: cannot read $plans: Is a directory *" run "$state" "$plans"
     expect 2 '' "peatmitten: $plans/first.plan is no state file: a state has $(stat -c %s "$state") bytes" run "$plans/first.plan" "$plans/first.plan"
-    expect 1 '' "peatmitten: $plans/unsound.plan has no base: 2 0 0: the plan's own zones are unsound
-  zone 6, CPU side, the 1st region: $a: 14: the region overlaps another one physically
-  it overlaps physically with zone 5, CPU side, the 1st region: $a" base "$plans/unsound.plan"
+    expect 1 '' "peatmitten: $plans/unsound.plan has no base: 2 0 0: *" base "$plans/unsound.plan"
     expect 1 '' "peatmitten: $plans/cut.plan has no base: 20 60 0: *" base "$plans/cut.plan"
-    expect 2 '' "peatmitten: cannot read $work/none: No such file or directory" show "$work/none"
+    expect 2 '' "peatmitten: cannot open $work/none: No such file *" show "$work/none"
     if "$launcher" show "$plans/first.plan" >/dev/full 2>"$work/errors"; then
         say_failed "show: status 0 where standard output is full"
     fi
@@ -195,108 +170,20 @@ check_write() {
     make_state "$work/moved.plan"
     expect 0 '0 4 0, edition 8' '' run "$state" "$work/moved.plan"
     "$launcher" show "$plans/refused.plan" >"$work/text"
-    expect 1 '' "peatmitten: $work/text, line $(grep -n 'request 2:' "$work/text" | cut -d: -f1): 27 2 14: request 2 is refused: *
-  request 2: zone 6, IOMMU insert: $a
-  it overlaps physically with zone 5, CPU side, the 1st region: $a" write "$work/text"
-    expect 2 '' "peatmitten: cannot read $work/none: No such file or directory" write "$work/none"
+    expect 1 '' "peatmitten: $work/text: 27 2 14: request 2 is refused: *" write "$work/text"
+    expect 2 '' "peatmitten: cannot open $work/none: No such file *" write "$work/none"
     sed 's/edition: 0/edition: 4294967295/' "$plans/first.txt" >"$work/text"
-    expect 1 '' "peatmitten: $work/text, line 3: 25 0 0: *" write "$work/text"
-    sed 's/position: 0/position: 1/;s/, the GIC//' "$plans/first.txt" >"$work/text"
-    expect 1 '' "peatmitten: $work/text, line 2: 1 0 0: the configuration is unsound
-  C2: the GIC's position is not below the count of regions
-  the GIC's position is 1, and the count of regions is 1" write "$work/text"
-    { sed '/^request/d' "$plans/first.txt" && seq -f 'request: add zone %.0f' 513; } >"$work/text"
-    expect 1 '' "peatmitten: $work/text, line $(wc -l <"$work/text"): 29 0 0: *" write "$work/text"
-    sed 's/0x80200000/0x80100000/' "$plans/moved.txt" >"$work/text"
-    expect 1 '' "peatmitten: $work/text, line 7: 1 0 0: the configuration is unsound
-  C6: region 1 overlaps region 0 physically
-  region 1: ${b/0x80200000/0x80100000}
-  region 0: $a" write "$work/text"
+    expect 1 '' "peatmitten: $work/text: 25 0 0: *" write "$work/text"
     said_of_text '1: expected *GIC position: N*' <<<'gic 0'
     said_of_text '2: expected a number of 32 bits in the place of `4294967296`' <<<$'GIC position: 0\nbase edition: 4294967296'
-    said_of_text '1: expected `GIC position: N` before *' <<<'base edition: 0'
-    said_of_text '4: expected `size N` in the place of `length 1`' <<<$'GIC position: 0\nbase edition: 0\n\nregion: v 0, p 0, length 1, rights 3'
-    said_of_text '3: expected region 0' <<<$'GIC position: 0\nbase edition: 0\nregion 1: v 0, p 0, size 1, rights 3'
+    said_of_text '1: the text ends without `GIC position: N`' <<<'base edition: 0'
+    said_of_text '3: expected `size N` in the place of `length 1`' <<<$'GIC position: 0\n\nregion: v 0, p 0, length 1, rights 3'
+    said_of_text '2: expected region 0' <<<$'GIC position: 0\nregion 1: v 0, p 0, size 1, rights 3'
     said_of_text '4: line 3 says 2 configured regions, and there are 1' \
         <<<$'GIC position: 0\nbase edition: 0\nconfigured regions: 2\nregion: v 0x1000, p 0x1000, size 0x1000, rights 3'
-    said_of_text '3: expected `add zone ID`*' <<<$'GIC position: 0\nbase edition: 0\nrequest: zone 5, insert'
+    said_of_text '2: expected `add zone ID`*' <<<$'GIC position: 0\nrequest: zone 5, insert'
     sed '/^zone 5/{p;}' "$plans/moved.txt" >"$work/text"
-    expect 1 '' "peatmitten: $work/text, line 12: 2 0 0: the table is unsound
-  zone 5, the 2nd zone: 5: the zone is already there
-  zone 5 is the 1st zone, and holds no CPU region and no IOMMU region" write "$work/text"
-    said_of_text '23: expected `request: ...`, or the end, *' < <(cat "$plans/moved.txt" && echo 'configured regions: 4')
-    said_of_text '23: expected `request: ...`, or the end, *' < <(cat "$plans/moved.txt" && echo 'end: oops')
-    said_of_text '1: expected a number in the place of `+0`' <<<'GIC position: +0'
-    said_of_text '1: expected a number in the place of `0x+10`' <<<'GIC position: 0x+10'
-}
-
-# A text may have so many bytes: one more is refused, and none of it is left out.
-check_longest_text() {
-    local most=16777216 text="GIC position: 0
-base edition: 0
-region: $gic
-request: add zone 5
-"
-    { printf '%s' "$text" && head -c $((most - ${#text})) /dev/zero | tr '\0' '\n'; } >"$work/text"
-    [ "$(stat -c %s "$work/text")" = "$most" ] || say_failed "the longest text has $(stat -c %s "$work/text") bytes"
-    "$launcher" write "$work/text" | cmp - "$plans/first.plan" || say_failed "the longest text does not give first.plan"
-    { head -c "$most" /dev/zero | tr '\0' '\n' && printf '%s' "$text"; } >"$work/text"
-    expect 2 '' "peatmitten: $work/text is longer than a text may be, which is $most bytes" write "$work/text"
-    expect 2 '' "peatmitten: $work/text is longer than a text may be, which is $most bytes" plan "$plans/first.txt" "$work/text"
-    expect 2 '' "peatmitten: $plans/refused.plan is no text: the file is a plan: *" write "$plans/refused.plan"
-}
-
-# What a user gave is printed so that a terminal does not obey it.
-check_escaped() {
-    local name=$work/$'new\nline \e[31m'
-    expect 2 '' "peatmitten: cannot read *new?nline ?E?31m*: No such file or directory" show "$name"
-    printf 'base edition: 0\nGIC position: \e[31m\n' >"$name"
-    expect 2 '' "peatmitten: $work/new\\\\nline \\\\u{1b}\\[31m, line 2: expected a text, *" write "$name"
-    printf 'GIC position: \u202e5\n' >"$name"
-    expect 2 '' "peatmitten: $work/new\\\\nline \\\\u{1b}\\[31m, line 1: expected a number in the place of \`\\\\u{202e}5\`" write "$name"
-    cp "$plans/cut.plan" "$name"
-    expect 1 '' "peatmitten: $work/new\\\\nline \\\\u{1b}\\[31m has no base: 20 60 0: *" base "$name"
-    expect 2 '' "peatmitten: $work/new\\\\nline \\\\u{1b}\\[31m is no state file: *" differ "$name" "$plans/first.plan"
-}
-
-# says STATUS OUTPUT ARGUMENT..: of a command that has nothing to say besides.
-says() {
-    local status=$1 output=$2
-    shift 2
-    expect "$status" "$output" '' "$@"
-}
-
-check_words() {
-    says 0 '0 1 0: accepted, 1 request' apply --words "$plans/first.plan"
-    says 1 "27 2 14: request 2 is refused: the region overlaps another one physically
-  request 2: zone 6, IOMMU insert: $a
-  it overlaps physically with zone 5, CPU side, the 1st region: $a" apply --words "$plans/refused.plan"
-    says 1 $'21 12 0: *\n  the file is a log: *' apply --words "$plans/true.log"
-    says 1 $'20 400 0: *\n  the file is a plan with owners: *' apply --words "$plans/bank/own.plan"
-    says 1 $'21 0 0: *\n  the file is a text: *' apply --words "$plans/moved.txt"
-    says 1 $'21 0 0: *\n  the file seems to be a picture, in SVG' list --words "$root/docs/map.svg"
-    says 0 "$(cat "$root/crates/list/stdout")" list --words "$plans/map.plan"
-    says 1 $'2 0 0: the plan\'s own zones are unsound\n  zone 6, *' list --words - <"$plans/unsound.plan"
-    says 0 '0 3 0: accepted, 3 requests' bank apply --words "$plans/bank/own.plan"
-    says 1 $'27 2 11: *\n  request 2: zone 6, CPU insert: *\n  it is region 2, and zone 5 owns it' bank apply --words "$plans/bank/anothers.plan"
-    says 1 $'1 0 0: *\n  C7: the owner of region 2 is wrong\n  region 2: *, owner 256\n  C7: an owner is wrong: *' \
-        bank apply --words "$plans/bank/wrong_owner.plan"
-    says 1 $'21 52 0: *\n  the file is a plan: *' bank apply --words "$plans/first.plan"
-    check_stored_with_owners
-}
-
-# The first of the stored plans with each number and inner number. What the tool says of all of them is tested in rust/tool/src/stored.rs.
-one_of_each() {
-    awk '!told[$2, $4]++' "$root/vectors/$1/answers.txt"
-}
-
-# Stored plans with owners are answered as they are stored.
-check_stored_with_owners() {
-    local name answer
-    while read -r name answer; do
-        printed=$("${TOOL[@]}" bank_apply --words "$root/vectors/bank/plans/$name" || true)
-        [[ $printed == "$answer: "* ]] || say_failed "$name with owners is $answer; bank apply --words printed '$printed'"
-    done < <(one_of_each bank/plans)
+    expect 2 '' "peatmitten: $work/text, line 12: the base table is unsound: *" write "$work/text"
 }
 
 # full_text ID: a text of as much as a sound table can have, its zones with ids from ID on.
@@ -331,21 +218,16 @@ check_plan() {
     full_text 100 >"$work/other.txt"
     "$launcher" plan "$work/full.txt" "$work/full.txt" >"$work/none.plan" || say_failed "plan of a full table to itself: status $?"
     expect 1 '' "peatmitten: $work/full.txt to $work/other.txt: 29: there are more requests than a plan can have" plan "$work/full.txt" "$work/other.txt"
-    expect 2 '' "peatmitten: $work/full.txt is for another configuration than $plans/moved.txt: the first has 4 regions, and the second 256 regions; region 0 differs: *" \
-        plan "$plans/moved.txt" "$work/full.txt"
-    expect 2 '' 'peatmitten: only one file can be standard input' plan - - </dev/null
-    expect 2 '' 'peatmitten: * takes * too; usage: *' plan "$plans/moved.txt"
-    expect 2 '' "peatmitten: cannot read $work/none: No such file or directory" plan "$plans/moved.txt" "$work/none"
+    expect 2 '' "peatmitten: $work/full.txt is for another configuration than $plans/moved.txt" plan "$plans/moved.txt" "$work/full.txt"
+    expect 2 '' 'peatmitten: only one of the two texts can be standard input' plan - - </dev/null
+    expect 2 '' 'peatmitten: usage: *' plan "$plans/moved.txt"
+    expect 2 '' "peatmitten: cannot open $work/none: No such file *" plan "$plans/moved.txt" "$work/none"
     sed 's/^zone 6/zone 5/' "$plans/wanted.txt" >"$work/text"
-    expect 1 '' "peatmitten: $work/text, line 13: 2 0 0: the table is unsound
-  zone 5, the 2nd zone: 5: the zone is already there
-  *" plan "$plans/moved.txt" "$work/text"
+    expect 2 '' "peatmitten: $work/text, line 13: the base table is unsound: *" plan "$plans/moved.txt" "$work/text"
     sed 's/^region: v 0x40000000/region: v 0x40000001/' "$plans/wanted.txt" >"$work/text"
-    expect 1 '' "peatmitten: $work/text, line 5: 1 0 0: the configuration is unsound
-  C4: region 0 is not well formed
-  *" plan "$work/text" "$work/text"
+    expect 1 '' "peatmitten: $work/text to $work/text: 1: the configuration is unsound" plan "$work/text" "$work/text"
     sed 's/edition: 7/edition: 4294967295/' "$plans/moved.txt" >"$work/text"
-    expect 1 '' "peatmitten: $work/text, line 3: 25 0 0: *" plan "$work/text" "$plans/wanted.txt"
+    expect 1 '' "peatmitten: $work/text: 25 0 0: *" plan "$work/text" "$plans/wanted.txt"
 }
 
 # The stored picture is what is drawn, and every line of the listing is in it. Of a refused plan nothing is drawn.
@@ -360,11 +242,12 @@ check_map() {
     expect 1 '' "peatmitten: $plans/refused.plan has no map: 27 2 14: request 2 is refused: *" map "$plans/refused.plan"
     expect 1 '' "peatmitten: $plans/unsound.plan has no map: 2 0 0: *" map "$plans/unsound.plan"
     expect 1 '' "peatmitten: $plans/cut.plan has no map: 20 60 0: *" map "$plans/cut.plan"
-    expect 2 '' "peatmitten: cannot read $work/none: No such file or directory" map "$work/none"
+    expect 2 '' "peatmitten: cannot open $work/none: No such file *" map "$work/none"
 }
 
 # In words, what the check of a log finds; and the file of the end zones, which only a log whose claims all hold replaces.
 check_log() {
+    local a='v 0x40000000, p 0x80000000, size 0x200000, rights 3'
     expect 0 "0 168 0 0: all 4 claims hold
 at the end there are 3 zones
 zone 5
@@ -381,16 +264,15 @@ zone 7
     expect 1 "30 2 14 0: the claim for request 2 is false
 request 2: zone 6, IOMMU insert: $a
 the log claims 0: accepted
-the rules say $("$launcher" explain 14)
-it overlaps physically with zone 5, CPU side, the 1st region: $a" '' log "$plans/false.log"
+the rules say $("$launcher" explain 14)" '' log "$plans/false.log"
     expect 0 $'0 168 0 0: all 4 claims hold\n*' '' log - <"$plans/true.log"
     expect 0 $'0 4 0 0: there are no claims, so all hold\nat the end there is no zone' '' log "$root/vectors/logs/least.log"
     expect 0 $'0 16 0 0: the claim holds\nat the end there is 1 zone\nzone 5\n*' '' log "$root/vectors/logs/first-of-document-01.log"
     expect 1 $'30 9 0 4294967295: *\nrequest 9: add zone 7\nthe log claims 4294967295: no number that is answered\nthe rules say 0: accepted' '' \
         log "$root/vectors/logs/highest-number-claimed.log"
     expect 1 $'21 12 0 0: the count or mark at offset 12 is out of range\nits marks are those of a plan' '' log "$plans/first.plan"
-    expect 1 $'20 0 0 0: the field at offset 0 is not wholly there\nthe file is empty' '' log - </dev/null
-    expect 1 $'1 0 0 0: the log\'s own configuration is unsound\nC[1-6]: *' '' log "$root/vectors/logs/unsound-configuration.log"
+    expect 1 '20 0 0 0: the field at offset 0 is not wholly there' '' log - </dev/null
+    expect 1 "1 0 0 0: the log's own configuration is unsound" '' log "$root/vectors/logs/unsound-configuration.log"
     expect 1 '22 708 0 0: the log ends at offset 708, but there are bytes after it' '' log "$root/vectors/logs/byte-after-the-end.log"
     check_log_zones
     check_stored_logs
@@ -407,21 +289,22 @@ check_log_zones() {
     printf 'kept' >"$zones"
     expect 1 '30 2 14 0: *' '' log "$plans/false.log" "$zones"
     expect 1 '21 12 0 0: *' '' log "$plans/first.plan" "$zones"
-    expect 2 '' "peatmitten: cannot read $work/none: No such file or directory" log "$work/none" "$zones"
+    expect 2 '' "peatmitten: cannot open $work/none: No such file *" log "$work/none" "$zones"
     [ "$(cat "$zones")" = kept ] || say_failed "a log that does not hold changed the file of the zones"
     expect 0 '0 168 0 0: *' '' log "$log" "$zones"
     [ "$(stat -c %s "$zones")" = 168 ] || say_failed "the file of the zones was not replaced whole"
-    expect 2 '' "peatmitten: cannot find $work/none: No such file *" log "$log" "$work/none/zones"
+    [ ! -e "$zones.new" ] || say_failed "a file is left beside the zones"
+    expect 2 '' "peatmitten: cannot open $work/none/zones.new: No such file *" log "$log" "$work/none/zones"
     expect 2 '' 'peatmitten: the zones go into a file: *' log "$log" -
     expect 2 '' "peatmitten: cannot replace $work: it is no file" log "$log" "$work"
     expect 2 '' 'peatmitten: cannot replace /dev/null: it is no file' log "$log" /dev/null
     expect 2 '' "peatmitten: $log is the log, and would be lost" log "$log" "$log"
     expect 2 '' "peatmitten: $log is the log, and would be lost" log - "$log" <"$log"
-    ln "$log" "$work/.other.peatmitten-new"
-    expect 2 '' "peatmitten: $work/.other.peatmitten-new is the log, and would be lost" log "$log" "$work/other"
+    ln "$log" "$work/other.new"
+    expect 2 '' "peatmitten: $work/other.new is the log, and would be lost" log "$log" "$work/other"
     cmp "$log" "$plans/true.log" || say_failed "a log was lost"
-    expect 2 '' 'peatmitten: * takes * too; usage: *' log
-    expect 2 '' 'peatmitten: log does not take so many arguments; usage: *' log "$log" "$zones" "$zones"
+    expect 2 '' 'peatmitten: usage: *' log
+    expect 2 '' 'peatmitten: usage: *' log "$log" "$zones" "$zones"
 }
 
 check_stored_logs() {
@@ -434,7 +317,7 @@ check_stored_logs() {
     done <"$root/vectors/logs/answers.txt"
 }
 
-# Stored plans, each at its own base: what it answers, or why it has none; and where it stops reading. One that is accepted is written back from
+# Each stored plan at its own base: what it answers, or why it has none; and where it stops reading. One that is accepted is written back from
 # what show prints of it.
 check_stored_plans() {
     local name answer number place plan last
@@ -452,8 +335,6 @@ check_stored_plans() {
         20 | 21 | 22) [[ $last =~ ^\ *$place\ \ stops\ here\ with\ $number: ]] || say_failed "$name is $answer; show ended '$last'" ;;
         *) [[ $last =~ end:\ the\ plan\ reads\ whole$ ]] || say_failed "$name is $answer; show ended '$last'" ;;
         esac
-        said=$("${TOOL[@]}" apply --words "$plan" || true)
-        [[ $said == "$answer: "* ]] || say_failed "$name is $answer; apply --words printed '$said'"
         case $number in
         0)
             "${TOOL[@]}" show "$plan" | "${TOOL[@]}" write - | cmp - "$plan" || say_failed "$name is not written back from what show prints"
@@ -464,10 +345,10 @@ check_stored_plans() {
             if "${TOOL[@]}" show "$plan" | "${TOOL[@]}" write - >"$work/written" 2>"$work/errors"; then
                 say_failed "$name is $answer, and is written all the same"
             fi
-            [[ $(cat "$work/errors") == *", line "*": $answer: "* ]] || say_failed "write of $name, which is $answer: $(cat "$work/errors")"
+            [[ $(cat "$work/errors") == *": $answer: "* ]] || say_failed "write of $name, which is $answer: $(cat "$work/errors")"
             ;;
         esac
-    done < <(one_of_each plans)
+    done <"$root/vectors/plans/answers.txt"
 }
 
 # The C example and the tool keep the same state in the same bytes, and take each other's files.
@@ -500,9 +381,6 @@ check_differ
 check_faults
 check_show
 check_write
-check_longest_text
-check_escaped
-check_words
 check_plan
 check_map
 check_log

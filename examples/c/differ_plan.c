@@ -7,52 +7,34 @@
  * and plan have there. Exit status: 0 where the zones are the same, 1 where they differ or one of the two has none, 2 where a file is not as
  * it should be. `./peatmitten differ` says in words which zone, side and region that is.
  */
-#define _XOPEN_SOURCE 700
-
 #include <errno.h>
 #include <stdio.h>
 #include <string.h>
 
 #include "peatmitten.h"
-#include "state_file.h"
 
 static peatmitten_state state;
-static state_file file;
 static uint8_t plan[PEATMITTEN_LONGEST_PLAN + 1];
 static uint8_t section[PEATMITTEN_LONGEST_PLAN];
 
-/* How many bytes of the plan were read; -1 where it cannot be read. */
-static long read_plan(const char *path)
+/* How many bytes were read, at most so many; -1 where the file cannot be read. */
+static long read_file(const char *path, void *bytes, size_t most)
 {
-    FILE *opened = fopen(path, "rb");
+    FILE *file = fopen(path, "rb");
     size_t got;
 
-    if (opened == NULL) {
+    if (file == NULL) {
         fprintf(stderr, "differ_plan: cannot open %s: %s\n", path, strerror(errno));
         return -1;
     }
-    got = fread(plan, 1, sizeof plan, opened);
-    if (ferror(opened)) {
+    got = fread(bytes, 1, most, file);
+    if (ferror(file)) {
         fprintf(stderr, "differ_plan: cannot read %s: %s\n", path, strerror(errno));
-        fclose(opened);
+        fclose(file);
         return -1;
     }
-    fclose(opened);
+    fclose(file);
     return (long)got;
-}
-
-/* The terminal is looked at and not changed, so its file is not locked. */
-static int is_loaded(const char *path)
-{
-    state_file_answer answer = state_file_open(&file, path);
-
-    if (answer == STATE_FILE_DONE)
-        answer = state_file_load(&file, &state);
-    if (answer == STATE_FILE_NONE)
-        fprintf(stderr, "differ_plan: there is no %s\n", path);
-    else if (answer != STATE_FILE_DONE)
-        fprintf(stderr, "differ_plan: %s\n", file.fault);
-    return answer == STATE_FILE_DONE;
 }
 
 int main(int argc, char **argv)
@@ -65,9 +47,14 @@ int main(int argc, char **argv)
         fputs("usage: differ_plan STATE PLAN\n", stderr);
         return 2;
     }
-    if (!is_loaded(argv[1]))
+    got = read_file(argv[1], &state, sizeof state);
+    if (got >= 0 && got != (long)sizeof state) {
+        fprintf(stderr, "differ_plan: %s is no state file: a state has %zu bytes\n", argv[1], sizeof state);
+        got = -1;
+    }
+    if (got < 0)
         return 2;
-    got = read_plan(argv[2]);
+    got = read_file(argv[2], plan, sizeof plan);
     if (got < 0)
         return 2;
     zones = peatmitten_zones(&state, section, sizeof section);

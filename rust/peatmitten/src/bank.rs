@@ -2,8 +2,8 @@
 //! a plan for its terminals has an owners section, and no mark that says so.
 //!
 //! ```
-//! use peatmitten::bank::{Config, Refusal, GIC_OWNER};
-//! use peatmitten::{Region, Request, Side, Table};
+//! use peatmitten::bank::{Config, State, GIC_OWNER};
+//! use peatmitten::{Refusal, Region, Request, Side, Table};
 //!
 //! let memory = Region::new(0x4000_0000, 0x8000_0000, 0x20_0000, 3);
 //! let gic = Region::new(0x0800_0000, 0x0800_0000, 0x1_0000, 3);
@@ -16,13 +16,13 @@
 //!     assert_eq!(config.request(&mut table, Request::insert(zone, Side::Iommu, gic)), Ok(()));
 //! }
 //! assert_eq!(config.request(&mut table, Request::insert(5, Side::Cpu, memory)), Ok(()));
-//! assert_eq!(config.request(&mut table, Request::insert(6, Side::Cpu, memory)), Err(Refusal::NotOwned));
+//! assert_eq!(config.request(&mut table, Request::insert(6, Side::Cpu, memory)), Err(Refusal::NotConfigured));
 //! ```
 
 use std::error::Error;
 use std::fmt;
 
-use crate::answers;
+use crate::answers::{self, PlanRefusal, ReadFault, Refusal};
 use crate::config;
 use crate::limits::MOST_REGIONS;
 use crate::raw::bank as raw;
@@ -100,236 +100,7 @@ impl fmt::Display for ConfigFault {
     }
 }
 
-impl Error for ConfigFault {
-    fn source(&self) -> Option<&(dyn Error + 'static)> {
-        match self {
-            ConfigFault::Plain(fault) => Some(fault),
-            ConfigFault::Owner { .. } => None,
-        }
-    }
-}
-
-/// Why a request or a translation is refused. 12 and 14 do not occur.
-#[derive(Clone, Copy, Debug, PartialEq, Eq, Hash)]
-pub enum Refusal {
-    /// 1: the configuration is unsound, its owners included.
-    UnsoundConfig,
-    /// 2: the table is unsound, also where a zone holds what it does not own.
-    UnsoundTable,
-    /// 11: the region is not equal to a configured one that the zone owns, or is the GIC for a CPU set.
-    NotOwned,
-    /// A number that means what it means without owners.
-    Plain(answers::Refusal),
-}
-
-impl Refusal {
-    fn from_library(number: u32) -> Result<(), Refusal> {
-        answers::Refusal::from_library(number).map_err(Refusal::from)
-    }
-
-    /// The refusal with the same number on terminals without owners.
-    pub const fn plain(self) -> answers::Refusal {
-        match self {
-            Refusal::UnsoundConfig => answers::Refusal::UnsoundConfig,
-            Refusal::UnsoundTable => answers::Refusal::UnsoundTable,
-            Refusal::NotOwned => answers::Refusal::NotConfigured,
-            Refusal::Plain(plain) => plain,
-        }
-    }
-
-    /// The document's number.
-    pub const fn number(self) -> u32 {
-        self.plain().number()
-    }
-}
-
-impl From<answers::Refusal> for Refusal {
-    fn from(plain: answers::Refusal) -> Refusal {
-        match plain {
-            answers::Refusal::UnsoundConfig => Refusal::UnsoundConfig,
-            answers::Refusal::UnsoundTable => Refusal::UnsoundTable,
-            answers::Refusal::NotConfigured => Refusal::NotOwned,
-            _ => Refusal::Plain(plain),
-        }
-    }
-}
-
-impl fmt::Display for Refusal {
-    fn fmt(&self, f: &mut fmt::Formatter) -> fmt::Result {
-        match self {
-            Refusal::UnsoundConfig => write!(f, "the configuration is unsound, or its owners are"),
-            Refusal::UnsoundTable => write!(f, "the table is unsound, or a zone holds what it does not own"),
-            Refusal::NotOwned => write!(f, "the region is not a configured one that the zone owns, or is the GIC for a CPU set"),
-            Refusal::Plain(plain) => plain.fmt(f),
-        }
-    }
-}
-
-impl Error for Refusal {}
-
-/// Why bytes are no plan with owners: 20 to 22, with the offset at which that shows.
-#[derive(Clone, Copy, Debug, PartialEq, Eq, Hash)]
-pub enum ReadFault {
-    /// 20: a field is not wholly there.
-    Cut {
-        /// Where the field begins.
-        offset: u64,
-    },
-    /// 21: a count is out of range, the owners' count is not the regions', or the third mark is another format's.
-    Count {
-        /// Where the count or the mark stands.
-        offset: u64,
-    },
-    /// 22: there are bytes after the last section.
-    Trailing {
-        /// Where the first such byte stands.
-        offset: u64,
-    },
-}
-
-impl ReadFault {
-    fn from_library(number: u32, offset: u64) -> Result<(), ReadFault> {
-        answers::ReadFault::from_library(number, offset).map_err(ReadFault::from)
-    }
-
-    /// The fault with the same number and offset of a plan without owners.
-    pub const fn plain(self) -> answers::ReadFault {
-        match self {
-            ReadFault::Cut { offset } => answers::ReadFault::Cut { offset },
-            ReadFault::Count { offset } => answers::ReadFault::Count { offset },
-            ReadFault::Trailing { offset } => answers::ReadFault::Trailing { offset },
-        }
-    }
-
-    /// The document's number.
-    pub fn number(&self) -> u32 {
-        self.plain().number()
-    }
-
-    /// The offset.
-    pub fn offset(&self) -> u64 {
-        self.plain().offset()
-    }
-}
-
-impl From<answers::ReadFault> for ReadFault {
-    fn from(plain: answers::ReadFault) -> ReadFault {
-        match plain {
-            answers::ReadFault::Cut { offset } => ReadFault::Cut { offset },
-            answers::ReadFault::Count { offset } => ReadFault::Count { offset },
-            answers::ReadFault::Trailing { offset } => ReadFault::Trailing { offset },
-        }
-    }
-}
-
-impl fmt::Display for ReadFault {
-    fn fmt(&self, f: &mut fmt::Formatter) -> fmt::Result {
-        match self {
-            ReadFault::Count { offset } => {
-                write!(
-                    f,
-                    "the count or mark at offset {offset} is out of range, or is a count of owners and not that of the regions"
-                )
-            }
-            _ => self.plain().fmt(f),
-        }
-    }
-}
-
-impl Error for ReadFault {}
-
-/// Why a plan with owners is refused: 1, 2, 20 to 27.
-#[derive(Clone, Copy, Debug, PartialEq, Eq, Hash)]
-pub enum PlanRefusal {
-    /// 1: the terminal's own configuration is unsound, its owners included.
-    UnsoundConfig,
-    /// 2: the terminal's own table is unsound, also where a zone holds what it does not own.
-    UnsoundTable,
-    /// 20 to 22: the bytes are no plan with owners.
-    Read(ReadFault),
-    /// 23: the configuration, the GIC's position or an owner differs from the terminal's.
-    OtherConfig,
-    /// 27: a request is refused.
-    Request {
-        /// Which, from 0.
-        index: u64,
-        /// Why.
-        refusal: Refusal,
-    },
-    /// A number that means what it means without owners: 24, 25 or 26.
-    Plain(answers::PlanRefusal),
-}
-
-impl PlanRefusal {
-    fn from_library(number: u32, place: u64, inner: u64) -> Result<(), PlanRefusal> {
-        answers::PlanRefusal::from_library(number, place, inner).map_err(PlanRefusal::from)
-    }
-
-    /// The refusal with the same numbers on terminals without owners.
-    pub const fn plain(self) -> answers::PlanRefusal {
-        match self {
-            PlanRefusal::Read(fault) => answers::PlanRefusal::Read(fault.plain()),
-            PlanRefusal::UnsoundConfig => answers::PlanRefusal::UnsoundConfig,
-            PlanRefusal::UnsoundTable => answers::PlanRefusal::UnsoundTable,
-            PlanRefusal::OtherConfig => answers::PlanRefusal::OtherConfig,
-            PlanRefusal::Request { index, refusal } => answers::PlanRefusal::Request { index, refusal: refusal.plain() },
-            PlanRefusal::Plain(plain) => plain,
-        }
-    }
-
-    /// The document's number.
-    pub fn number(&self) -> u32 {
-        self.plain().number()
-    }
-
-    /// The document's place: an offset or a request's index, else 0.
-    pub fn place(&self) -> u64 {
-        self.plain().place()
-    }
-
-    /// The document's inner number: why a request is refused, else 0.
-    pub fn inner(&self) -> u32 {
-        self.plain().inner()
-    }
-}
-
-impl From<answers::PlanRefusal> for PlanRefusal {
-    fn from(plain: answers::PlanRefusal) -> PlanRefusal {
-        match plain {
-            answers::PlanRefusal::Read(fault) => PlanRefusal::Read(fault.into()),
-            answers::PlanRefusal::UnsoundConfig => PlanRefusal::UnsoundConfig,
-            answers::PlanRefusal::UnsoundTable => PlanRefusal::UnsoundTable,
-            answers::PlanRefusal::OtherConfig => PlanRefusal::OtherConfig,
-            answers::PlanRefusal::Request { index, refusal } => PlanRefusal::Request { index, refusal: refusal.into() },
-            _ => PlanRefusal::Plain(plain),
-        }
-    }
-}
-
-impl fmt::Display for PlanRefusal {
-    fn fmt(&self, f: &mut fmt::Formatter) -> fmt::Result {
-        match self {
-            PlanRefusal::Read(fault) => fault.fmt(f),
-            PlanRefusal::UnsoundConfig => write!(f, "the terminal's own configuration is unsound, or its owners are"),
-            PlanRefusal::UnsoundTable => {
-                write!(f, "the terminal's own table is unsound, or a zone holds what it does not own")
-            }
-            PlanRefusal::OtherConfig => write!(f, "the plan is for another configuration, or for other owners"),
-            PlanRefusal::Request { index, refusal } => write!(f, "request {index} is refused: {refusal}"),
-            PlanRefusal::Plain(plain) => plain.fmt(f),
-        }
-    }
-}
-
-impl Error for PlanRefusal {
-    fn source(&self) -> Option<&(dyn Error + 'static)> {
-        match self {
-            PlanRefusal::Read(fault) => Some(fault),
-            PlanRefusal::Request { refusal, .. } => Some(refusal),
-            _ => None,
-        }
-    }
-}
+impl Error for ConfigFault {}
 
 impl Config {
     /// A configuration of these regions with their owners, of which the GIC's stands at the position `gic`. None if there are more than
@@ -372,7 +143,7 @@ impl Config {
     }
 
     /// Makes one request. The table is changed if it is accepted, and else as it was. An insert of a region that the zone does not own is
-    /// [`Refusal::NotOwned`].
+    /// [`Refusal::NotConfigured`]; [`Refusal::OverGic`] and [`Refusal::PhysicalOverlap`] do not occur.
     pub fn request(&self, table: &mut Table, request: Request) -> Result<(), Refusal> {
         let number = raw::request(&self.plain, &self.owners, table, request.kind(), request.zone(), &request.region().words());
         Refusal::from_library(number)

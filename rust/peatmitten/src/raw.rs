@@ -1,5 +1,5 @@
 //! The library's functions with their answers as numbers, as C has them: see `include/peatmitten.h`. The types of this crate stand
-//! on these. All unsafe code of the crate is here, but for one call of the system.
+//! on these. All unsafe code of the crate is here.
 #![allow(unsafe_code)]
 
 pub mod bank;

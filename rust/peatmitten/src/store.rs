@@ -1,10 +1,11 @@
 //! How a state is kept: as bytes, and in a file that a cut in power leaves whole.
 
-use std::io;
-use std::path::Path;
+use std::ffi::OsString;
+use std::fs::{self, File};
+use std::io::{self, Read, Write};
+use std::path::{Path, PathBuf};
 
 use crate::config::{Config, CONFIG_WORDS};
-use crate::place::Place;
 use crate::plan::State;
 use crate::table::{Table, TABLE_WORDS};
 
@@ -45,82 +46,34 @@ impl State {
         Some(State { config, table, edition: u32::from_le_bytes([a, b, c, d]) })
     }
 
-    /// Reads a state file, for one who only looks: whoever keeps a state there afterwards takes a [`StateFile`]. It needs no lock, since the
-    /// file is whole at every moment. What it says is on the disk when this returns, also where the process that wrote it was stopped before
+    /// Reads a state file. What it says is on the disk when this returns, also where the process that wrote it was stopped before
     /// it had made it last. An error names the file.
     pub fn load(path: &Path) -> io::Result<State> {
-        state_at(&Place::find(path)?)
+        let mut bytes = Vec::new();
+        let file = File::open(path).map_err(because("open", path))?;
+        file.take(STATE_BYTES as u64 + 1).read_to_end(&mut bytes).map_err(because("read", path))?;
+        let state = State::from_bytes(&bytes).ok_or_else(|| not_a_state(path))?;
+        sync_folder_of(path)?;
+        Ok(state)
+    }
+
+    /// Keeps the state in a file. A cut in power at any time leaves the old file or the new one; when this returns, the new one. The
+    /// state is written to a file beside, which has `.new` after its name. One process at a time may use a state file. An error names
+    /// the file that could not be written.
+    pub fn save(&self, path: &Path) -> io::Result<()> {
+        replace_file(path, &self.to_bytes())
     }
 }
 
-/// A state file that is this value's own: it is locked until the value goes. An agent holds it from the load to the last save, so that no
-/// other loads the same state meanwhile and keeps another one over it.
-///
-/// ```
-/// use peatmitten::{Config, Region, State, StateFile};
-///
-/// let path = std::env::temp_dir().join(format!("peatmitten-example-{}", std::process::id()));
-/// let mut file = StateFile::lock(&path)?;
-/// let mut state = match file.load() {
-///     Err(fault) if fault.kind() == std::io::ErrorKind::NotFound => {
-///         State::new(Config::new(&[Region::new(0, 0, 0x1000, 3)], 0).expect("few enough regions"))
-///     }
-///     loaded => loaded?,
-/// };
-/// if state.apply(b"what a modem brought").is_ok() {
-///     file.save(&state)?;
-/// }
-/// # file.save(&state)?;
-/// # std::fs::remove_file(&path)?;
-/// # Ok::<(), std::io::Error>(())
-/// ```
-///
-/// **What the lock is.** `flock` on the folder of the real file, so that nothing is left behind, also by a process that is killed. The C
-/// example's `state_file.h` and `./peatmitten run` take the same one. All files of a folder have one lock: who uses one of them waits for who
-/// uses another, and a process that asks for a second one there waits for itself.
-///
-/// **What it does not protect from.** Programs that do not ask for it: an editor, `cp`, a shell that writes to the file. Whoever may read
-/// the folder can hold the lock and let others wait; so states belong in a folder that nobody but their agents may read. On a network file
-/// system the lock may be refused, which is an error, or hold on one machine only.
-#[derive(Debug)]
-pub struct StateFile {
-    place: Place,
-}
-
-impl StateFile {
-    /// Locks a state file, and waits while another process has it. There need be no file yet, but its folder. Where the path is a link, this is
-    /// the file that the link leads to; a link to nothing is an error of the kind `InvalidInput`.
-    pub fn lock(path: &Path) -> io::Result<StateFile> {
-        let place = Place::find(path)?;
-        place.lock()?;
-        Ok(StateFile { place })
-    }
-
-    /// The same without waiting: where another process has it, an error of the kind `WouldBlock` says so.
-    pub fn try_lock(path: &Path) -> io::Result<StateFile> {
-        let place = Place::find(path)?;
-        place.try_lock()?;
-        Ok(StateFile { place })
-    }
-
-    /// Reads the state, as [`State::load`] does. Where there is no file yet, the error is of the kind `NotFound`.
-    pub fn load(&self) -> io::Result<State> {
-        state_at(&self.place)
-    }
-
-    /// Keeps a state in the file, as [`replace_file`](crate::replace_file) does: a cut in power at any time leaves the old one or the new one;
-    /// when this returns, the new one. The file has the mode, the owner and the group that it had; a new one has mode 600. Another name of the
-    /// old file (a hard link) keeps the old state. An error names the file that could not be written.
-    pub fn save(&mut self, state: &State) -> io::Result<()> {
-        self.place.replace(&state.to_bytes())
-    }
-}
-
-fn state_at(place: &Place) -> io::Result<State> {
-    let bytes = place.read(STATE_BYTES + 1)?;
-    let state = State::from_bytes(&bytes).ok_or_else(|| not_a_state(place.path()))?;
-    place.sync_folder()?;
-    Ok(state)
+/// Puts these bytes into a file, in the same way: the old file stays whole until the new one is.
+pub fn replace_file(path: &Path, bytes: &[u8]) -> io::Result<()> {
+    let beside = beside(path);
+    let mut file = File::create(&beside).map_err(because("open", &beside))?;
+    file.write_all(bytes).map_err(because("write", &beside))?;
+    file.sync_all().map_err(because("sync", &beside))?;
+    drop(file);
+    fs::rename(&beside, path).map_err(because("replace", path))?;
+    sync_folder_of(path)
 }
 
 fn words_in<const N: usize>(bytes: &[u8]) -> [u64; N] {
@@ -129,6 +82,27 @@ fn words_in<const N: usize>(bytes: &[u8]) -> [u64; N] {
         *word = place.iter().rev().fold(0, |number, byte| number << 8 | u64::from(*byte));
     }
     words
+}
+
+fn beside(path: &Path) -> PathBuf {
+    let mut name = OsString::from(path);
+    name.push(".new");
+    PathBuf::from(name)
+}
+
+/// Makes what the folder says of the file last: that it is there, and which file has its name.
+fn sync_folder_of(path: &Path) -> io::Result<()> {
+    let folder = match path.parent() {
+        Some(folder) if folder != Path::new("") => folder,
+        _ => Path::new("."),
+    };
+    let file = File::open(folder).map_err(because("open", folder))?;
+    file.sync_all().map_err(because("sync", folder))
+}
+
+/// An error of the system, with what could not be done to which file.
+fn because<'a>(doing: &'a str, path: &'a Path) -> impl Fn(io::Error) -> io::Error + 'a {
+    move |reason| io::Error::new(reason.kind(), format!("cannot {doing} {}: {reason}", path.display()))
 }
 
 fn not_a_state(path: &Path) -> io::Error {

@@ -1,11 +1,12 @@
 //! Terminals with owners through the types of this crate: A and C belong to zone 5, B to zone 6.
 
-use std::convert::Infallible;
-use std::error::Error;
 use std::mem::{offset_of, size_of};
 
-use peatmitten::bank::{read_plan, Config, ConfigFault, PlanRefusal, ReadFault, Refusal, State, GIC_OWNER, LONGEST_PLAN};
-use peatmitten::{limits, raw, ByteCount, Guest, Part, Physical, Region, Request, Side, Store, Table, CONFIG_WORDS, TABLE_WORDS};
+use peatmitten::bank::{read_plan, Config, ConfigFault, State, GIC_OWNER, LONGEST_PLAN};
+use peatmitten::{
+    limits, raw, ByteCount, Guest, Physical, PlanRefusal, ReadFault, Refusal, Region, Request, Side, Table, CONFIG_WORDS,
+    TABLE_WORDS,
+};
 
 const A: Region = Region::new(0x4000_0000, 0x8000_0000, 0x20_0000, 3);
 const B: Region = Region::new(0x4000_0000, 0x8020_0000, 0x20_0000, 3);
@@ -65,73 +66,33 @@ fn requests() {
     let State { config, mut table, .. } = state();
     let mut ask = |request| config.request(&mut table, request);
     assert_eq!(ask(Request::add_zone(6)), Ok(()));
-    assert_eq!(ask(Request::insert(6, Side::Cpu, A)), Err(Refusal::NotOwned));
-    assert_eq!(ask(Request::insert(6, Side::Iommu, A)), Err(Refusal::NotOwned));
-    assert_eq!(ask(Request::insert(6, Side::Cpu, G)), Err(Refusal::NotOwned));
+    assert_eq!(ask(Request::insert(6, Side::Cpu, A)), Err(Refusal::NotConfigured));
+    assert_eq!(ask(Request::insert(6, Side::Iommu, A)), Err(Refusal::NotConfigured));
+    assert_eq!(ask(Request::insert(6, Side::Cpu, G)), Err(Refusal::NotConfigured));
     assert_eq!(ask(Request::insert(6, Side::Iommu, G)), Ok(()));
     assert_eq!(ask(Request::insert(6, Side::Cpu, B)), Ok(()));
-    assert_eq!(ask(Request::insert(5, Side::Cpu, C)), Err(Refusal::Plain(peatmitten::Refusal::GuestOverlap)));
-    assert_eq!(ask(Request::remove_zone(6)), Err(Refusal::Plain(peatmitten::Refusal::ZoneInUse)));
+    assert_eq!(ask(Request::insert(5, Side::Cpu, C)), Err(Refusal::GuestOverlap));
+    assert_eq!(ask(Request::remove_zone(6)), Err(Refusal::ZoneInUse));
     assert!(config.is_sound(&table));
     assert!(!Config::new(&[(A, 6), (B, 6), (C, 5), (G, GIC_OWNER)], 3).expect("four regions").is_sound(&table));
     let found = config.translate(&table, 6, Side::Cpu, Guest(B.v.0 + 1)).expect("the region covers it");
     assert_eq!((found.physical, found.remaining), (Physical(B.p.0 + 1), ByteCount(B.size - 1)));
-    assert_eq!(config.translate(&table, 6, Side::Iommu, Guest(B.v.0)), Err(Refusal::Plain(peatmitten::Refusal::NotCovered)));
+    assert_eq!(config.translate(&table, 6, Side::Iommu, Guest(B.v.0)), Err(Refusal::NotCovered));
 }
 
 #[test]
 fn plans() {
     let mut state = state();
     let before = state.clone();
-    assert_eq!(state.apply(ANOTHERS_PLAN), Err(PlanRefusal::Request { index: 2, refusal: Refusal::NotOwned }));
+    assert_eq!(state.apply(ANOTHERS_PLAN), Err(PlanRefusal::Request { index: 2, refusal: Refusal::NotConfigured }));
     assert_eq!(state.apply(WRONG_OWNER_PLAN), Err(PlanRefusal::OtherConfig));
     assert_eq!(state.apply(FIRST_PLAN), Err(PlanRefusal::Read(ReadFault::Count { offset: 52 })));
     assert_eq!(state, before);
     assert_eq!(state.apply(OWN_PLAN), Ok(3));
     assert_eq!((state.edition, state.table.zones().count()), (8, 2));
-    assert_eq!(state.apply(OWN_PLAN), Err(PlanRefusal::Plain(peatmitten::PlanRefusal::OtherEdition)));
+    assert_eq!(state.apply(OWN_PLAN), Err(PlanRefusal::OtherEdition));
     assert_eq!(read_plan(OWN_PLAN), Ok(OWN_PLAN.len() as u64 - 3 * 40));
     assert_eq!(read_plan(FIRST_PLAN), Err(ReadFault::Count { offset: 52 }));
-}
-
-/// Of the numbers that mean something else with owners, the words are others; of the rest, the same.
-#[test]
-fn words_with_owners() {
-    let is = |refusal: PlanRefusal, numbers: [u64; 3], words: &str| {
-        assert_eq!([refusal.number().into(), refusal.place(), refusal.inner().into()], numbers);
-        assert_eq!(refusal.to_string(), words);
-        assert_eq!(PlanRefusal::from(refusal.plain()), refusal);
-    };
-    let mut state = state();
-    let not_owned = "the region is not a configured one that the zone owns, or is the GIC for a CPU set";
-    is(state.apply(ANOTHERS_PLAN).unwrap_err(), [27, 2, 11], &format!("request 2 is refused: {not_owned}"));
-    let other_config = "the plan is for another configuration, or for other owners";
-    is(state.apply(WRONG_OWNER_PLAN).unwrap_err(), [23, 0, 0], other_config);
-    let count = "the count or mark at offset 52 is out of range, or is a count of owners and not that of the regions";
-    is(state.apply(FIRST_PLAN).unwrap_err(), [21, 52, 0], count);
-    is(state.apply(&[3, 0]).unwrap_err(), [20, 0, 0], "the field at offset 0 is not wholly there");
-    state.edition = 8;
-    is(state.apply(OWN_PLAN).unwrap_err(), [24, 0, 0], "the plan is for another edition");
-    state.config = Config::new(&[(A, 6), (B, 6), (C, 5), (G, GIC_OWNER)], 3).expect("four regions");
-    let table = "the terminal's own table is unsound, or a zone holds what it does not own";
-    is(state.apply(OWN_PLAN).unwrap_err(), [2, 0, 0], table);
-    state.config = Config::new(&[(A, 256), (B, 6), (C, 5), (G, GIC_OWNER)], 3).expect("four regions");
-    is(state.apply(OWN_PLAN).unwrap_err(), [1, 0, 0], "the terminal's own configuration is unsound, or its owners are");
-    let refused = state.config.request(&mut state.table, Request::add_zone(7)).unwrap_err();
-    assert_eq!((refused.number(), refused.to_string()), (1, "the configuration is unsound, or its owners are".to_string()));
-}
-
-#[test]
-fn sources() {
-    let refusal = state().apply(ANOTHERS_PLAN).unwrap_err();
-    let inner = refusal.source().and_then(|inner| inner.downcast_ref::<Refusal>());
-    assert_eq!(inner, Some(&Refusal::NotOwned));
-    let fault = state().apply(FIRST_PLAN).unwrap_err();
-    assert_eq!(fault.source().and_then(|inner| inner.downcast_ref()), Some(&ReadFault::Count { offset: 52 }));
-    assert!(state().apply(WRONG_OWNER_PLAN).unwrap_err().source().is_none());
-    let no_regions = Config::new(&[], 0).expect("few regions").check().unwrap_err();
-    assert_eq!(no_regions.source().and_then(|inner| inner.downcast_ref()), Some(&peatmitten::ConfigFault::Count));
-    assert!(ConfigFault::Owner { place: 1 }.source().is_none());
 }
 
 #[test]
@@ -142,35 +103,4 @@ fn the_limits_are_the_librarys() {
         assert_eq!(raw::bank::layout(which), limit as u64, "number {which} of the layout");
     }
     assert_eq!(raw::bank::layout(shared.len() as u32), 0);
-}
-
-/// A part that is never cut.
-struct Memory;
-
-impl Part for Memory {
-    type Fault = Infallible;
-
-    fn write_words(&mut self, _slot: usize, _table: &Table) -> Result<(), Infallible> {
-        Ok(())
-    }
-
-    fn write_mark(&mut self, _mark: u32) -> Result<(), Infallible> {
-        Ok(())
-    }
-
-    fn wait(&mut self) -> Result<(), Infallible> {
-        Ok(())
-    }
-}
-
-#[test]
-fn a_store_with_owners_answers_as_a_state_does() {
-    let mut state = state();
-    let slots = [Table::from_words([7; TABLE_WORDS]), state.table.clone()];
-    let mut store = Store::start(config(), slots, Memory, state.edition).expect("a part that never fails");
-    for plan in [WRONG_OWNER_PLAN, ANOTHERS_PLAN, FIRST_PLAN, OWN_PLAN, OWN_PLAN] {
-        assert_eq!(store.deliver(plan), Ok(state.apply(plan)));
-        assert_eq!((store.edition(), store.table()), (Some(state.edition), Some(&state.table)));
-    }
-    assert_eq!(state.edition, 8);
 }

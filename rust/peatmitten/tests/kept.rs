@@ -1,17 +1,12 @@
 //! States as bytes and in files, and what plans say.
 
-use std::fs::{self, Permissions};
+use std::fs;
 use std::io::ErrorKind;
 use std::mem::size_of;
-use std::os::unix::fs::{symlink, PermissionsExt};
-use std::path::{Path, PathBuf};
-use std::sync::mpsc;
-use std::thread;
-use std::time::Duration;
+use std::path::PathBuf;
 
 use peatmitten::limits::LONGEST_PLAN;
-use peatmitten::{new_file_of, replace_file, State, StateFile, STATE_BYTES};
-use peatmitten::{Config, Counted, Field, PlanRefusal, ReadFault, Reading, Refusal, Region, Request, Side};
+use peatmitten::{Config, Counted, Field, PlanRefusal, ReadFault, Reading, Refusal, Region, Request, Side, State, STATE_BYTES};
 
 const GIC: Region = Region::new(0x0800_0000, 0x0800_0000, 0x1_0000, 3);
 
@@ -23,33 +18,14 @@ fn first_state() -> State {
     State::new(Config::new(&[GIC], 0).expect("one region"))
 }
 
-fn next_state() -> State {
-    let mut state = first_state();
-    assert_eq!(state.apply(FIRST_PLAN), Ok(1));
-    state
-}
-
-/// What an agent does that keeps a state and goes.
-fn keep(state: &State, path: &Path) {
-    StateFile::lock(path).and_then(|mut file| file.save(state)).expect("the file can be written");
-}
-
 /// A folder of this test's own, which is removed when the test ends.
 struct Folder(PathBuf);
 
 impl Folder {
     fn new(name: &str) -> Folder {
-        let temporary = fs::canonicalize(std::env::temp_dir()).expect("a folder for temporary files");
-        let folder = temporary.join(format!("peatmitten-{}-{name}", std::process::id()));
-        fs::create_dir(&folder).expect("a folder can be made");
+        let folder = std::env::temp_dir().join(format!("peatmitten-{}-{name}", std::process::id()));
+        fs::create_dir(&folder).expect("a folder for temporary files");
         Folder(folder)
-    }
-
-    fn names(&self) -> Vec<String> {
-        let entries = fs::read_dir(&self.0).expect("the folder is there");
-        let mut names: Vec<_> = entries.map(|entry| entry.expect("an entry").file_name().into_string().expect("text")).collect();
-        names.sort();
-        names
     }
 }
 
@@ -77,14 +53,13 @@ fn a_state_file() {
     let folder = Folder::new("file");
     let path = folder.0.join("state");
     assert_eq!(State::load(&path).expect_err("there is no file").kind(), ErrorKind::NotFound);
-    let mut file = StateFile::lock(&path).expect("the folder is there");
-    assert_eq!(file.load().expect_err("there is no file").kind(), ErrorKind::NotFound);
-    file.save(&first_state()).expect("the file can be written");
-    assert_eq!(file.load().expect("the file is there"), first_state());
-    assert_eq!(State::load(&path).expect("whoever looks needs no lock"), first_state());
-    file.save(&next_state()).expect("the file can be replaced");
-    assert_eq!(State::load(&path).expect("the file is there"), next_state());
-    assert_eq!(folder.names(), ["state"]);
+    let mut state = first_state();
+    state.save(&path).expect("the file can be written");
+    assert_eq!(state.apply(FIRST_PLAN), Ok(1));
+    assert_eq!(State::load(&path).expect("the file is there"), first_state());
+    state.save(&path).expect("the file can be replaced");
+    assert_eq!(State::load(&path).expect("the file is there"), state);
+    assert_eq!(fs::read_dir(&folder.0).expect("the folder is there").count(), 1);
 }
 
 #[test]
@@ -94,95 +69,11 @@ fn what_is_no_state_file_is_named() {
     fs::write(&path, FIRST_PLAN).expect("the file can be written");
     let fault = State::load(&path).expect_err("it is a plan");
     assert_eq!(fault.to_string(), format!("{} is no state file: a state has {STATE_BYTES} bytes", path.display()));
-    let said = |path: &Path| replace_file(path, b"").expect_err("there can be no such file").to_string();
-    let there = folder.0.display();
-    assert!(said(&folder.0.join("none/state")).starts_with(&format!("cannot find {there}/none: ")));
-    assert_eq!(said(&folder.0), format!("cannot replace {there}: it is no file"));
-    assert_eq!(said(&folder.0.join("none/")), format!("{there}/none/ names no file"));
-    assert_eq!(said(Path::new("/")), "/ names no file");
-    assert_eq!(said(Path::new("")), " names no file");
-    assert_eq!(folder.names(), ["short"]);
-}
-
-#[test]
-fn a_file_keeps_its_mode() {
-    let folder = Folder::new("mode");
-    let path = folder.0.join("state");
-    let mode = || fs::metadata(&path).expect("the file is there").permissions().mode() & 0o7777;
-    keep(&first_state(), &path);
-    assert_eq!(mode(), 0o600);
-    for kept in [0o640, 0o604, 0o400, 0o600] {
-        fs::set_permissions(&path, Permissions::from_mode(kept)).expect("the file is ours");
-        keep(&next_state(), &path);
-        assert_eq!(mode(), kept);
-    }
-}
-
-#[test]
-fn what_is_planted_is_not_followed() {
-    let folder = Folder::new("planted");
-    let (path, victim, own) = (folder.0.join("state"), folder.0.join("victim"), folder.0.join("state.new"));
-    keep(&first_state(), &path);
-    fs::write(&victim, "kept").expect("the file can be written");
-    let new = new_file_of(&path).expect("the folder is there");
-    assert_eq!(new, folder.0.join(".state.peatmitten-new"));
-    symlink(&victim, &new).expect("a link can be made");
-    symlink(&victim, &own).expect("a link can be made");
-    keep(&next_state(), &path);
-    assert_eq!(fs::read(&victim).expect("it is there"), b"kept");
-    assert!(fs::symlink_metadata(&path).expect("it is there").is_file());
-    assert_eq!(State::load(&path).expect("it is there"), next_state());
-    // What a cut left over is removed; a folder of that name is not.
-    fs::write(&new, "half a state").expect("the file can be written");
-    keep(&first_state(), &path);
-    assert_eq!(folder.names(), ["state", "state.new", "victim"]);
-    fs::create_dir(&new).expect("a folder can be made");
-    let fault = replace_file(&path, b"").expect_err("a folder is in the way");
-    assert!(fault.to_string().starts_with(&format!("cannot remove {}: ", new.display())), "{fault}");
-    assert_eq!(State::load(&path).expect("it is there"), first_state());
-}
-
-#[test]
-fn a_link_leads_to_the_file_and_stays() {
-    let folder = Folder::new("link");
-    let real = folder.0.join("deep/real");
-    fs::create_dir(folder.0.join("deep")).expect("a folder can be made");
-    keep(&first_state(), &real);
-    symlink("deep/real", folder.0.join("link")).expect("a link can be made");
-    symlink("link", folder.0.join("links")).expect("a link can be made");
-    keep(&next_state(), &folder.0.join("links"));
-    assert_eq!(State::load(&real).expect("it is there"), next_state());
-    assert_eq!(State::load(&folder.0.join("links")).expect("it is there"), next_state());
-    assert!(["link", "links"].iter().all(|name| fs::read_link(folder.0.join(name)).is_ok()));
-    fs::remove_file(&real).expect("the file is ours");
-    let fault = StateFile::lock(&folder.0.join("link")).expect_err("it leads to nothing");
-    assert_eq!(fault.to_string(), format!("{} is a link to a file that is not there", folder.0.join("link").display()));
-    assert_eq!(fault.kind(), ErrorKind::InvalidInput);
-    assert_eq!(folder.names(), ["deep", "link", "links"]);
-}
-
-#[test]
-fn one_at_a_time() {
-    let folder = Folder::new("lock");
-    let path = folder.0.join("state");
-    symlink(".", folder.0.join("here")).expect("a link can be made");
-    let file = StateFile::try_lock(&path).expect("nobody has it");
-    let fault = StateFile::try_lock(&folder.0.join("here/state")).expect_err("it is the same file");
-    assert_eq!(fault.to_string(), format!("{} is in use: another process has locked its folder", path.display()));
-    assert_eq!(fault.kind(), ErrorKind::WouldBlock);
-    let (told, hear) = mpsc::channel();
-    let waiting = [told.clone(), told].map(|told| {
-        let path = path.clone();
-        thread::spawn(move || {
-            replace_file(&path, &first_state().to_bytes()).expect("the file can be written");
-            told.send(()).expect("the test still hears");
-        })
-    });
-    assert!(hear.recv_timeout(Duration::from_millis(200)).is_err(), "a file is replaced while another has the lock");
-    assert!(!path.exists());
-    drop(file);
-    assert!(waiting.into_iter().all(|waiting| waiting.join().is_ok()));
-    assert_eq!(StateFile::try_lock(&path).and_then(|file| file.load()).expect("nobody has it"), first_state());
+    let fault = first_state().save(&folder.0.join("none/state")).expect_err("there is no such folder");
+    assert!(fault.to_string().starts_with(&format!("cannot open {}/none/state.new: ", folder.0.display())), "{fault}");
+    let fault = first_state().save(&folder.0).expect_err("it is a folder");
+    assert!(fault.to_string().starts_with(&format!("cannot replace {}: ", folder.0.display())), "{fault}");
+    fs::remove_file(folder.0.with_extension("new")).expect("the file beside was written");
 }
 
 #[test]

@@ -1,33 +1,34 @@
 //! Where a plan's base zones differ from a terminal's, in words that a service desk can say on the telephone. The place comes from the library;
 //! here the field is found that stands there, and named.
 
-use peatmitten::{Counted, Difference, Field, Reading, State};
+use peatmitten::{Counted, Difference, Field, Reading, Region, Side, State};
 
-use crate::phrase::{counted, ordinal};
 use crate::show::{numbers, side_name};
-use crate::why::zones::{self, Zone, SIDES};
 
-/// The lines about the zones of a plan and of the terminal in this state.
-pub fn told(state: &State, plan: &[u8], difference: &Option<Difference>) -> Vec<String> {
-    match difference {
-        Some(difference) => lines(state, plan, difference),
-        None => vec![format!("the zones are the same: {}", counted(state.table.zones().count(), "zone"))],
-    }
+/// A zone of either: its id, and the regions of its two sides.
+#[derive(PartialEq)]
+struct Zone {
+    id: u32,
+    sides: [Vec<Region>; 2],
 }
 
+const SIDES: [Side; 2] = [Side::Cpu, Side::Iommu];
+
 /// The lines about the first difference between a plan and the terminal in this state.
-pub fn lines(state: &State, plan: &[u8], difference: &Difference) -> Vec<String> {
-    let terminal = zones::of_table(&state.table);
-    let fields = Reading::of(plan).fields;
-    let planned = zones::of_fields(&fields);
+pub fn lines(state: &State, plan: &[u8], difference: &Difference) -> String {
+    let terminal = zones_of_table(state);
+    let (planned, field) = zones_of_plan(plan, difference.offset);
     let Difference { offset, place, planned: byte, held } = difference;
     let there = held.map_or("nothing".to_string(), |byte| format!("{byte:#04x}"));
     let bytes = format!(
-        "in bytes: offset {offset} of the plan, byte {place} of its zones: the terminal has {there} there, the plan {byte:#04x}"
+        "in bytes: offset {offset} of the plan, byte {place} of its zones: the terminal has {there} there, the plan {byte:#04x}\n"
     );
-    let mut lines = at_field(&terminal, &planned, &standing_at(&fields, *offset as u64));
-    lines.push(bytes);
-    lines
+    at_field(&terminal, &planned, &field) + &bytes
+}
+
+/// How many zones there are, in words.
+pub fn count_of(state: &State) -> String {
+    counted(zones_of_table(state).len(), "zone")
 }
 
 /// What stands at a place of the zones section, with the index of its zone, and of its region where it is one.
@@ -38,19 +39,19 @@ enum At {
     Region(usize, usize, usize),
 }
 
-fn at_field(terminal: &[Zone], planned: &[Zone], at: &At) -> Vec<String> {
+fn at_field(terminal: &[Zone], planned: &[Zone], at: &At) -> String {
     match *at {
         At::Zones => {
             let count = both(&counted(terminal.len(), "zone"), &counted(planned.len(), "zone"));
-            vec![count, first_zone(terminal, planned)]
+            count + &first_zone(terminal, planned)
         }
-        At::Id(zone) => vec![id_line(terminal, planned, zone)],
+        At::Id(zone) => id_line(terminal, planned, zone),
         At::Count(zone, side) => {
             let [held, wanted] = [terminal, planned].map(|zones| &zones[zone].sides[side]);
             let count = both(&counted(held.len(), "region"), &counted(wanted.len(), "region"));
-            vec![format!("{}: {count}", side_of(&terminal[zone], side)), first_region(&terminal[zone], &planned[zone], side)]
+            format!("{}: {count}{}", side_of(&terminal[zone], side), first_region(&terminal[zone], &planned[zone], side))
         }
-        At::Region(zone, side, place) => vec![region_line(&terminal[zone], &planned[zone], side, place)],
+        At::Region(zone, side, place) => region_line(&terminal[zone], &planned[zone], side, place),
     }
 }
 
@@ -86,7 +87,7 @@ fn side_of(zone: &Zone, side: usize) -> String {
 }
 
 fn both(held: &str, wanted: &str) -> String {
-    format!("the terminal has {held}, and the plan expects {wanted}")
+    format!("the terminal has {held}, and the plan expects {wanted}\n")
 }
 
 /// The first place at which two lists differ, or end.
@@ -94,25 +95,56 @@ fn first_unequal<T: PartialEq>(one: &[T], other: &[T]) -> usize {
     one.iter().zip(other).take_while(|(a, b)| a == b).count()
 }
 
-/// What stands at an offset among a plan's zones: of all fields that begin at or before it, the last.
-fn standing_at(fields: &[(u64, Field)], offset: u64) -> At {
-    let (mut zones, mut held, mut at) = (0, 0, At::Zones);
-    for (_, field) in fields.iter().take_while(|(start, _)| *start <= offset) {
-        at = match field {
-            Field::Zone(_) => {
-                zones += 1;
-                At::Id(zones - 1)
-            }
-            Field::Count(Counted::Held(side), _) => {
-                held = 0;
-                At::Count(zones - 1, *side as usize)
-            }
-            Field::Held(side, _) => {
-                held += 1;
-                At::Region(zones - 1, *side as usize, held - 1)
-            }
-            _ => At::Zones,
-        };
+pub fn counted(count: usize, what: &str) -> String {
+    match count {
+        0 => format!("no {what}"),
+        1 => format!("1 {what}"),
+        _ => format!("{count} {what}s"),
     }
-    at
+}
+
+/// The name of a place that is counted from 0.
+fn ordinal(place: usize) -> String {
+    let number = place + 1;
+    let ending = match (number % 10, number % 100) {
+        (_, 11..=13) => "th",
+        (1, _) => "st",
+        (2, _) => "nd",
+        (3, _) => "rd",
+        _ => "th",
+    };
+    format!("{number}{ending}")
+}
+
+fn zones_of_table(state: &State) -> Vec<Zone> {
+    let zone = |zone: peatmitten::Zone| Zone { id: zone.id() as u32, sides: SIDES.map(|side| zone.regions(side).collect()) };
+    state.table.zones().map(zone).collect()
+}
+
+/// The base zones of a plan, and what stands at an offset among them.
+fn zones_of_plan(plan: &[u8], offset: usize) -> (Vec<Zone>, At) {
+    let mut zones: Vec<Zone> = Vec::new();
+    let mut at = At::Zones;
+    for (start, field) in Reading::of(plan).fields {
+        let place = match field {
+            Field::Count(Counted::Zones, _) => At::Zones,
+            Field::Zone(id) => {
+                zones.push(Zone { id, sides: [Vec::new(), Vec::new()] });
+                At::Id(zones.len() - 1)
+            }
+            Field::Count(Counted::Held(side), _) => At::Count(zones.len() - 1, side as usize),
+            Field::Held(side, region) => {
+                let zone = zones.len() - 1;
+                let held = &mut zones[zone].sides[side as usize];
+                held.push(region);
+                At::Region(zone, side as usize, held.len() - 1)
+            }
+            _ => continue,
+        };
+        // Of all fields that begin at or before it, the last.
+        if start <= offset as u64 {
+            at = place;
+        }
+    }
+    (zones, at)
 }

@@ -3,20 +3,20 @@
 
 use std::fmt::Write;
 
-use peatmitten::{base_edition, claims_of, Config, LogRefusal, ReadFault, Request, Side, Table};
+use peatmitten::{base_edition, claims_of, LogRefusal, ReadFault, Side, Table};
 
-use crate::phrase::counted;
+use crate::differ::counted;
 use crate::show::{numbers, request, side_name};
-use crate::why::{self, rules::Rules};
 
-/// The lines about a log, of which the check answered this and left this configuration and this table.
-pub fn lines(log: &[u8], answer: &Result<usize, LogRefusal>, config: &Config, table: &Table) -> String {
+const NUMBERS: &str = include_str!("../../../docs/NUMBERS.md");
+
+/// The lines about a log, of which the check answered this and left this table.
+pub fn lines(log: &[u8], answer: &Result<usize, LogRefusal>, table: &Table) -> String {
     match answer {
         Ok(length) => format!("0 {length} 0 0: {}\n{}", all_hold(log), zones(table)),
         Err(refusal) => {
             let [number, right, claimed] = [refusal.number(), refusal.right(), refusal.claimed()];
-            let told = told(log, refusal, Rules::Plain(config), table);
-            format!("{number} {} {right} {claimed}: {}\n", refusal.place(), told.join("\n"))
+            format!("{number} {} {right} {claimed}: {}", refusal.place(), why(log, refusal))
         }
     }
 }
@@ -29,43 +29,37 @@ fn all_hold(log: &[u8]) -> String {
     }
 }
 
-/// The refusal in words, and what more there is to say: of a false claim the request, both answers, and why the right one is right.
-fn told(log: &[u8], refusal: &LogRefusal, rules: Rules, table: &Table) -> Vec<String> {
-    let more = match refusal {
-        LogRefusal::FalseClaim { index, .. } => return false_claim(&asked(log, *index), refusal, rules, table),
+fn why(log: &[u8], refusal: &LogRefusal) -> String {
+    match refusal {
+        LogRefusal::FalseClaim { index, claimed, .. } => {
+            let [said, right] = [*claimed, refusal.right()].map(explained);
+            format!(
+                "the claim for request {index} is false\nrequest {index}: {}\nthe log claims {said}\nthe rules say {right}\n",
+                asked(log, *index)
+            )
+        }
         // A plan is told from a log by its third mark alone.
-        LogRefusal::Read(ReadFault::Count { .. }) if base_edition(log).is_ok() => vec!["its marks are those of a plan".to_string()],
-        LogRefusal::Read(_) if why::file::has_log_marks(log) => Vec::new(),
-        LogRefusal::Read(_) => why::file::lines(log),
-        LogRefusal::UnsoundConfig => why::of_config(rules),
-        LogRefusal::UnsoundTable => why::of_table(rules, table),
-        LogRefusal::BufferShort => Vec::new(),
-    };
-    [vec![refusal.to_string()], more].concat()
-}
-
-fn false_claim(asked: &Request, refusal: &LogRefusal, rules: Rules, table: &Table) -> Vec<String> {
-    let index = refusal.place();
-    let [claimed, right] = [refusal.claimed(), refusal.right()].map(explained);
-    let mut lines = vec![
-        format!("the claim for request {index} is false"),
-        format!("request {index}: {}", request(asked)),
-        format!("the log claims {claimed}"),
-        format!("the rules say {right}"),
-    ];
-    if let LogRefusal::FalseClaim { right: Err(right), .. } = refusal {
-        lines.extend(why::of_asked(rules, table, asked, *right));
+        LogRefusal::Read(ReadFault::Count { .. }) if base_edition(log).is_ok() => {
+            format!("{refusal}\nits marks are those of a plan\n")
+        }
+        _ => format!("{refusal}\n"),
     }
-    lines
 }
 
 /// The request at an index of a log that reads whole.
-fn asked(log: &[u8], index: u64) -> Request {
-    claims_of(log).expect("the library has read the log")[index as usize].0
+fn asked(log: &[u8], index: u64) -> String {
+    let claims = claims_of(log).expect("the library has read the log");
+    request(&claims[index as usize].0)
 }
 
+/// A number and its row of docs/NUMBERS.md; the rows of terminals with owners come last there.
 fn explained(number: u32) -> String {
-    why::explained(&number.to_string()).unwrap_or_else(|| format!("{number}: no number that is answered"))
+    let row = |line: &str| {
+        let mut cells = line.strip_prefix("| ")?.split(" | ");
+        (cells.next()? == number.to_string()).then(|| cells.next().unwrap_or_default().to_string())
+    };
+    let meaning = NUMBERS.lines().find_map(row).unwrap_or_else(|| "no number that is answered".to_string());
+    format!("{number}: {meaning}")
 }
 
 /// The zones of a table, in the lines that `show` prints of a plan's.
@@ -93,8 +87,11 @@ mod tests {
     use super::*;
 
     #[test]
-    fn a_claim_may_be_any_number() {
+    fn numbers_are_explained_by_their_rows() {
         assert_eq!(explained(0), "0: accepted");
+        assert_eq!(explained(5), "5: the zone is already there");
+        assert_eq!(explained(11), "11: the region is not equal to a configured one");
+        assert!(explained(14).starts_with("14: a forbidden physical overlap: "));
         assert_eq!(explained(77), "77: no number that is answered");
         assert_eq!(explained(u32::MAX), "4294967295: no number that is answered");
     }

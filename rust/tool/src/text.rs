@@ -1,57 +1,39 @@
-//! A plan's contents as text, read by the grammar of docs/TEXT.md, in which is what `show` prints of a whole plan. A line that may not come where it
-//! stands is refused with the lines that may.
+//! A plan's contents as text: the lines that `show` prints, read back. Offsets in front of lines, the counts and the indexes may be left
+//! out; where they stand, they must be right, all but the offsets. Empty lines and lines that begin with `#` are passed over.
 
-use peatmitten::limits::{MOST_REGIONS, MOST_REQUESTS};
-use peatmitten::{Config, ConfigFault, Region, Request, Side, State, Table, WriteRefusal};
-
-use crate::why::rules::Rules;
-use crate::why::zones::{self, Stuck, Zone};
+use peatmitten::{Config, Region, Request, Side, State, Table};
 
 /// What a text asks to be written: the base, and the requests.
-#[derive(Debug, PartialEq)]
 pub struct Asked {
-    pub gic: u32,
-    pub edition: u32,
-    pub regions: Vec<Region>,
-    pub zones: Vec<Zone>,
+    pub base: State,
     pub requests: Vec<Request>,
-    pub lines: Lines,
-}
-
-/// In which line of its text each thing stands, counted from 1.
-#[derive(Debug, Default, PartialEq)]
-pub struct Lines {
-    pub gic: usize,
-    pub edition: usize,
-    pub regions: Vec<usize>,
-    pub zones: Vec<ZoneLines>,
-    pub requests: Vec<usize>,
-}
-
-#[derive(Debug, PartialEq)]
-pub struct ZoneLines {
-    pub id: usize,
-    pub sides: [Vec<usize>; 2],
 }
 
 /// What is not understood, and in which line, counted from 1.
-#[derive(Debug)]
 pub struct Fault {
     pub line: usize,
     pub text: String,
 }
 
-/// The parts of a text, in the order in which they come.
-#[derive(Clone, Copy, PartialEq, PartialOrd)]
-enum Part {
+/// Where the lines before have led.
+#[derive(Clone, Copy, PartialEq)]
+enum Place {
     Marks,
     Regions,
-    Zones,
+    Zone,
+    Set(Side),
     Requests,
     End,
 }
 
-/// A count that a heading says of the lines behind it.
+#[derive(Default)]
+struct Zone {
+    id: u32,
+    line: usize,
+    sets: [Vec<(usize, Region)>; 2],
+}
+
+/// A count that a line says of the lines that come behind it.
 struct Said {
     line: usize,
     count: u64,
@@ -60,35 +42,21 @@ struct Said {
 
 struct Reader {
     line: usize,
-    part: Part,
-    /// The set of the last zone to which regions are added, once it has a heading.
-    side: Option<Side>,
-    /// Whether each of the two marks that need not stand has stood.
-    has_count: bool,
-    has_format: bool,
+    place: Place,
     gic: Option<u32>,
     edition: Option<u32>,
     regions: Vec<Region>,
     zones: Vec<Zone>,
     requests: Vec<Request>,
-    lines: Lines,
-    /// The counts of the present part and of the present set.
-    part_said: Option<Said>,
-    set_said: Option<Said>,
+    counts: Vec<Said>,
 }
 
-/// A line in pieces, of which the first ones are taken off as they are read.
-type Pieces<'a> = &'a [&'a str];
-
-const REGION: &str = "v N, p N, size N, rights N";
-const GIC: &str = "GIC position: N";
-const EDITION: &str = "base edition: N";
-const REQUEST: &str =
+const EXPECTED: &str =
+    "expected `GIC position: N`, `base edition: N`, `region: v N, p N, size N, rights N`, `zone ID`, `CPU regions`, \
+                        `IOMMU regions` or `request: ...`";
+const REQUESTS: &str =
     "expected `add zone ID`, `remove zone ID`, or `zone ID, CPU insert: v N, p N, size N, rights N` with CPU or IOMMU, and \
-                       insert or remove";
-
-/// How many bytes a text may have: more than that of the longest plan.
-pub const LONGEST: usize = 1 << 24;
+                        insert or remove";
 
 /// The GIC's position, the base edition and the mark of the format.
 const MARKS: u64 = 3;
@@ -97,375 +65,260 @@ const MARKS: u64 = 3;
 const FORMAT: u64 = 2;
 
 pub fn read(text: &str) -> Result<Asked, Fault> {
-    let mut reader = Reader::new();
-    let read = text.lines().try_for_each(|line| reader.line(line)).and_then(|()| reader.close());
-    match read {
-        Ok((gic, edition)) => Ok(reader.asked(gic, edition)),
-        Err(text) => Err(Fault { line: reader.line.max(1), text }),
+    let mut reader = Reader {
+        line: 0,
+        place: Place::Marks,
+        gic: None,
+        edition: None,
+        regions: Vec::new(),
+        zones: Vec::new(),
+        requests: Vec::new(),
+        counts: Vec::new(),
+    };
+    for line in text.lines() {
+        reader.line += 1;
+        let line = without_offset(line).trim();
+        if !line.is_empty() && !line.starts_with('#') {
+            reader.take(line).map_err(|text| Fault { line: reader.line, text })?;
+        }
     }
+    reader.finish()
 }
 
-impl Asked {
-    pub fn config(&self) -> Config {
-        Config::new(&self.regions, self.gic.into()).expect("the reader has judged the count of regions")
-    }
-
-    /// The base that a text asks for. Under an unsound configuration no zone is looked at, since the writer answers 1 for it.
-    pub fn base(&self) -> Result<State, Box<Stuck>> {
-        let config = self.config();
-        let table = match config.check() {
-            Ok(()) => zones::build(Rules::Plain(&config), &self.zones)?,
-            Err(_) => Table::new(),
-        };
-        Ok(State { config, table, edition: self.edition })
-    }
-}
-
-impl Lines {
-    /// The line that zones stop in.
-    pub fn of_stuck(&self, stuck: &Stuck) -> Option<usize> {
-        let zone = self.zones.get(stuck.zone)?;
-        match stuck.held {
-            None => Some(zone.id),
-            Some((side, place)) => zone.sides[side as usize].get(place).copied(),
-        }
-    }
-
-    /// The line of what is refused, under the text's configuration.
-    pub fn of_refusal(&self, refusal: &WriteRefusal, config: &Config) -> Option<usize> {
-        match refusal {
-            WriteRefusal::UnsoundConfig => self.of_fault(config.check().err()?),
-            WriteRefusal::NoNextEdition => Some(self.edition),
-            WriteRefusal::TooManyRequests => self.requests.get(MOST_REQUESTS).copied(),
-            WriteRefusal::Request { index, .. } => self.requests.get(usize::try_from(*index).ok()?).copied(),
-            WriteRefusal::UnsoundTable | WriteRefusal::BufferShort => None,
-        }
-    }
-
-    fn of_fault(&self, fault: ConfigFault) -> Option<usize> {
-        match fault {
-            ConfigFault::Gic => Some(self.gic),
-            ConfigFault::Form { place } | ConfigFault::Reach { place } | ConfigFault::Overlap { place, .. } => {
-                self.regions.get(usize::try_from(place).ok()?).copied()
-            }
-            ConfigFault::Count | ConfigFault::NotZero { .. } => None,
-        }
+/// An offset is a number with two spaces behind it.
+fn without_offset(line: &str) -> &str {
+    let line = line.trim_start();
+    match line.split_once("  ") {
+        Some((offset, rest)) if !offset.is_empty() && offset.bytes().all(|byte| byte.is_ascii_digit()) => rest,
+        _ => line,
     }
 }
 
 impl Reader {
-    fn new() -> Reader {
-        Reader {
-            line: 0,
-            part: Part::Marks,
-            side: None,
-            has_count: false,
-            has_format: false,
-            gic: None,
-            edition: None,
-            regions: Vec::new(),
-            zones: Vec::new(),
-            requests: Vec::new(),
-            lines: Lines::default(),
-            part_said: None,
-            set_said: None,
+    fn take(&mut self, line: &str) -> Result<(), String> {
+        if self.place == Place::End {
+            return Err("expected nothing after the end".to_string());
         }
-    }
-
-    fn line(&mut self, line: &str) -> Result<(), String> {
-        self.line += 1;
-        match pieces(line).as_slice() {
-            [] => Ok(()),
-            [first, ..] if first.starts_with('#') => Ok(()),
-            [offset, rest @ ..] if offset.starts_with(|first: char| first.is_ascii_digit()) => {
-                decimal(offset)?;
-                self.take(rest)
-            }
-            whole => self.take(whole),
-        }
-    }
-
-    fn take(&mut self, line: Pieces) -> Result<(), String> {
-        match line {
-            ["marks", ":", count] if self.part == Part::Marks && !self.has_count => {
-                self.has_count = true;
-                exactly(count, MARKS)
-            }
-            ["GIC", "position", ":", position] if self.part == Part::Marks && self.gic.is_none() => {
-                self.lines.gic = self.line;
-                number32(position).map(|position| self.gic = Some(position))
-            }
-            ["base", "edition", ":", edition] if self.part == Part::Marks && self.edition.is_none() => {
-                self.lines.edition = self.line;
-                number32(edition).map(|edition| self.edition = Some(edition))
-            }
-            ["format", ":", format] if self.part == Part::Marks && !self.has_format => {
-                self.has_format = true;
-                exactly(format, FORMAT)
-            }
-            ["configured", "regions", count @ ..] if self.part < Part::Regions => {
-                self.heading(Part::Regions, "configured regions", count)
-            }
-            ["region", region @ ..] if self.part <= Part::Regions => self.configured(region),
-            ["base", "zones", count @ ..] if self.part < Part::Zones => self.heading(Part::Zones, "base zones", count),
-            ["zone", id] if self.part <= Part::Zones => self.zone(id),
-            ["CPU", "regions", count @ ..] if self.may_begin(Side::Cpu) => self.set(Side::Cpu, "CPU regions", count),
-            ["IOMMU", "regions", count @ ..] if self.may_begin(Side::Iommu) => self.set(Side::Iommu, "IOMMU regions", count),
-            ["region", region @ ..] if self.side.is_some() => self.held(region),
-            ["requests", count @ ..] if self.part < Part::Requests => self.heading(Part::Requests, "requests", count),
-            ["request", request @ ..] if self.part <= Part::Requests => self.request(request),
-            ["end", ":", "the", "plan", "reads", "whole"] if self.part < Part::End => self.enter(Part::End),
-            _ => Err(self.expected()),
-        }
-    }
-
-    /// The lines that may come here.
-    fn expected(&self) -> String {
-        let zones = "`zone ID`, `requests`, `request: ...` or the end";
-        match (self.part, self.side) {
-            (Part::Marks, _) => {
-                format!("expected `{GIC}`, `{EDITION}`, each once, and then `configured regions` or `region: {REGION}`")
-            }
-            (Part::Regions, _) => format!("expected `region: {REGION}`, `base zones`, {zones}"),
-            (Part::Zones, Some(Side::Iommu)) => format!("expected `region: {REGION}`, {zones}"),
-            (Part::Zones, Some(Side::Cpu)) => format!("expected `region: {REGION}`, `IOMMU regions`, {zones}"),
-            (Part::Zones, None) if self.zones.is_empty() => format!("expected {zones}"),
-            (Part::Zones, None) => format!("expected `CPU regions`, `IOMMU regions`, {zones}"),
-            (Part::Requests, _) => "expected `request: ...`, or the end, which is `end: the plan reads whole`".to_string(),
-            (Part::End, _) => "expected nothing after the end".to_string(),
-        }
-    }
-
-    /// Goes on to a part, unless that is the present one.
-    fn enter(&mut self, part: Part) -> Result<(), String> {
-        if self.part != part {
-            self.close()?;
-            self.part = part;
-        }
-        Ok(())
-    }
-
-    /// Judges what the present part says of itself, and gives the marks that every text must have.
-    fn close(&mut self) -> Result<(u32, u32), String> {
-        self.close_set()?;
-        let length = self.length();
-        judge(self.part_said.take(), length)?;
-        let missing = |mark: &str| format!("expected `{mark}` before the regions, the zones, the requests and the end");
-        let gic = self.gic.ok_or_else(|| missing(GIC))?;
-        let edition = self.edition.ok_or_else(|| missing(EDITION))?;
-        Ok((gic, edition))
-    }
-
-    fn close_set(&mut self) -> Result<(), String> {
-        let length = match (self.side, self.zones.last()) {
-            (Some(side), Some(zone)) => zone.sides[side as usize].len(),
-            _ => 0,
+        let (name, value) = match line.split_once(':') {
+            Some((name, value)) => (name.trim(), Some(value.trim())),
+            None => (line, None),
         };
-        judge(self.set_said.take(), length)?;
-        self.side = None;
+        match (name, value) {
+            ("marks", Some(value)) => self.count(value, "marks"),
+            ("GIC position", Some(value)) if self.gic.is_none() && self.place == Place::Marks => {
+                self.gic = Some(number32(value)?);
+                Ok(())
+            }
+            ("base edition", Some(value)) if self.edition.is_none() && self.place == Place::Marks => {
+                self.edition = Some(number32(value)?);
+                Ok(())
+            }
+            ("format", Some(value)) if self.place == Place::Marks => match number(value)? {
+                FORMAT => Ok(()),
+                _ => Err(format!("expected `format: {FORMAT}`")),
+            },
+            ("configured regions", value) => self.heading(Place::Regions, value, "configured regions"),
+            ("base zones", value) => self.heading(Place::Zone, value, "base zones"),
+            ("CPU regions", value) => self.set(Side::Cpu, value),
+            ("IOMMU regions", value) => self.set(Side::Iommu, value),
+            ("requests", value) => self.heading(Place::Requests, value, "requests"),
+            ("end", Some(_)) => {
+                self.place = Place::End;
+                Ok(())
+            }
+            _ if is_item(name, "region") => self.region(name, value.unwrap_or_default()),
+            _ if is_item(name, "request") && value.is_some() => self.request(name, line),
+            _ if value.is_none() && name.starts_with("zone ") => self.zone(&name["zone ".len()..]),
+            _ => Err(EXPECTED.to_string()),
+        }
+    }
+
+    fn count(&mut self, value: &str, what: &'static str) -> Result<(), String> {
+        self.counts.push(Said { line: self.line, count: number(value)?, what });
         Ok(())
     }
 
-    fn length(&self) -> usize {
-        match self.part {
-            Part::Regions => self.regions.len(),
-            Part::Zones => self.zones.len(),
-            Part::Requests => self.requests.len(),
-            Part::Marks | Part::End => 0,
+    fn length(&self, what: &str) -> usize {
+        match what {
+            "configured regions" => self.regions.len(),
+            "base zones" => self.zones.len(),
+            "requests" => self.requests.len(),
+            "CPU regions" => self.zones.last().map_or(0, |zone| zone.sets[0].len()),
+            "IOMMU regions" => self.zones.last().map_or(0, |zone| zone.sets[1].len()),
+            _ => 0,
         }
     }
 
-    fn heading(&mut self, part: Part, what: &'static str, count: Pieces) -> Result<(), String> {
-        self.enter(part)?;
-        self.part_said = self.said(what, count)?;
-        Ok(())
+    fn heading(&mut self, place: Place, value: Option<&str>, what: &'static str) -> Result<(), String> {
+        self.place = place;
+        value.map_or(Ok(()), |value| self.count(value, what))
     }
 
-    fn said(&self, what: &'static str, count: Pieces) -> Result<Option<Said>, String> {
-        match count {
-            [] => Ok(None),
-            [":", count] => Ok(Some(Said { line: self.line, count: number(count)?, what })),
-            _ => Err(format!("expected `{what}` or `{what}: N`")),
+    fn set(&mut self, side: Side, value: Option<&str>) -> Result<(), String> {
+        if self.zones.is_empty() || !matches!(self.place, Place::Zone | Place::Set(_)) {
+            return Err("expected a zone before its sets".to_string());
         }
-    }
-
-    fn configured(&mut self, line: Pieces) -> Result<(), String> {
-        self.enter(Part::Regions)?;
-        let place = self.regions.len();
-        let (region, behind) = region(behind_index(line, "region", place)?)?;
-        match behind.as_slice() {
-            [] => {}
-            [["the", "GIC"]] if self.gic.is_some_and(|gic| gic as usize == place) => {}
-            [["the", "GIC"]] => return Err("expected `, the GIC` at the GIC's position alone".to_string()),
-            _ => return Err(behind_region()),
-        }
-        if place == MOST_REGIONS {
-            return Err(format!("expected no region {place}: a configuration can have {MOST_REGIONS}"));
-        }
-        self.regions.push(region);
-        self.lines.regions.push(self.line);
-        Ok(())
+        self.heading(Place::Set(side), value, if side == Side::Cpu { "CPU regions" } else { "IOMMU regions" })
     }
 
     fn zone(&mut self, id: &str) -> Result<(), String> {
-        self.enter(Part::Zones)?;
-        self.close_set()?;
-        self.zones.push(Zone { id: number32(id)?.into(), sides: Default::default() });
-        self.lines.zones.push(ZoneLines { id: self.line, sides: Default::default() });
-        Ok(())
-    }
-
-    /// A zone's sets have a heading each at most, the CPU's first.
-    fn may_begin(&self, side: Side) -> bool {
-        let has_zone = self.part == Part::Zones && !self.zones.is_empty();
-        has_zone && (self.side.is_none() || (self.side, side) == (Some(Side::Cpu), Side::Iommu))
-    }
-
-    fn set(&mut self, side: Side, what: &'static str, count: Pieces) -> Result<(), String> {
-        self.close_set()?;
-        self.side = Some(side);
-        self.set_said = self.said(what, count)?;
-        Ok(())
-    }
-
-    fn held(&mut self, line: Pieces) -> Result<(), String> {
-        let (Some(side), Some(zone), Some(lines)) = (self.side, self.zones.last_mut(), self.lines.zones.last_mut()) else {
-            return Err(self.expected());
-        };
-        let set = &mut zone.sides[side as usize];
-        set.push(region_alone(behind_index(line, "region", set.len())?)?);
-        lines.sides[side as usize].push(self.line);
-        Ok(())
-    }
-
-    fn request(&mut self, line: Pieces) -> Result<(), String> {
-        self.enter(Part::Requests)?;
-        let asked = request(behind_index(line, "request", self.requests.len())?)?;
-        self.requests.push(asked);
-        self.lines.requests.push(self.line);
-        Ok(())
-    }
-
-    fn asked(self, gic: u32, edition: u32) -> Asked {
-        let Reader { regions, zones, requests, lines, .. } = self;
-        Asked { gic, edition, regions, zones, requests, lines }
-    }
-}
-
-/// The pieces of a line: its colons and commas, and what stands between these and spaces.
-fn pieces(line: &str) -> Vec<&str> {
-    let mut pieces = Vec::new();
-    for stretch in line.split_inclusive([' ', '\t', ':', ',']) {
-        let piece = stretch.trim_end_matches([' ', '\t', ':', ',']);
-        let mark = stretch[piece.len()..].trim_matches([' ', '\t']);
-        pieces.extend([piece, mark].into_iter().filter(|part| !part.is_empty()));
-    }
-    pieces
-}
-
-/// What stands behind `region:` or `region 3:`. An index that is said must be that of the line.
-fn behind_index<'a>(line: Pieces<'a>, item: &str, at: usize) -> Result<Pieces<'a>, String> {
-    match line {
-        [":", rest @ ..] => Ok(rest),
-        [index, ":", rest @ ..] if number(index)? == at as u64 => Ok(rest),
-        [_, ":", ..] => Err(format!("expected {item} {at}")),
-        _ => Err(format!("expected `{item}: ...` or `{item} {at}: ...`")),
-    }
-}
-
-fn judge(said: Option<Said>, found: usize) -> Result<(), String> {
-    match said {
-        Some(Said { line, count, what }) if count != found as u64 => {
-            Err(format!("line {line} says {count} {what}, and there are {found}"))
+        if self.place == Place::Requests {
+            return Err("expected no zone after the requests".to_string());
         }
-        _ => Ok(()),
+        self.close_sets()?;
+        self.place = Place::Zone;
+        self.zones.push(Zone { id: number32(id)?, line: self.line, ..Zone::default() });
+        Ok(())
+    }
+
+    fn region(&mut self, name: &str, value: &str) -> Result<(), String> {
+        let region = region(value)?;
+        match self.place {
+            Place::Marks | Place::Regions => {
+                self.place = Place::Regions;
+                index(name, "region", self.regions.len())?;
+                let is_gic = value.ends_with(", the GIC");
+                if is_gic && self.gic.is_some_and(|gic| gic as usize != self.regions.len()) {
+                    return Err("expected `, the GIC` at the GIC's position alone".to_string());
+                }
+                self.regions.push(region);
+            }
+            Place::Set(side) => {
+                let set = &mut self.zones.last_mut().expect("a zone before its sets").sets[usize::from(side == Side::Iommu)];
+                index(name, "region", set.len())?;
+                set.push((self.line, region));
+            }
+            _ => return Err("expected `CPU regions` or `IOMMU regions` before a zone's region".to_string()),
+        }
+        Ok(())
+    }
+
+    fn request(&mut self, name: &str, line: &str) -> Result<(), String> {
+        self.close_sets()?;
+        self.place = Place::Requests;
+        index(name, "request", self.requests.len())?;
+        let (_, asked) = line.split_once(':').expect("a request has a colon");
+        self.requests.push(request(asked.trim())?);
+        Ok(())
+    }
+
+    /// The counts that lines said of a zone's sets, once the zone is over.
+    fn close_sets(&mut self) -> Result<(), String> {
+        let of_sets = |said: &Said| matches!(said.what, "CPU regions" | "IOMMU regions");
+        let (sets, others): (Vec<_>, Vec<_>) = std::mem::take(&mut self.counts).into_iter().partition(of_sets);
+        self.counts = others;
+        sets.iter().try_for_each(|said| self.judge(said))
+    }
+
+    fn judge(&self, said: &Said) -> Result<(), String> {
+        let found = if said.what == "marks" { MARKS } else { self.length(said.what) as u64 };
+        if said.count == found {
+            return Ok(());
+        }
+        Err(format!("line {} says {} {}, and there are {found}", said.line, said.count, said.what))
+    }
+
+    fn finish(mut self) -> Result<Asked, Fault> {
+        let at_end = |line: usize| move |text: String| Fault { line, text };
+        self.close_sets().map_err(at_end(self.line))?;
+        self.counts.iter().try_for_each(|said| self.judge(said)).map_err(at_end(self.line))?;
+        let missing = |what: &str| Fault { line: self.line, text: format!("the text ends without `{what}: N`") };
+        let gic = self.gic.ok_or_else(|| missing("GIC position"))?;
+        let edition = self.edition.ok_or_else(|| missing("base edition"))?;
+        let config = Config::new(&self.regions, gic.into())
+            .ok_or_else(|| Fault { line: self.line, text: "there are more regions than a configuration can have".to_string() })?;
+        let table = table(&config, &self.zones)?;
+        Ok(Asked { base: State { config, table, edition }, requests: self.requests })
     }
 }
 
-fn exactly(piece: &str, wanted: u64) -> Result<(), String> {
-    if number(piece)? == wanted {
+/// The zones, made by requests in their order, under a configuration that is sound; under another one none is looked at, since the writer
+/// answers 1 for it.
+fn table(config: &Config, zones: &[Zone]) -> Result<Table, Fault> {
+    let mut table = Table::new();
+    if config.check().is_err() {
+        return Ok(table);
+    }
+    for zone in zones {
+        let mut ask = |line: usize, request: Request| {
+            table.request(config, request).map_err(|refusal| Fault { line, text: format!("the base table is unsound: {refusal}") })
+        };
+        ask(zone.line, Request::add_zone(zone.id))?;
+        for (side, set) in [Side::Cpu, Side::Iommu].into_iter().zip(&zone.sets) {
+            for (line, region) in set {
+                ask(*line, Request::insert(zone.id, side, *region))?;
+            }
+        }
+    }
+    Ok(table)
+}
+
+/// `region`, or `region 3`.
+fn is_item(name: &str, item: &str) -> bool {
+    name.strip_prefix(item).is_some_and(|rest| rest.is_empty() || rest.starts_with(' '))
+}
+
+/// An index that is said must be that of the line.
+fn index(name: &str, item: &str, at: usize) -> Result<(), String> {
+    let said = name[item.len()..].trim();
+    if said.is_empty() || number(said)? == at as u64 {
         return Ok(());
     }
-    Err(format!("expected {wanted} in the place of `{piece}`"))
+    Err(format!("expected {item} {at}"))
 }
 
 /// A number in decimal, or with 0x in front in hexadecimal.
-fn number(piece: &str) -> Result<u64, String> {
-    let Some(digits) = piece.strip_prefix("0x") else { return decimal(piece) };
-    if digits.is_empty() || !digits.bytes().all(|byte| byte.is_ascii_hexdigit()) {
-        return Err(format!("expected a number in the place of `{piece}`"));
-    }
-    u64::from_str_radix(digits, 16).map_err(|_| format!("expected a number of 64 bits in the place of `{piece}`"))
-}
-
-fn decimal(piece: &str) -> Result<u64, String> {
-    if piece.is_empty() || !piece.bytes().all(|byte| byte.is_ascii_digit()) {
-        return Err(format!("expected a number in the place of `{piece}`"));
-    }
-    if piece.len() > 1 && piece.starts_with('0') {
-        return Err(format!("expected a decimal number without leading zeros in the place of `{piece}`"));
-    }
-    piece.parse().map_err(|_| format!("expected a number of 64 bits in the place of `{piece}`"))
-}
-
-fn number32(piece: &str) -> Result<u32, String> {
-    u32::try_from(number(piece)?).map_err(|_| format!("expected a number of 32 bits in the place of `{piece}`"))
-}
-
-/// A region's numbers, each after its name, and the parts that stand behind them, each after a comma.
-fn region<'a>(line: Pieces<'a>) -> Result<(Region, Vec<Pieces<'a>>), String> {
-    let mut parts = line.split(|piece| *piece == ",");
-    let mut named = |name: &str| match parts.next() {
-        Some([first, number_of]) if *first == name => number(number_of),
-        Some(other) => Err(format!("expected `{name} N` in the place of `{}`", other.join(" "))),
-        None => Err(format!("expected `{REGION}`")),
+fn number(text: &str) -> Result<u64, String> {
+    let text = text.trim();
+    let parsed = match text.strip_prefix("0x") {
+        Some(digits) => u64::from_str_radix(digits, 16),
+        None => text.parse(),
     };
-    let region = Region::new(named("v")?, named("p")?, named("size")?, named("rights")?);
-    Ok((region, parts.collect()))
+    parsed.map_err(|_| format!("expected a number in the place of `{text}`"))
 }
 
-fn region_alone(line: Pieces) -> Result<Region, String> {
-    match region(line)? {
-        (region, behind) if behind.is_empty() => Ok(region),
-        _ => Err(behind_region()),
+fn number32(text: &str) -> Result<u32, String> {
+    let number = number(text)?;
+    u32::try_from(number).map_err(|_| format!("expected a number of 32 bits in the place of `{}`", text.trim()))
+}
+
+/// A region's numbers, each after its name.
+fn region(text: &str) -> Result<Region, String> {
+    let text = text.strip_suffix(", the GIC").unwrap_or(text);
+    let mut words = [0; Region::WORDS];
+    let parts: Vec<&str> = text.split(',').map(str::trim).collect();
+    if parts.len() != words.len() {
+        return Err("expected `v N, p N, size N, rights N`".to_string());
     }
-}
-
-fn behind_region() -> String {
-    format!("expected nothing behind `{REGION}`")
+    for ((word, part), name) in words.iter_mut().zip(parts).zip(["v", "p", "size", "rights"]) {
+        let value = part.strip_prefix(name).and_then(|rest| rest.strip_prefix(' '));
+        *word = number(value.ok_or_else(|| format!("expected `{name} N` in the place of `{part}`"))?)?;
+    }
+    let [v, p, size, rights] = words;
+    Ok(Region::new(v, p, size, rights))
 }
 
 /// A request by the name of its kind.
-fn request(line: Pieces) -> Result<Request, String> {
-    match line {
-        ["add", "zone", zone, behind @ ..] => Ok(Request::from_numbers(1, number32(zone)?, with_region(behind)?)),
-        ["remove", "zone", zone, behind @ ..] => Ok(Request::from_numbers(2, number32(zone)?, with_region(behind)?)),
-        ["zone", zone, ",", first, second, ":", of @ ..] => {
-            Ok(Request::from_numbers(kind(first, second)?, number32(zone)?, region_alone(of)?))
-        }
-        _ => Err(REQUEST.to_string()),
+fn request(text: &str) -> Result<Request, String> {
+    let (named, with) = match text.split_once(", with a region: ") {
+        Some((named, with)) => (named, Some(region(with)?)),
+        None => (text, None),
+    };
+    let none = Region::new(0, 0, 0, 0);
+    if let Some(zone) = named.strip_prefix("add zone ") {
+        return Ok(Request::from_numbers(1, number32(zone)?, with.unwrap_or(none)));
     }
-}
-
-fn kind(first: &str, second: &str) -> Result<u32, String> {
-    match (first, second) {
-        ("CPU", "insert") => Ok(3),
-        ("CPU", "remove") => Ok(4),
-        ("IOMMU", "insert") => Ok(5),
-        ("IOMMU", "remove") => Ok(6),
-        ("kind", number) => number32(number),
-        _ => Err(REQUEST.to_string()),
+    if let Some(zone) = named.strip_prefix("remove zone ") {
+        return Ok(Request::from_numbers(2, number32(zone)?, with.unwrap_or(none)));
     }
+    let (zone, asked) = text.strip_prefix("zone ").and_then(|rest| rest.split_once(", ")).ok_or(REQUESTS)?;
+    let (kind, of) = asked.split_once(':').ok_or(REQUESTS)?;
+    let kind = match kind {
+        "CPU insert" => 3,
+        "CPU remove" => 4,
+        "IOMMU insert" => 5,
+        "IOMMU remove" => 6,
+        _ => number32(kind.strip_prefix("kind ").ok_or(REQUESTS)?)?,
+    };
+    Ok(Request::from_numbers(kind, number32(zone)?, region(of.trim())?))
 }
-
-/// The region that came with adding or removing a zone: none, that is four zeros, or the one that is told.
-fn with_region(behind: Pieces) -> Result<Region, String> {
-    match behind {
-        [] => Ok(Region::new(0, 0, 0, 0)),
-        [",", "with", "a", "region", ":", of @ ..] => region_alone(of),
-        _ => Err(REQUEST.to_string()),
-    }
-}
-
-#[cfg(test)]
-mod tests;

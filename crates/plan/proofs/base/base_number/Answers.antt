@@ -1,7 +1,7 @@
 -- Each return is one rule of the list, and those before it do not apply.
+use Rattle.std.proofs.Common.{rules}
 use Rattle.plan.proofs.Judging.{base_config, base_edition, base_last, base_zones, base_same}
-use borrow.Author.Rules.{rules}
-use Rattle.plan.proofs.applying.base_number.Goals as goal
+use Rattle.plan.proofs.base.base_number.Goals as goal
 
 pub returns-then-not-same : goal.returns-then-not-same
 returns-then-not-same c = search (base_config, rules)

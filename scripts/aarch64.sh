@@ -33,21 +33,21 @@ x86_attribute=' "target-cpu"="x86-64"'
 
 # The forms of lines, as patterns for the whole line.
 known_lines() {
-    local number='i(1|8|16|32|64)' local_name='%[A-Za-z0-9_.]+' function='@("[A-Za-z0-9_:+]+"|peatmitten_[a-z0-9_]+)'
+    local number='i(1|8|16|32|64)' local_name='%[A-Za-z0-9_.]+' function='@("[^"]+"|peatmitten_[a-z0-9_]+)'
     local one="($number|ptr)" value="($local_name|-?[0-9]+|true|false|null|@static\.[0-9]+)" label="label $local_name" to pair
     local taken="$one( noundef)?( zeroext)? $local_name" handed="$one $value" flags='((nuw|nsw|exact|disjoint|nneg|samesign) )*'
     to="  $local_name = " pair="\{ $one, $one \}"
     printf '%s\n' '' ';.*' 'source_filename = "rattle"' "target datalayout = \"$x86_layout\"" "target triple = \"$x86_triple\""
-    # Bytes that do not change, as the marks of a listing.
-    printf '%s\n' '@static\.[0-9]+ = private unnamed_addr constant \[[0-9]+ x i8\] c"[^"]*", align 1'
-    # Functions have one of two sets of attributes: the second is of those that are not to be put into their callers.
+    # Bytes that do not change, as the marks of a listing; and numbers of 64 bits, as the layout's, which both processors have lowest byte first.
+    printf '%s\n' '@static\.[0-9]+ = private unnamed_addr constant \[[0-9]+ x i8\] (c"[^"]*"|zeroinitializer), align (1|8)'
+    # Functions have one of three sets of attributes: two are of those that are not to be put into their callers.
     # Within the module functions are called as its compiler likes. They answer one number or pointer, or a pair: both processors have its second
     # part where that part's own alignment puts it.
-    printf '%s\n' "define internal (void|noundef (zeroext )?$one|(noundef )?$pair) $function\(($taken(, $taken)*)?\) #[01] \{" '\}'
+    printf '%s\n' "define internal (void|noundef (zeroext )?$one|(noundef )?$pair) $function\(($taken(, $taken)*)?\) #[0-2] \{" '\}'
     # Others are called as C does. It hands over pointers and numbers of 32 and 64 bits as they are, eight of them in registers on aarch64.
     taken="(ptr|i32|i64) noundef $local_name"
     printf '%s\n' "define noundef (i32|i64) @peatmitten_[a-z0-9_]+\(($taken(, $taken){0,7})?\) #0 \{"
-    printf '%s\n' '[A-Za-z0-9_.]+:( *; preds = .*)?' "  br $label" "  br i1 $value, $label, $label" '  unreachable' \
+    printf '%s\n' '[A-Za-z0-9_.]+:( *; (preds = .*|No predecessors!))?' "  br $label" "  br i1 $value, $label, $label" '  unreachable' \
         "  switch $number $value, $label \[" "    $number -?[0-9]+, $label" '  \]' '  ret void' "  ret $handed" "  ret $pair $local_name"
     printf '%s\n' "${to}alloca ($one|\[[0-9]+ x i8\]), align [0-9]+" \
         "${to}load $one, ptr $local_name, align [0-9]+(, !range ![0-9]+)?(, !noundef ![0-9]+)?" \
@@ -56,15 +56,20 @@ known_lines() {
         "${to}getelementptr ((inbounds|nuw|nusw) )*i8, ptr $local_name, i64 $value"
     printf '%s\n' "$to(add|sub|mul|udiv|urem|and|or|xor|shl|lshr) $flags$number $value, $value" \
         "${to}icmp $flags(eq|ne|ult|ule|ugt|uge|slt) $one $value, $value" \
-        "$to(zext|trunc) $flags$number $value to $number"
+        "$to(zext|trunc) $flags$number $value to $number" "${to}ptrtoaddr ptr $local_name to i64"
+    # What is proved not to be reached traps; and zeros are counted, 64 of them in 0.
+    printf '%s\n' '  call void @llvm\.trap\(\)' 'declare void @llvm\.trap\(\) #[1-6]' \
+        "${to}call i64 @llvm\.ctlz\.i64\(i64 $value, i1 false\)" 'declare i64 @llvm\.ctlz\.i64\(i64, i1 immarg\) #[1-6]'
     printf '%s\n' "($to|  )call (void|$one|$pair) $function\(($handed(, $handed)*)?\)" \
         "  call void @llvm\.memmove\.p0\.p0\.i64\(ptr $local_name, ptr $local_name, i64 $value, i1 false\)" \
-        'declare void @llvm\.memmove\.p0\.p0\.i64\(ptr writeonly captures\(none\), ptr readonly captures\(none\), i64, i1 immarg\) #[1-3]' \
+        'declare void @llvm\.memmove\.p0\.p0\.i64\(ptr writeonly captures\(none\), ptr readonly captures\(none\), i64, i1 immarg\) #[1-6]' \
         "  call void @llvm\.memset\.p0\.i64\(ptr $local_name, i8 0, i64 $value, i1 false\)" \
-        'declare void @llvm\.memset\.p0\.i64\(ptr writeonly captures\(none\), i8, i64, i1 immarg\) #[1-3]'
-    printf '%s\n' "attributes #[01] = \{ (noinline )?nounwind \"probe-stack\"=\"inline-asm\" \"stack-probe-size\"=\"3072\"$x86_attribute \}" \
-        'attributes #[1-3] = \{ nocallback nofree nounwind willreturn memory\(argmem: readwrite\) \}' \
-        'attributes #[1-3] = \{ nocallback nofree nounwind willreturn memory\(argmem: write\) \}' \
+        'declare void @llvm\.memset\.p0\.i64\(ptr writeonly captures\(none\), i8, i64, i1 immarg\) #[1-6]'
+    printf '%s\n' "attributes #[0-2] = \{ (cold )?(noinline )?nounwind \"probe-stack\"=\"inline-asm\" \"stack-probe-size\"=\"3072\"$x86_attribute \}" \
+        'attributes #[1-6] = \{ nocallback nofree nounwind willreturn memory\(argmem: readwrite\) \}' \
+        'attributes #[1-6] = \{ nocallback nofree nounwind willreturn memory\(argmem: write\) \}' \
+        'attributes #[1-6] = \{ cold noreturn nounwind memory\(inaccessiblemem: write\) \}' \
+        'attributes #[1-6] = \{ nocallback nofree nosync nounwind speculatable willreturn memory\(none\) \}' \
         '!llvm\.ident = !\{!0\}' '!0 = !\{!"rattle logic=[0-9a-f]+"\}' '![0-9]+ = !\{\}' '![0-9]+ = !\{i8 [0-9]+, i8 [0-9]+\}'
 }
 
@@ -88,7 +93,7 @@ change_lines() {
     local wanted
     sed -e "s|^target datalayout = \"$x86_layout\"\$|target datalayout = \"$arm_layout\"|" \
         -e "s|^target triple = \"$x86_triple\"\$|target triple = \"$arm_triple\"|" \
-        -e "/^attributes #[01] = /s|$x86_attribute||" "$module" >"$work/module.ll"
+        -e "/^attributes #[0-2] = /s|$x86_attribute||" "$module" >"$work/module.ll"
     diff "$module" "$work/module.ll" >"$work/changes.diff" || true
     wanted=$((2 + $(grep -c "^attributes .*$x86_attribute" "$module" || true)))
     [ "$(grep -c '^>' "$work/changes.diff")" = "$wanted" ] ||

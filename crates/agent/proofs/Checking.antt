@@ -1,16 +1,12 @@
 -- A call of the check of a log in numbers that C can hold: the answer, taken apart and put together again.
 use Prim.Native.Nat.{ℕ}
 use mathlib.Core.List.{List, [], ◌∷◌}
-use mathlib.Core.Path.{◌≡◌, refl, ap, ◌∙◌}
+use mathlib.Core.Path.{◌≡◌, ap, ◌∙◌}
 use lib.ListN.{get_or}
 use Rattle.rules.specs.declared.LogAnswer.{LogAnswer}
 use Rattle.rules.specs.declared.Outcome.{Outcome}
 use Rattle.logs.specs.Logs.{CheckedIn}
-use Rattle.agent.specs.Agent.{layout, ChecksWords, WordsAreACheck}
-
--- the longest log, as the layout function says it
-pub log_told : 63904 ≡ get_or layout 7 0
-log_told = refl
+use Rattle.agent.specs.Agent.{ChecksWords, WordsAreACheck}
 
 pub checks_told : (c t b w : List ℕ) (r : LogAnswer) (o : Outcome) (d u v a : List ℕ) → CheckedIn c t b w r d u v
     → o ≡ r.outcome → a ≡ o.place ∷ o.inner ∷ r.claimed ∷ [] → ChecksWords c t b w o.number d u v a

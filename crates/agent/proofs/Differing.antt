@@ -1,12 +1,12 @@
 -- Calls about bases in numbers that C can hold: an outcome without its inner number, which is 0; where a plan's zones begin; and the place
 -- and the two bytes where stretches differ.
-use Prim.Native.Nat.{ℕ, zero, suc, ◌-◌, ◌≤◌, ◌<◌}
+use Prim.Native.Nat.{ℕ, ◌-◌, ◌≤◌}
 use native.Mathlib.Omega.{arith}
 use mathlib.Core.Bool.{Bool, true, false, cond, not}
 use mathlib.Core.List.{List, [], ◌∷◌}
-use mathlib.Core.Path.{◌≡◌, refl, sym, ap, ◌∙◌}
+use mathlib.Core.Path.{◌≡◌, refl, ap, ◌∙◌}
 use lib.Dec.{ltb, eqb}
-use lib.ListN.{length, get_or, length-drop, get_or-eq_default}
+use lib.ListN.{length, get_or, length-drop}
 use Rattle.lists.specs.Alike.{alike}
 use Rattle.lists.specs.Rules.{first_rule}
 use Rattle.lists.proofs.Alike.{alike_is}
@@ -21,9 +21,10 @@ use Rattle.rules.specs.declared.Outcome.{Outcome}
 use Rattle.zones.specs.View.{stored_config, stored_table}
 use Rattle.plan.specs.Found.{found_in}
 use Rattle.plan.specs.declared.finding.Found.{Found}
-use Rattle.plan.specs.declared.finding.Found.TheVariants.{At, Bad}
+use Rattle.plan.specs.Told.{Told, answer_by}
+use Rattle.lent.specs.Lent.{told_number, told_by}
 use Rattle.writer.specs.Writer.{writes_zones_in, WritesZonesIn}
-use Rattle.agent.specs.Agent.{WritesZonesWords, WordsAreZones, base_at, base_stretch, no_byte}
+use Rattle.agent.specs.Agent.{WritesZonesWords, WordsAreZones, base_at, base_stretch, reading_number, no_byte}
 
 -- ---- a terminal's zones
 pub zones_told : (c t w : List ℕ) (o : Outcome) (v a : List ℕ) → WritesZonesIn c t w o v → a ≡ o.place ∷ []
@@ -59,33 +60,19 @@ words_are_zones c t w n v a h = record {
   buffer = h.buffer;
 }
 
--- ---- a plan's: r is what was found of it, and s its zones section
-start_of : Found → ℕ
-start_of (At gic edition zones requests) = zones
-start_of (Bad k a) = a
+-- ---- where a plan's zones begin, of what was found
+begins : (n : ℕ) (o : Out Plan) → told_by (λ (f : Found). f.zones) (found_in n o) ≡ base_at n o
+unfolding answer_by base_at
+begins n (got p t) = refl
+begins n (bad k t) = refl
 
-module _ (b : List ℕ) (r : Found) (er : r ≡ found_in (length b) (read_plan limits b)) (s : List ℕ)
-    (es : s ≡ zones_of limits b) (u : List ℕ) where
-  begins : start_of r ≡ base_at (length b) (read_plan limits b)
-  unfolding start_of found_in base_at
-  begins = ap start_of er ∙ by (read_plan limits b)
-    where
-      by : (o : Out Plan) → start_of (found_in (length b) o) ≡ base_at (length b) o
-      by (got p t) = refl
-      by (bad k t) = refl
-
-  stretch : (a : ℕ) → start_of r ≡ a → u ≡ a ∷ length s ∷ [] → u ≡ base_stretch b
-  unfolding base_stretch
-  stretch a e l = l ∙ (λ i. (sym e ∙ begins) i ∷ length (es i) ∷ [])
-
-  pub base_refused : (k a : ℕ) → r ≡ Bad k a → u ≡ a ∷ length s ∷ [] → u ≡ base_stretch b
-  unfolding start_of
-  base_refused k a f l = stretch a (ap start_of f) l
-
-  pub base_there : (gic edition zones requests : ℕ) → r ≡ At gic edition zones requests → u ≡ zones ∷ length s ∷ []
-      → u ≡ base_stretch b
-  unfolding start_of
-  base_there gic edition zones requests f l = stretch zones (ap start_of f) l
+-- r is what was found, and s the zones section
+pub base_told : (b s : List ℕ) (r : Told Found) → s ≡ zones_of limits b → r ≡ found_in (length b) (read_plan limits b)
+    → (told_number r ≡ reading_number b) × (told_by (λ (f : Found). f.zones) r ∷ length s ∷ [] ≡ base_stretch b)
+unfolding base_stretch
+base_told b s r es er =
+    let z = ap (told_by (λ (f : Found). f.zones)) er ∙ begins (length b) (read_plan limits b) in
+    (ap told_number er, λ i. z i ∷ length (es i) ∷ [])
 
 -- ---- the place and the bytes: p is the part
 module _ (b c p : List ℕ) (e : p ≡ lacking_part b c) where
@@ -100,11 +87,3 @@ module _ (b c p : List ℕ) (e : p ≡ lacking_part b c) where
 pub bytes_told : (b c : List ℕ) (k : ℕ) (u : List ℕ) (x y : ℕ) → u ≡ x ∷ y ∷ [] → x ≡ get_or b k no_byte → y ≡ get_or c k no_byte
     → u ≡ get_or b k no_byte ∷ get_or c k no_byte ∷ []
 bytes_told b c k u x y e ex ey = e ∙ (λ i. ex i ∷ ey i ∷ [])
-
-pub no_byte_law : (s : List ℕ) (at : ℕ) → length s ≤ at → 256 ≡ get_or s at no_byte
-no_byte_law s at h = sym (get_or-eq_default s 256 h)
-
-pub byte_there : (s : List ℕ) (at : ℕ) → at < length s → get_or s at 0 ≡ get_or s at no_byte
-byte_there [] at h = absurd (omega arith)
-byte_there (x ∷ s) zero h = refl
-byte_there (x ∷ s) (suc at) h = byte_there s at (omega arith)

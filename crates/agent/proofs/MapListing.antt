@@ -4,8 +4,8 @@ use mathlib.Core.List.{List, [], ◌∷◌}
 use mathlib.Core.Path.{◌≡◌, sym, ap, ◌∙◌}
 use lib.ListN.{get_or}
 use Rattle.formats.specs.Texts.{ascii}
-use Rattle.rules.specs.Filling.{Filled}
 use Rattle.rules.specs.Listing.{side_word, longest_line, longest_listing}
+use Rattle.rules.specs.Filling.{Filled}
 use Rattle.rules.specs.declared.Outcome.{Outcome}
 use Rattle.agent.specs.Agent.{layout, listing_in, ListingWords}
 

@@ -3,7 +3,7 @@ use Prim.Native.Nat.{ℕ, ◌+◌, ◌^◌, ◌<◌}
 use native.Mathlib.Omega.{arith}
 use mathlib.Core.List.{List, [], ◌∷◌}
 use mathlib.Core.Logic.{inl, inr}
-use mathlib.Core.Path.{◌≡◌, sym, ap, subst, ◌∙◌}
+use mathlib.Core.Path.{◌≡◌, sym, ap, ◌∙◌}
 use lib.ListN.{get_or}
 use Rattle.rules.specs.Limits.{limits}
 use Rattle.rules.specs.Receiving.{received}
@@ -13,18 +13,10 @@ use Rattle.plan.specs.Applying.{applied, state_in, AppliedIn}
 use Rattle.plan.specs.declared.applying.Applied.{Applied}
 use Rattle.plan.specs.declared.applying.State.{State}
 use Rattle.plan.proofs.Outcomes.{value_refused, edition_room, value_accepted}
-use Rattle.receiver.specs.Words.{ended_in, TakesIn, EndedWords, EndsIn}
+use Rattle.receiver.specs.Words.{ended_in, EndedWords, EndsIn}
 use Rattle.receiver.specs.declared.Ending.{Ending}
-use Rattle.receiver.specs.declared.Taking.{Taking}
 use Rattle.receiver.proofs.Calls.{ended_cases, config_stays, EndedCases}
-use Rattle.agent.specs.Agent.{receiver_in, words_of_receiver, TakesWords, EndsWords, WordsAreAPiece, WordsAreAnEnd}
-
--- a piece call: a was answered, v is then in the buffer, and j are the two words
-pub takes_words : (k w p : List ℕ) (r : Receiver) (a : Taking) (v j : List ℕ) → r ≡ receiver_in k → TakesIn r w p a v
-    → j ≡ a.receiver.stored ∷ a.receiver.more ∷ [] → TakesWords k w p a.number j v
-takes_words k w p r a v j er done ej =
-    let d : TakesIn (receiver_in k) w p a v = subst (λ (x : Receiver). TakesIn x w p a v) er done in
-    record { number = d.number; receiver = ej ∙ ap words_of_receiver d.receiver; buffer = d.buffer }
+use Rattle.agent.specs.Agent.{receiver_in, words_of_receiver, EndsWords, WordsAreAPiece, WordsAreAnEnd}
 
 -- the end call: a was answered, u are the table's words then, j the two words and b the two places
 module _ (c t : List ℕ) (e : ℕ) (k w : List ℕ) (r : Receiver) (er : r ≡ receiver_in k) (a : Ending) (u : List ℕ)

@@ -1,5 +1,5 @@
 -- What the library's functions answer, in numbers that C can hold.
-use Rattle.std.specs.Prelude.{ℕ, ◌-◌, List, [], ◌∷◌, ◌≡◌, length, get_or}
+use Rattle.std.specs.Prelude.{ℕ, ◌-◌, List, [], ◌∷◌, ◌≡◌, Ok, Err, length, get_or}
 use Rattle.formats.specs.Formats.{Out, got, bad}
 use Rattle.rules.specs.Configuration.{check_place, check_earlier}
 use Rattle.rules.specs.Differing.{zones_of}
@@ -14,16 +14,13 @@ use Rattle.rules.specs.declared.Checked.{Checked}
 use Rattle.rules.specs.declared.Receiver.{Receiver}
 use Rattle.zones.specs.Layout.{region_words}
 use Rattle.zones.specs.View.{stored_config, stored_table}
+use Rattle.lent.specs.Lent.{told_number, told_by}
 use Rattle.logs.specs.Logs.{config_left, table_left, CheckedIn}
 use Rattle.plan.specs.Applying.{applied, state_in}
-use Rattle.plan.specs.Into.{section_place}
-use Rattle.plan.specs.Read.{read_answer}
-use Rattle.plan.specs.declared.words.Section.{Section}
-use Rattle.plan.specs.declared.words.Section.TheVariants.{End, Bad}
+use Rattle.plan.specs.Found.{found_in}
+use Rattle.plan.specs.Told.{Told}
 use Rattle.receiver.specs.Words.{ended_in, TakesIn}
 use Rattle.terminal.specs.Terminal.{Applies}
-use Rattle.walker.specs.declared.Edition.{Edition}
-use Rattle.walker.specs.declared.Edition.TheVariants.{Is, Bad as BadEdition}
 use Rattle.wanted.specs.Wanted.{listed_in, ListsIn}
 use Rattle.writer.specs.Writer.{writes_in, WritesIn, writes_zones_in, WritesZonesIn}
 
@@ -38,24 +35,19 @@ unfoldable pub places_of : Checked → List ℕ
 places_of f = check_place f ∷ check_earlier f ∷ []
 
 -- of a plan that is only read: the number, and its offset or that of the first request
-unfoldable pub section_number : Section → ℕ
-section_number (End at) = 0
-section_number (Bad k at) = k
-
 abbrev pub reading_number : List ℕ → ℕ
-reading_number b = section_number (read_answer (length b) (read_plan limits b)).requests
+reading_number b = told_number (found_in (length b) (read_plan limits b))
 
 abbrev pub reading_place : List ℕ → ℕ
-reading_place b = section_place (read_answer (length b) (read_plan limits b)).requests
+reading_place b = told_by (λ f. f.requests) (found_in (length b) (read_plan limits b))
 
 -- of a plan's base edition: the number, and the edition or an offset
-unfoldable pub edition_number : Edition → ℕ
-edition_number (Is e) = 0
-edition_number (BadEdition k at) = k
+abbrev pub edition_number : Told ℕ → ℕ
+edition_number e = told_number e
 
-unfoldable pub edition_value : Edition → ℕ
-edition_value (Is e) = e
-edition_value (BadEdition k at) = at
+abbrev pub edition_value : Told ℕ → ℕ
+edition_value (Ok e) = e
+edition_value (Err r) = r.1
 
 -- a plan at a state that is lent in three parts: the number, what then lies at the table and at the edition, and the
 -- place and inner number
@@ -102,7 +94,7 @@ pub record EndsWords (c t : List ℕ) (e : ℕ) (k w : List ℕ) (n : ℕ) (u : 
 abbrev pub WordsAreAPiece : Type 0
 WordsAreAPiece =
     (k w p : List ℕ) (n : ℕ) (j v : List ℕ) → TakesWords k w p n j v
-    → TakesIn (receiver_in k) w p (record { number = n; receiver = receiver_in j }) v
+    → TakesIn (receiver_in k) w p n (receiver_in j) v
 
 abbrev pub WordsAreAnEnd : Type 0
 WordsAreAnEnd =

@@ -2,7 +2,6 @@
 ghost use Rattle.storage.specs.Beside.{prepared_in};
 ghost use Rattle.storage.specs.Storage.{PreparedIn};
 
-use lent::put_three;
 use storage::apply_beside;
 use zones::{CONFIG_WORDS, TABLE_WORDS};
 
@@ -21,11 +20,10 @@ pub extern "C" fn peatmitten_beside_words(
 {
     let prepared = apply_beside(config, current, other, mark, plan);
     let outcome = prepared.outcome;
-    put_three(
-        answer,
+    *answer = [
         prepared.mark as u64,
         outcome.place as u64,
         outcome.inner as u64,
-    );
+    ];
     outcome.number
 }

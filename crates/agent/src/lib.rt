@@ -21,55 +21,43 @@ ghost use Rattle.agent.specs.Agent.{base_stretch, no_byte, ListsWords, ListingWo
 
 pub use beside::peatmitten_beside_words;
 use differing::lacking_part;
-use lent::{put_one, put_three, put_two, side_asked, yes_or_no};
+use lent::{number, put_places, side_asked, yes_or_no};
 use listing::{LONGEST_LISTING, list_table};
 use logs::{LONGEST_LOG, check_log};
-use plan::{Found, LONGEST_PLAN, apply_words, find_base, find_sections};
+use plan::{LONGEST_PLAN, apply_words, find_base, find_sections};
 use receiver::{end_words, take_piece};
 use rules::limits::{MOST_IN_SET, MOST_REGIONS, MOST_REQUESTS, MOST_ZONES};
-use rules::{Guest, Phys, Receiver, Region, Rights};
-use walker::{Edition, edition_of};
+use rules::{Guest, Receiver};
+use walker::edition_of;
 use wanted::list_words;
 use writer::{write_words, write_zones};
 use zones::{
     CONFIG_WORDS, REGION_WORDS, TABLE_WORDS, check_earlier, check_number, check_place, check_words,
-    is_sound, make_request, step_in, translate_in,
+    is_sound, make_request, region_from, step_in, translate_in,
 };
 
 // What is said of a place that has no byte.
 const NO_BYTE: u64 = 256;
 
-// What a header must have for this library, one number at a time; 0 past the last. Its name says them too, so that a program with the
-// header of another library does not link.
+// What a header must have for this library, one number at a time; 0 past the last.
+const LAYOUT: [u64; 8] = [
+    MOST_REGIONS as u64,
+    MOST_ZONES as u64,
+    MOST_IN_SET as u64,
+    MOST_REQUESTS as u64,
+    REGION_WORDS as u64,
+    LONGEST_PLAN as u64,
+    LONGEST_LISTING as u64,
+    LONGEST_LOG as u64,
+];
+
+// The function's name says them too, so that a program with the header of another library does not link.
+#[tactic(auto, unfolding(rules::specs::Listing::longest_listing, rules::specs::Listing::longest_line, rules::specs::Listing::side_word, formats::specs::Texts::ascii))]
 #[unsafe(no_mangle)]
 pub extern "C" fn peatmitten_layout_256_32_16_512_4(which: u32) -> u64
     ensures { result ≡ get_or layout which 0 }
 {
-    if which == 0 {
-        return MOST_REGIONS as u64;
-    }
-    if which == 1 {
-        return MOST_ZONES as u64;
-    }
-    if which == 2 {
-        return MOST_IN_SET as u64;
-    }
-    if which == 3 {
-        return MOST_REQUESTS as u64;
-    }
-    if which == 4 {
-        return REGION_WORDS as u64;
-    }
-    if which == 5 {
-        return LONGEST_PLAN as u64;
-    }
-    if which == 6 {
-        return LONGEST_LISTING as u64;
-    }
-    if which == 7 {
-        return LONGEST_LOG as u64;
-    }
-    0
+    LAYOUT.get(which as usize).copied().unwrap_or(0)
 }
 
 // The number of a configuration's check, 1 to 6 for C1 to C6; and its two places.
@@ -81,11 +69,7 @@ pub extern "C" fn peatmitten_check_config(
     ensures { (result ≡ check_number (check limits (stored_config config.now))) × (places.new ≡ places_of (check limits (stored_config config.now))) }
 {
     let found = check_words(config);
-    put_two(
-        places,
-        check_place(found) as u64,
-        check_earlier(found) as u64,
-    );
+    *places = [check_place(found) as u64, check_earlier(found) as u64];
     check_number(found)
 }
 
@@ -114,14 +98,9 @@ pub extern "C" fn peatmitten_request(
 ) -> u32
     ensures { Stepped config.now table.old (make_request kind zone (region_of v p size rights)) result table.new }
 {
-    let region = Region {
-        v: Guest(v),
-        p: Phys(p),
-        size,
-        rights: Rights(rights),
-    };
+    let region = region_from(&[v, p, size, rights], 0);
     let request = make_request(kind, zone, region);
-    step_in(config, table, request)
+    number(step_in(config, table, request))
 }
 
 // Where a guest address of a zone comes out, and how many bytes of the covering region there are from it on. Side 0 is the CPU, any
@@ -138,9 +117,16 @@ pub extern "C" fn peatmitten_translate_words(
     ensures { (result ≡ (translated limits (stored_config config.now) (stored_table table.now) zone (side_asked side) (record { 0 = address })).number) × (stretch.new ≡ stretch_of (translated limits (stored_config config.now) (stored_table table.now) zone (side_asked side) (record { 0 = address }))) }
 {
     let asked = side_asked(side);
-    let found = translate_in(config, table, zone, asked, Guest(address));
-    put_two(stretch, found.phys.0, found.remaining);
-    found.number
+    match translate_in(config, table, zone, asked, Guest(address)) {
+        Ok(found) => {
+            *stretch = [found.phys.0, found.remaining];
+            0
+        }
+        Err(why) => {
+            *stretch = [0, 0];
+            u32::from(why)
+        }
+    }
 }
 
 // Applies a plan to the state that is lent in three parts: the number, and its place and inner number. Table and edition are changed where
@@ -157,7 +143,7 @@ pub extern "C" fn peatmitten_apply_words(
 {
     let held = *edition;
     let outcome = apply_words(config, table, held, plan);
-    put_two(places, outcome.place as u64, outcome.inner as u64);
+    put_places(places, outcome);
     if outcome.number == 0 {
         *edition = held + 1;
     }
@@ -174,13 +160,10 @@ pub extern "C" fn peatmitten_take_piece(
     ensures { TakesWords receiver.old buffer.old piece.now result receiver.new buffer.new }
 {
     let held = receiver_in(receiver);
-    let taking = take_piece(held, buffer, piece);
-    put_two(
-        receiver,
-        taking.receiver.stored as u64,
-        taking.receiver.more,
-    );
-    taking.number
+    let taken = take_piece(held, buffer, piece);
+    let next = taken.unwrap_or(held);
+    *receiver = [next.stored as u64, next.more];
+    number(taken)
 }
 
 // Applies what came in pieces, as `peatmitten_apply_words` applies a whole plan.
@@ -198,17 +181,12 @@ pub extern "C" fn peatmitten_end_words(
     let at = *edition;
     let held = receiver_in(receiver);
     let ending = end_words(config, table, at, held, buffer);
-    put_two(
-        receiver,
-        ending.receiver.stored as u64,
-        ending.receiver.more,
-    );
-    let outcome = ending.outcome;
-    put_two(places, outcome.place as u64, outcome.inner as u64);
+    *receiver = [ending.receiver.stored as u64, ending.receiver.more];
+    put_places(places, ending.outcome);
     if ending.outcome.number == 0 {
         *edition = at + 1;
     }
-    outcome.number
+    ending.outcome.number
 }
 
 // Writes the plan for a state's base that asks for requests, which are lent as the bytes that a plan holds them as: the number, and its place
@@ -226,7 +204,7 @@ pub extern "C" fn peatmitten_write_words(
     ensures { WritesWords config.now table.old edition requests.now buffer.old result table.new buffer.new places.new }
 {
     let outcome = write_words(config, table, edition, requests, buffer);
-    put_two(places, outcome.place as u64, outcome.inner as u64);
+    put_places(places, outcome);
     outcome.number
 }
 
@@ -242,7 +220,7 @@ pub extern "C" fn peatmitten_zones_words(
     ensures { WritesZonesWords config.now table.now buffer.old result buffer.new place.new }
 {
     let outcome = write_zones(config, table, buffer);
-    put_one(place, outcome.place as u64);
+    *place = [outcome.place as u64];
     outcome.number
 }
 
@@ -252,15 +230,14 @@ pub extern "C" fn peatmitten_base_zones(plan: &[u8], stretch: &mut [u64; 2]) -> 
     ensures { (result ≡ reading_number plan.now) × (stretch.new ≡ base_stretch plan.now) }
 {
     let base = find_base(plan);
-    let found = find_sections(plan);
-    match found {
-        Found::Bad { number, at } => {
-            put_two(stretch, at as u64, base.len() as u64);
-            number
-        }
-        Found::At { zones, .. } => {
-            put_two(stretch, zones as u64, base.len() as u64);
+    match find_sections(plan) {
+        Ok(found) => {
+            *stretch = [found.zones as u64, base.len() as u64];
             0
+        }
+        Err(refused) => {
+            *stretch = [refused.at as u64, base.len() as u64];
+            u32::from(refused.why)
         }
     }
 }
@@ -272,7 +249,7 @@ pub extern "C" fn peatmitten_lacking(first: &[u8], second: &[u8], bytes: &mut [u
 {
     let part = lacking_part(first, second);
     let at = first.len() - part.len();
-    put_two(bytes, byte_at(first, at), byte_at(second, at));
+    *bytes = [byte_at(first, at), byte_at(second, at)];
     at as u64
 }
 
@@ -280,10 +257,7 @@ pub extern "C" fn peatmitten_lacking(first: &[u8], second: &[u8], bytes: &mut [u
 fn byte_at(s: &[u8], at: usize) -> u64
     ensures { result ≡ get_or s.now at no_byte }
 {
-    if s.len() <= at {
-        return NO_BYTE;
-    }
-    s[at] as u64
+    s.get(at).copied().map_or(NO_BYTE, u64::from)
 }
 
 // Works out the requests that lead from one table to another, into the buffer, as a plan holds them: the number, and how many there are. Only
@@ -299,8 +273,8 @@ pub extern "C" fn peatmitten_wanted_words(
     ensures { ListsWords config.now from.now to.now buffer.old result buffer.new count.new }
 {
     let listing = list_words(config, from, to, buffer);
-    put_one(count, listing.count as u64);
-    listing.number
+    *count = [listing.unwrap_or(0) as u64];
+    number(listing)
 }
 
 // Writes the map listing of a table: the number, and on 0 how many bytes it has, else 0. Only on 0 is the buffer changed.
@@ -314,7 +288,7 @@ pub extern "C" fn peatmitten_list(
     ensures { ListingWords config.now table.now buffer.old result buffer.new length.new }
 {
     let outcome = list_table(config, table, buffer);
-    put_one(length, outcome.place as u64);
+    *length = [outcome.place as u64];
     outcome.number
 }
 
@@ -333,12 +307,11 @@ pub extern "C" fn peatmitten_check_log(
 {
     let answer = check_log(config, table, log, buffer);
     let outcome = answer.outcome;
-    put_three(
-        places,
+    *places = [
         outcome.place as u64,
         outcome.inner as u64,
         answer.claimed as u64,
-    );
+    ];
     outcome.number
 }
 
@@ -356,15 +329,14 @@ fn receiver_in(words: &[u64; 2]) -> Receiver
 pub extern "C" fn peatmitten_read(plan: &[u8], place: &mut [u64; 1]) -> u32
     ensures { (result ≡ reading_number plan.now) × (place.new ≡ reading_place plan.now ∷ []) }
 {
-    let found = find_sections(plan);
-    match found {
-        Found::Bad { number, at } => {
-            put_one(place, at as u64);
-            number
-        }
-        Found::At { requests, .. } => {
-            put_one(place, requests as u64);
+    match find_sections(plan) {
+        Ok(found) => {
+            *place = [found.requests as u64];
             0
+        }
+        Err(refused) => {
+            *place = [refused.at as u64];
+            u32::from(refused.why)
         }
     }
 }
@@ -374,15 +346,14 @@ pub extern "C" fn peatmitten_read(plan: &[u8], place: &mut [u64; 1]) -> u32
 pub extern "C" fn peatmitten_edition(plan: &[u8], answer: &mut [u64; 1]) -> u32
     ensures { (result ≡ edition_number (edition_of plan.now)) × (answer.new ≡ edition_value (edition_of plan.now) ∷ []) }
 {
-    let edition = edition_of(plan);
-    match edition {
-        Edition::Bad { number, at } => {
-            put_one(answer, at as u64);
-            number
-        }
-        Edition::Is(named) => {
-            put_one(answer, named as u64);
+    match edition_of(plan) {
+        Ok(named) => {
+            *answer = [u64::from(named)];
             0
+        }
+        Err(refused) => {
+            *answer = [refused.at as u64];
+            u32::from(refused.why)
         }
     }
 }

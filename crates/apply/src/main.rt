@@ -3,15 +3,14 @@
 #![tactic(auto)]
 
 use plan::apply_alone;
-use plan_file::{print, read, room};
+use plan_file::{answer_one, print, room};
 use std::io;
 
 fn main(rt: HostRuntime) -> io::Result<()> {
-    let mut bytes = room();
-    let got = read(&rt, b"apply", &mut bytes);
-    if !got.is_there {
-        return Ok(());
-    }
-    let n = got.count;
-    print(&rt, apply_alone(&bytes[..n]))
+    answer_one(
+        &rt,
+        b"apply",
+        &mut room(),
+        |plan| print(&rt, apply_alone(plan)),
+    )
 }

@@ -3,28 +3,11 @@
 #![tactic(auto)]
 
 use plan::apply_alone;
-use plan_file::{arguments, print, read_at, room};
+use plan_file::{answer_each, print, room};
 use std::io;
-use std::rt::{Env, Files};
 
 fn main(rt: HostRuntime) -> io::Result<()> {
-    let mut bytes = room();
-    for k in 1..arguments(&rt, b"apply_each") {
-        answer(&rt, k, &mut bytes)?;
-    }
-    Ok(())
-}
-
-// What the file that an argument names is answered.
-fn answer<R: Env + Files + Print + Eprint>(
-    rt: &R,
-    argument: usize,
-    bytes: &mut [u8],
-) -> io::Result<()> {
-    let got = read_at(rt, b"apply_each", argument, bytes);
-    if !got.is_there {
-        return Ok(());
-    }
-    let n = got.count;
-    print(rt, apply_alone(&bytes[..n]))
+    answer_each(&rt, b"apply_each", &mut room(), |plan| {
+        print(&rt, apply_alone(plan))
+    })
 }

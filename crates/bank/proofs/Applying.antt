@@ -1,39 +1,17 @@
 -- Plans at the border: what was found and what was answered, in numbers.
 use Prim.Native.Nat.{ℕ, ◌+◌, ◌^◌, ◌<◌}
 use mathlib.Core.List.{List, [], ◌∷◌}
-use mathlib.Core.Path.{◌≡◌, refl, sym, ap, ◌∙◌}
-use lib.ListN.{length, get_or}
+use mathlib.Core.Path.{◌≡◌, refl, ap, ◌∙◌}
+use lib.ListN.{get_or}
 use Rattle.rules.specs.Limits.{limits}
-use Rattle.rules.specs.OwnedPlan.{read_owned, owned_steps}
+use Rattle.rules.specs.OwnedPlan.{owned_steps}
 use Rattle.rules.specs.declared.Outcome.{Outcome}
 use Rattle.rules.proofs.OwnedPlan.{owned_refuses}
 use Rattle.owners.specs.View.{stored_owned}
-use Rattle.plan.specs.declared.finding.Found.{Found}
-use Rattle.plan.specs.declared.finding.Found.TheVariants.{At, Bad}
 use Rattle.plan.proofs.Steps.{edition_kept, edition_raised, edition_next}
 use Rattle.owned.specs.Applying.{OwnedApplied}
-use Rattle.owned.specs.Found.{found_owned}
-use Rattle.bank.specs.Applying.{found_number, found_place, reading_number, reading_place, applied_to}
+use Rattle.bank.specs.Applying.{applied_to}
 use Rattle.bank.specs.Applying.{PartsAreAState, BankApplies}
-
--- ---- r is what was found
-module _ (b : List ℕ) (r : Found) (er : r ≡ found_owned (length b) (read_owned limits b)) where
-  pub read_bad : (k a : ℕ) → r ≡ Bad k a → k ≡ reading_number b
-  unfolding found_number
-  read_bad k a f = ap found_number (sym f ∙ er)
-
-  pub read_bad_place : (k a : ℕ) (u : List ℕ) → r ≡ Bad k a → u ≡ a ∷ [] → u ≡ reading_place b ∷ []
-  unfolding found_place
-  read_bad_place k a u f l = l ∙ ap (λ (x : Found). found_place x ∷ []) (sym f ∙ er)
-
-  pub read_end : (gic edition zones requests : ℕ) → r ≡ At gic edition zones requests → 0 ≡ reading_number b
-  unfolding found_number
-  read_end gic edition zones requests f = ap found_number (sym f ∙ er)
-
-  pub read_end_place : (gic edition zones requests : ℕ) (u : List ℕ) → r ≡ At gic edition zones requests
-      → u ≡ requests ∷ [] → u ≡ reading_place b ∷ []
-  unfolding found_place
-  read_end_place gic edition zones requests u f l = l ∙ ap (λ (x : Found). found_place x ∷ []) (sym f ∙ er)
 
 -- ---- r was answered where the words lie, u are the table's words then, and a are its two places
 module _ (c o t : List ℕ) (e : ℕ) (b : List ℕ) (r : Outcome) (u : List ℕ) (done : OwnedApplied c o t e b r u) where

@@ -8,25 +8,16 @@ use Rattle.rules.specs.Tables.{table_of}
 use Rattle.zones.specs.Words.{words_of}
 use Rattle.owners.specs.View.{stored_owned}
 use Rattle.plan.specs.Steps.{kept_in}
-use Rattle.plan.specs.declared.finding.Found.{Found}
-use Rattle.plan.specs.declared.finding.Found.TheVariants.{At, Bad}
+use Rattle.lent.specs.Lent.{told_number, told_by}
 use Rattle.owned.specs.Deliveries.{OwnedCalled}
 use Rattle.owned.specs.Found.{found_owned}
 
 -- ---- reading: the number, and where the first request begins or the offset of a refusal
-unfoldable pub found_number : Found → ℕ
-found_number (At gic edition zones requests) = 0
-found_number (Bad k at) = k
-
-unfoldable pub found_place : Found → ℕ
-found_place (At gic edition zones requests) = requests
-found_place (Bad k at) = at
-
 abbrev pub reading_number : List ℕ → ℕ
-reading_number b = found_number (found_owned (length b) (read_owned limits b))
+reading_number b = told_number (found_owned (length b) (read_owned limits b))
 
 abbrev pub reading_place : List ℕ → ℕ
-reading_place b = found_place (found_owned (length b) (read_owned limits b))
+reading_place b = told_by (λ f. f.requests) (found_owned (length b) (read_owned limits b))
 
 -- ---- applying
 -- by the rules, at the state that is lent in four parts

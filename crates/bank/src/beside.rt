@@ -2,7 +2,6 @@
 ghost use Rattle.storage.specs.Beside.{prepared_in};
 ghost use Rattle.owned_storage.specs.Storage.{OwnedPrepared};
 
-use lent::put_three;
 use owned_storage::apply_beside;
 use rules::limits::MOST_REGIONS;
 use zones::{CONFIG_WORDS, TABLE_WORDS};
@@ -23,11 +22,10 @@ pub extern "C" fn peatmitten_bank_beside_words(
 {
     let prepared = apply_beside(config, owners, current, other, mark, plan);
     let outcome = prepared.outcome;
-    put_three(
-        answer,
+    *answer = [
         prepared.mark as u64,
         outcome.place as u64,
         outcome.inner as u64,
-    );
+    ];
     outcome.number
 }

@@ -17,41 +17,32 @@ ghost use Rattle.owners.specs.View.{stored_owned};
 ghost use Rattle.bank.specs.Bank.{layout, owned_places_of};
 
 pub use beside::peatmitten_bank_beside_words;
-use lent::{put_two, side_asked, yes_or_no};
+use lent::{number, side_asked, yes_or_no};
 use owned::LONGEST_OWNED_PLAN;
 use owners::{
     check_earlier, check_number, check_owned, check_place, is_sound, step_in, translate_in,
 };
 pub use plans::{peatmitten_bank_apply_words, peatmitten_bank_read};
+use rules::Guest;
 use rules::limits::{MOST_IN_SET, MOST_REGIONS, MOST_REQUESTS, MOST_ZONES};
-use rules::{Guest, Phys, Region, Rights};
-use zones::{CONFIG_WORDS, REGION_WORDS, TABLE_WORDS, make_request};
+use zones::{CONFIG_WORDS, REGION_WORDS, TABLE_WORDS, make_request, region_from};
 
-// What a header must have for this library, one number at a time; 0 past the last. Its name says them too, so that a program with the
-// header of another library does not link.
+// What a header must have for this library, one number at a time; 0 past the last.
+const LAYOUT: [u64; 6] = [
+    MOST_REGIONS as u64,
+    MOST_ZONES as u64,
+    MOST_IN_SET as u64,
+    MOST_REQUESTS as u64,
+    REGION_WORDS as u64,
+    LONGEST_OWNED_PLAN as u64,
+];
+
+// The function's name says them too, so that a program with the header of another library does not link.
 #[unsafe(no_mangle)]
 pub extern "C" fn peatmitten_bank_layout_256_32_16_512_4(which: u32) -> u64
     ensures { result ≡ get_or layout which 0 }
 {
-    if which == 0 {
-        return MOST_REGIONS as u64;
-    }
-    if which == 1 {
-        return MOST_ZONES as u64;
-    }
-    if which == 2 {
-        return MOST_IN_SET as u64;
-    }
-    if which == 3 {
-        return MOST_REQUESTS as u64;
-    }
-    if which == 4 {
-        return REGION_WORDS as u64;
-    }
-    if which == 5 {
-        return LONGEST_OWNED_PLAN as u64;
-    }
-    0
+    LAYOUT.get(which as usize).copied().unwrap_or(0)
 }
 
 // The number of the check of a configuration with owners, 1 to 7 for C1 to C7; and its two places.
@@ -64,11 +55,7 @@ pub extern "C" fn peatmitten_bank_check_config(
     ensures { (result ≡ owned_check_number (owned_check limits (stored_owned config.now owners.now))) × (places.new ≡ owned_places_of (owned_check limits (stored_owned config.now owners.now))) }
 {
     let found = check_owned(config, owners);
-    put_two(
-        places,
-        check_place(found) as u64,
-        check_earlier(found) as u64,
-    );
+    *places = [check_place(found) as u64, check_earlier(found) as u64];
     check_number(found)
 }
 
@@ -96,19 +83,8 @@ pub extern "C" fn peatmitten_bank_request(
 ) -> u32
     ensures { OwnedStepped config.now owners.now table.old (make_request kind zone (region_at region.now 0)) result table.new }
 {
-    let request = make_request(kind, zone, region_lent(region));
-    step_in(config, owners, table, request)
-}
-
-fn region_lent(words: &[u64; REGION_WORDS]) -> Region
-    ensures { result ≡ region_at words.now 0 }
-{
-    Region {
-        v: Guest(words[0]),
-        p: Phys(words[1]),
-        size: words[2],
-        rights: Rights(words[3]),
-    }
+    let request = make_request(kind, zone, region_from(region, 0));
+    number(step_in(config, owners, table, request))
 }
 
 // Where a guest address of a zone comes out, and how many bytes of the covering region there are from it on. Side 0 is the CPU, any
@@ -126,7 +102,14 @@ pub extern "C" fn peatmitten_bank_translate_words(
     ensures { (result ≡ (owned_translated limits (stored_owned config.now owners.now) (stored_table table.now) zone (side_asked side) (record { 0 = address })).number) × (stretch.new ≡ stretch_of (owned_translated limits (stored_owned config.now owners.now) (stored_table table.now) zone (side_asked side) (record { 0 = address }))) }
 {
     let asked = side_asked(side);
-    let found = translate_in(config, owners, table, zone, asked, Guest(address));
-    put_two(stretch, found.phys.0, found.remaining);
-    found.number
+    match translate_in(config, owners, table, zone, asked, Guest(address)) {
+        Ok(found) => {
+            *stretch = [found.phys.0, found.remaining];
+            0
+        }
+        Err(why) => {
+            *stretch = [0, 0];
+            u32::from(why)
+        }
+    }
 }

@@ -2,9 +2,8 @@
 ghost use Rattle.std.specs.Prelude.{[], ◌∷◌, ◌≡◌};
 ghost use Rattle.bank.specs.Applying.{reading_number, reading_place, BankApplies};
 
-use lent::{put_one, put_two};
+use lent::put_places;
 use owned::{apply_words, find_sections};
-use plan::Found;
 use rules::limits::MOST_REGIONS;
 use zones::{CONFIG_WORDS, TABLE_WORDS};
 
@@ -23,7 +22,7 @@ pub extern "C" fn peatmitten_bank_apply_words(
 {
     let held = *edition;
     let outcome = apply_words(config, owners, table, held, plan);
-    put_two(places, outcome.place as u64, outcome.inner as u64);
+    put_places(places, outcome);
     if outcome.number == 0 {
         *edition = held + 1;
     }
@@ -35,15 +34,14 @@ pub extern "C" fn peatmitten_bank_apply_words(
 pub extern "C" fn peatmitten_bank_read(plan: &[u8], place: &mut [u64; 1]) -> u32
     ensures { (result ≡ reading_number plan.now) × (place.new ≡ reading_place plan.now ∷ []) }
 {
-    let found = find_sections(plan);
-    match found {
-        Found::Bad { number, at } => {
-            put_one(place, at as u64);
-            number
-        }
-        Found::At { requests, .. } => {
-            put_one(place, requests as u64);
+    match find_sections(plan) {
+        Ok(found) => {
+            *place = [found.requests as u64];
             0
+        }
+        Err(refused) => {
+            *place = [refused.at as u64];
+            u32::from(refused.why)
         }
     }
 }

@@ -8,13 +8,13 @@ ghost use Rattle.rules.specs.Limits.{limits};
 ghost use Rattle.rules.specs.OwnedSizes.{longest_owned_size};
 
 use owned::{LONGEST_OWNED_PLAN, apply_alone};
-use plan_file::{print, read};
+use plan_file::{answer_one, print};
 use std::io;
 
 // A byte more, by which a file that is longer than any plan shows.
 const BYTES_READ: usize = LONGEST_OWNED_PLAN + 1;
 
-// Room for the bytes that are read.
+// Room for the bytes that are read. bank_apply_each has the same: a crate above plan_file and owned for these lines alone would be no plainer.
 fn room() -> [u8; BYTES_READ]
     ensures { longest_owned_size limits + 1 ≡ length result }
 {
@@ -22,11 +22,10 @@ fn room() -> [u8; BYTES_READ]
 }
 
 fn main(rt: HostRuntime) -> io::Result<()> {
-    let mut bytes = room();
-    let got = read(&rt, b"bank_apply", &mut bytes);
-    if !got.is_there {
-        return Ok(());
-    }
-    let n = got.count;
-    print(&rt, apply_alone(&bytes[..n]))
+    answer_one(
+        &rt,
+        b"bank_apply",
+        &mut room(),
+        |plan| print(&rt, apply_alone(plan)),
+    )
 }

@@ -8,14 +8,13 @@ ghost use Rattle.rules.specs.Limits.{limits};
 ghost use Rattle.rules.specs.OwnedSizes.{longest_owned_size};
 
 use owned::{LONGEST_OWNED_PLAN, apply_alone};
-use plan_file::{arguments, print, read_at};
+use plan_file::{answer_each, print};
 use std::io;
-use std::rt::{Env, Files};
 
 // A byte more, by which a file that is longer than any plan shows.
 const BYTES_READ: usize = LONGEST_OWNED_PLAN + 1;
 
-// Room for the bytes that are read.
+// Room for the bytes that are read. bank_apply has the same: a crate above plan_file and owned for these lines alone would be no plainer.
 fn room() -> [u8; BYTES_READ]
     ensures { longest_owned_size limits + 1 ≡ length result }
 {
@@ -23,23 +22,10 @@ fn room() -> [u8; BYTES_READ]
 }
 
 fn main(rt: HostRuntime) -> io::Result<()> {
-    let mut bytes = room();
-    for k in 1..arguments(&rt, b"bank_apply_each") {
-        answer(&rt, k, &mut bytes)?;
-    }
-    Ok(())
-}
-
-// What the file that an argument names is answered.
-fn answer<R: Env + Files + Print + Eprint>(
-    rt: &R,
-    argument: usize,
-    bytes: &mut [u8],
-) -> io::Result<()> {
-    let got = read_at(rt, b"bank_apply_each", argument, bytes);
-    if !got.is_there {
-        return Ok(());
-    }
-    let n = got.count;
-    print(rt, apply_alone(&bytes[..n]))
+    answer_each(
+        &rt,
+        b"bank_apply_each",
+        &mut room(),
+        |plan| print(&rt, apply_alone(plan)),
+    )
 }

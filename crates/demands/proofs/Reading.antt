@@ -14,13 +14,14 @@ use Rattle.rules.specs.Sizes.{plan_size, requests_at}
 use Rattle.rules.proofs.Plan.{no_slack}
 use Rattle.rules.proofs.Sizes.{encoded_length}
 use Rattle.plan.specs.Read.{read_answer, stretch_of, records_in}
+use Rattle.plan.specs.Told.{answer_by}
 use Rattle.plan.proofs.Bases.{requests_same}
 use Rattle.demands.specs.Reading.{RequestsHandedBack}
 
 module _ (b : List ℕ) (p : Plan) (e : read_plan limits b ≡ got p []) where
   begins : records_in b ≡ drop (length b - length p.asked * request_size) b
-  unfolding read_answer stretch_of
-  begins = ap (λ (o : Out Plan). stretch_of (read_answer (length b) o).requests b) e
+  unfolding answer_by stretch_of
+  begins = ap (λ (o : Out Plan). stretch_of (read_answer (length b) o) b) e
 
   pub long : Bytes b → length b ≡ requests_at limits p + short_size + length p.asked * request_size
   unfolding plan_size
@@ -28,7 +29,7 @@ module _ (b : List ℕ) (p : Plan) (e : read_plan limits b ≡ got p []) where
       ap length (no_slack limits b p [] bytes e).0 ∙ encoded_length limits p ∙ omega arith
 
 pub requests_handed_back : RequestsHandedBack
-unfolding read_answer stretch_of
+unfolding answer_by stretch_of
 requests_handed_back = record {
   whole = λ b bytes p e.
       let n : length b ≡ requests_at limits p + short_size + length p.asked * request_size = long b p e bytes in
@@ -37,5 +38,5 @@ requests_handed_back = record {
         ap length (begins b p e) ∙ omega (arith, length-drop (length b - length p.asked * request_size) b),
         begins b p e ∙ ap (λ (i : ℕ). drop i b) at,
       );
-  refused = λ b k t e. ap (λ (o : Out Plan). stretch_of (read_answer (length b) o).requests b) e;
+  refused = λ b k t e. ap (λ (o : Out Plan). stretch_of (read_answer (length b) o) b) e;
 }

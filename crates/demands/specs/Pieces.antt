@@ -17,7 +17,7 @@ use Rattle.demands.specs.Following.{Code, Meets, made_in, state_in, Past, Follow
 
 -- what `receiver::take_piece` says of a piece call, at the receiver and the buffer that the call before left
 abbrev pub PieceCall : Receipt → List ℕ → ℕ → Receipt → Type 0
-PieceCall k p n j = TakesIn k.receiver k.buffer p (record { number = n; receiver = j.receiver }) j.buffer
+PieceCall k p n j = TakesIn k.receiver k.buffer p n j.receiver j.buffer
 
 -- the state s was lent with the bytes b: o was answered, and u lies there afterwards. The buffer is long enough and
 -- holds anything, as what pieces left in it before the power was lost; the receiver is empty

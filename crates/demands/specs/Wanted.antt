@@ -8,8 +8,7 @@ use Rattle.rules.specs.declared.Outcome.{Outcome}
 use Rattle.promises.specs.WantedPlans.{plan_to, Led}
 use Rattle.zones.specs.View.{stored_table}
 use Rattle.writer.specs.Writer.{lent_in, WritesIn}
-use Rattle.wanted.specs.Wanted.{ListsIn}
-use Rattle.wanted.specs.declared.Listing.{Listing}
+use Rattle.wanted.specs.Wanted.{ListsIn, Listing}
 
 -- the requests that a call of the list says stand in the buffer v
 abbrev pub requests_left : Listing → List ℕ → List ℕ

@@ -1,7 +1,6 @@
 // The check of the desk's configuration and each fault it can find, and the check of the desk's tables.
-use crate::given::{config, two_zones};
-use crate::report::{name, number, say, text};
-use rules::Checked;
+use crate::given::{Given, two_zones};
+use crate::report::{Name, say};
 use rules::limits::MOST_REGIONS;
 use std::io;
 use zones::{
@@ -10,63 +9,71 @@ use zones::{
 
 const ONE_TOO_MANY: u64 = MOST_REGIONS as u64 + 1;
 
-pub fn examples(rt: &impl Print) -> io::Result<()> {
-    check(rt, 4, 3, 0, b'A')?;
-    check(rt, 0, 3, 0, b'A')?;
-    check(rt, ONE_TOO_MANY, 3, 0, b'A')?;
-    check(rt, 4, 4, 0, b'A')?;
-    check(rt, 4, 3, 4, b'H')?;
-    check(rt, 4, 3, 2, b'H')?;
-    check(rt, 4, 3, 2, b'K')?;
-    check(rt, 4, 3, 2, b'X')?;
-    check(rt, 4, 3, 2, b'V')?;
-    check(rt, 4, 3, 2, b'W')?;
-    check(rt, 4, 3, 2, b'B')?;
-    let none = [0u64; TABLE_WORDS];
-    sound(rt, b"no zones", 4, Table { words: none })?;
-    zones(rt, 4, 5)?;
-    zones(rt, 0, 5)?;
-    zones(rt, 4, 6)?;
-    zones(rt, 4, 255)?;
-    zones(rt, 4, 256)
-}
+// How many are counted, the position of the GIC, another position and the region put there.
+const CHECKED: [(u64, u64, u8, u8); 11] = [
+    (4, 3, 0, b'A'),
+    (0, 3, 0, b'A'),
+    (ONE_TOO_MANY, 3, 0, b'A'),
+    (4, 4, 0, b'A'),
+    (4, 3, 4, b'H'),
+    (4, 3, 2, b'H'),
+    (4, 3, 2, b'K'),
+    (4, 3, 2, b'X'),
+    (4, 3, 2, b'V'),
+    (4, 3, 2, b'W'),
+    (4, 3, 2, b'B'),
+];
 
-// A, B, C and the GIC, so many counted, with the GIC at a position and a region put at another.
-fn check(rt: &impl Print, count: u64, gic: u64, position: usize, letter: u8) -> io::Result<()> {
-    text(rt, b"the check of")?;
-    number(rt, count)?;
-    text(rt, b" with the GIC at")?;
-    number(rt, gic)?;
-    text(rt, b" and")?;
-    name(rt, letter)?;
-    text(rt, b" at")?;
-    number(rt, position as u64)?;
-    text(rt, b":")?;
-    let words = config(count, gic, position, letter);
-    found(rt, check_config(Config { words }))
+pub fn examples(rt: &impl Print) -> io::Result<()> {
+    for (count, gic, position, letter) in CHECKED {
+        let given = Given {
+            count,
+            gic,
+            position,
+            letter,
+        };
+        check(rt, given)?;
+    }
+    let none = [0u64; TABLE_WORDS];
+    sound(rt, "no zones", 4, none)?;
+    for (configured, first) in [(4, 5), (0, 5), (4, 6), (4, 255), (4, 256)] {
+        zones(rt, configured, first)?;
+    }
+    Ok(())
 }
 
 // The number, the place and the earlier place that the check gives.
-fn found(rt: &impl Print, f: Checked) -> io::Result<()> {
-    number(rt, check_number(f) as u64)?;
-    number(rt, check_place(f) as u64)?;
-    number(rt, check_earlier(f) as u64)?;
-    text(rt, b"\n")
+fn check(rt: &impl Print, given: Given) -> io::Result<()> {
+    let words = given.words();
+    let found = check_config(Config { words });
+    println!(rt;
+        "the check of {} with the GIC at {} and {} at {}: {} {} {}",
+        given.count,
+        given.gic,
+        Name(given.letter),
+        given.position,
+        check_number(found),
+        check_place(found),
+        check_earlier(found)
+    )
 }
 
 // Two empty zones, the second of them 6.
 fn zones(rt: &impl Print, configured: u64, first: u64) -> io::Result<()> {
-    let words = two_zones(first);
-    text(rt, b"zones")?;
-    number(rt, first)?;
-    sound(rt, b" and 6", configured, Table { words })
+    print!(rt; "zones {first}")?;
+    sound(rt, " and 6", configured, two_zones(first))
 }
 
-fn sound(rt: &impl Print, asked: &[u8], configured: u64, t: Table) -> io::Result<()> {
-    let words = config(configured, 3, 0, b'A');
-    let holds = check_table(Config { words }, t);
-    text(rt, asked)?;
-    text(rt, b" under")?;
-    number(rt, configured)?;
-    say(rt, b" regions are sound", holds)
+fn sound(
+    rt: &impl Print,
+    asked: &str,
+    configured: u64,
+    words: [u64; TABLE_WORDS],
+) -> io::Result<()> {
+    let config = Config {
+        words: Given::plain(configured, 3).words(),
+    };
+    let holds = check_table(config, Table { words });
+    print!(rt; "{asked} under {configured}")?;
+    say(rt, " regions are sound", holds)
 }

@@ -1,100 +1,73 @@
 // What the program writes.
-ghost use Rattle.std.specs.Prelude.{◌+◌, ◌≤◌};
-ghost use Rattle.zones.specs.Layout.{table_words, set_words, zone_words, region_words};
-
 use crate::given::region;
-use rules::Region;
-use rules::limits::{MOST_IN_SET, MOST_ZONES};
-use std::io;
-use zones::{REGION_WORDS, SET_WORDS, TABLE_WORDS, zone_start};
-
-pub fn text(rt: &impl Print, t: &[u8]) -> io::Result<()> {
-    rt.write_all(t)
-}
-
-pub fn number(rt: &impl Print, n: u64) -> io::Result<()> {
-    print!(rt; " {n}")
-}
-
-fn hex(rt: &impl Print, name: &[u8], n: u64) -> io::Result<()> {
-    text(rt, name)?;
-    print!(rt; "{n:x}")
-}
+use std::{fmt, io};
+use zones::{REGION_WORDS, SET_WORDS, TABLE_WORDS, ZONE_WORDS};
 
 // What was asked, and whether it is so.
-pub fn say(rt: &impl Print, asked: &[u8], holds: bool) -> io::Result<()> {
-    text(rt, asked)?;
-    if holds {
-        text(rt, b": yes\n")
-    } else {
-        text(rt, b": no\n")
-    }
+pub fn say(rt: &impl Print, asked: &str, holds: bool) -> io::Result<()> {
+    let answer = if holds { "yes" } else { "no" };
+    println!(rt; "{asked}: {answer}")
 }
 
-fn numbers(rt: &impl Print, v: u64, p: u64, size: u64, rights: u64) -> io::Result<()> {
-    hex(rt, b" (v 0x", v)?;
-    hex(rt, b" p 0x", p)?;
-    hex(rt, b" size 0x", size)?;
-    text(rt, b" rights")?;
-    number(rt, rights)?;
-    text(rt, b")")
-}
+// A region by its letter, A to E or G, or else by its numbers.
+#[derive(Clone, Copy)]
+pub struct Name(pub u8);
 
-// A region: its letter, A to E or G, or else its numbers.
-pub fn name(rt: &impl Print, letter: u8) -> io::Result<()> {
-    match letter {
-        b'A'..=b'E' | b'G' => text(rt, &[b' ', letter]),
-        _ => of_numbers(rt, region(letter)),
-    }
-}
-
-fn of_numbers(rt: &impl Print, r: Region) -> io::Result<()> {
-    numbers(rt, r.v.0, r.p.0, r.size, r.rights.0)
-}
-
-// ---- tables, a line for each zone in order
-
-#[tactic(auto, using(crate::proofs::Zones::zone_within))]
-pub fn show_table(rt: &impl Print, t: &[u64; TABLE_WORDS]) -> io::Result<()> {
-    for z in 0..MOST_ZONES {
-        if (z as u64) < t[0] {
-            show_zone(rt, t, zone_start(z))?;
+impl fmt::Display for Name {
+    fn fmt<W: fmt::Write>(&self, f: &mut fmt::Formatter<W>) -> fmt::Result {
+        let letter = self.0;
+        match letter {
+            b'A'..=b'E' | b'G' => write!(f, "{}", letter as char),
+            _ => {
+                let r = region(letter);
+                write!(f, "{}", Record(&[r.v.0, r.p.0, r.size, r.rights.0]))
+            }
         }
     }
-    Ok(())
 }
 
-// The zone whose id stands at word b.
-fn show_zone(rt: &impl Print, t: &[u64; TABLE_WORDS], b: usize) -> io::Result<()>
-    requires { b + zone_words ≤ table_words }
-{
-    text(rt, b"    zone")?;
-    number(rt, t[b])?;
-    text(rt, b": CPU")?;
-    show_set(rt, t, b + 1)?;
-    text(rt, b"; IOMMU")?;
-    show_set(rt, t, b + 1 + SET_WORDS)?;
-    text(rt, b"\n")
-}
+// The numbers of a region.
+#[derive(Clone, Copy)]
+struct Record<'a>(&'a [u64; REGION_WORDS]);
 
-// The set whose count stands at word b.
-fn show_set(rt: &impl Print, t: &[u64; TABLE_WORDS], b: usize) -> io::Result<()>
-    requires { b + set_words ≤ table_words }
-{
-    if t[b] == 0 {
-        text(rt, b" none")?;
+impl fmt::Display for Record<'_> {
+    fn fmt<W: fmt::Write>(&self, f: &mut fmt::Formatter<W>) -> fmt::Result {
+        let [v, p, size, rights] = self.0;
+        write!(f, "(v 0x{v:x} p 0x{p:x} size 0x{size:x} rights {rights})")
     }
-    for i in 0..MOST_IN_SET {
-        if (i as u64) < t[b] {
-            show_region(rt, t, b + 1 + i * REGION_WORDS)?;
+}
+
+// The regions of a set, whose words are their count and then the records.
+#[derive(Clone, Copy)]
+struct Set<'a>(&'a [u64]);
+
+impl fmt::Display for Set<'_> {
+    fn fmt<W: fmt::Write>(&self, f: &mut fmt::Formatter<W>) -> fmt::Result {
+        let Some((count, records)) = self.0.split_first() else {
+            return Ok(());
+        };
+        if *count == 0 {
+            return f.write_str(" none");
         }
+        let (records, _) = records.as_chunks::<REGION_WORDS>();
+        for record in records.iter().take(*count as usize) {
+            write!(f, " {}", Record(record))?;
+        }
+        Ok(())
     }
-    Ok(())
 }
 
-// The region whose record starts at word k.
-fn show_region(rt: &impl Print, t: &[u64; TABLE_WORDS], k: usize) -> io::Result<()>
-    requires { k + region_words ≤ table_words }
-{
-    numbers(rt, t[k], t[k + 1], t[k + 2], t[k + 3])
+// A table, a line for each zone in order: its id and its two sets.
+pub fn show_table(rt: &impl Print, table: &[u64; TABLE_WORDS]) -> io::Result<()> {
+    let (zones, _) = table[1..].as_chunks::<ZONE_WORDS>();
+    for zone in zones.iter().take(table[0] as usize) {
+        let (cpu, iommu) = zone[1..].split_at(SET_WORDS);
+        println!(rt;
+            "    zone {}: CPU{}; IOMMU{}",
+            zone[0],
+            Set(cpu),
+            Set(iommu)
+        )?;
+    }
+    Ok(())
 }

@@ -10,31 +10,23 @@ use std::io;
 
 fn main(rt: HostRuntime) -> io::Result<()> {
     println!(rt; "A region: is it well formed, is it in reach?")?;
-    alone(&rt, b"AFHIJKLXVZWST")?;
+    for letter in b"AFHIJKLXVZWST" {
+        ask(&rt, *letter)?;
+    }
     println!(rt;
         "Two regions: are they equal, do they overlap physically, do they in guest addresses?"
     )?;
-    pairs(&rt)
-}
-
-fn pairs(rt: &impl Print) -> io::Result<()> {
-    beside(rt, b'A', b"ABUYCG")?;
-    beside(rt, b'C', b"A")?;
-    beside(rt, b'G', b"G")?;
-    beside(rt, b'M', b"ONPQR")
-}
-
-fn alone(rt: &impl Print, letters: &[u8]) -> io::Result<()> {
-    for letter in letters {
-        ask(rt, *letter)?;
-    }
-    Ok(())
+    beside(&rt, b'A', b"ABUYCG")?;
+    beside(&rt, b'C', b"A")?;
+    beside(&rt, b'G', b"G")?;
+    beside(&rt, b'M', b"ONPQR")
 }
 
 fn ask(rt: &impl Print, letter: u8) -> io::Result<()> {
-    let formed = said(well_formed(region(letter)));
-    let reached = said(in_reach(region(letter)));
+    let r = region(letter);
     let name = letter as char;
+    let formed = said(well_formed(r));
+    let reached = said(in_reach(r));
     println!(rt; "{name} {formed} {reached}")
 }
 
@@ -47,11 +39,13 @@ fn beside(rt: &impl Print, one: u8, others: &[u8]) -> io::Result<()> {
 }
 
 fn ask_both(rt: &impl Print, one: u8, other: u8) -> io::Result<()> {
-    let equal = said(region_eq(region(one), region(other)));
-    let phys = said(phys_overlap(region(one), region(other)));
-    let guest = said(guest_overlap(region(one), region(other)));
+    let r = region(one);
+    let s = region(other);
     let name = one as char;
     let name_beside = other as char;
+    let equal = said(region_eq(r, s));
+    let phys = said(phys_overlap(r, s));
+    let guest = said(guest_overlap(r, s));
     println!(rt; "{name} {name_beside} {equal} {phys} {guest}")
 }
 

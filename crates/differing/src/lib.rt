@@ -6,6 +6,7 @@ ghost use Rattle.lists.specs.Alike.{alike};
 ghost use Rattle.rules.specs.Differing.{lacking_part};
 
 // The part of the first stretch from the first place where the second lacks the same byte.
+#[tactic(auto, unfolding(rules::specs::Differing::lacking_part))]
 pub fn lacking_part<'a>(first: &'a [u8], second: &[u8]) -> &'a [u8]
     ensures { result.now ≡ lacking_part first.now second.now }
 {
@@ -17,15 +18,9 @@ pub fn lacking_part<'a>(first: &'a [u8], second: &[u8]) -> &'a [u8]
 fn alike(first: &[u8], second: &[u8]) -> usize
     ensures { (result ≡ alike first.now second.now) × (result ≤ length first.now) }
 {
-    let mut i = 0;
-    while i < first.len() {
-        if i >= second.len() {
-            return i;
-        }
-        if first[i] != second[i] {
-            return i;
-        }
-        i += 1;
-    }
-    i
+    first
+        .iter()
+        .zip(second)
+        .take_while(|(one, other)| one == other)
+        .count()
 }

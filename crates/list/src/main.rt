@@ -3,17 +3,11 @@
 #![tactic(auto)]
 
 use listing::{LONGEST_LISTING, list_alone};
-use plan_file::{print, read, room};
+use plan_file::{answer_one, print, room};
 use std::io;
 
 fn main(rt: HostRuntime) -> io::Result<()> {
-    let mut bytes = room();
-    let got = read(&rt, b"list", &mut bytes);
-    if !got.is_there {
-        return Ok(());
-    }
-    let n = got.count;
-    list(&rt, &bytes[..n])
+    answer_one(&rt, b"list", &mut room(), |plan| list(&rt, plan))
 }
 
 fn list(rt: &impl Print, plan: &[u8]) -> io::Result<()> {
@@ -26,6 +20,5 @@ fn list_into(rt: &impl Print, plan: &[u8], text: &mut [u8]) -> io::Result<()> {
     if outcome.number != 0 {
         return print(rt, outcome);
     }
-    let length = outcome.place;
-    rt.write_all(&text[..length])
+    rt.write_all(&text[..outcome.place])
 }

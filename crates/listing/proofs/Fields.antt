@@ -15,14 +15,15 @@ use mir.Val.{to_z, of_z}
 use Rattle.lists.specs.Bytes.{bytes_of}
 use Rattle.formats.specs.Texts.{ascii, glyph, digits, width, decimal, signed, hex}
 use Rattle.formats.proofs.Texts.{length_digits, width_fits, width_only, decimal_width, decimal_length}
-use Rattle.puts.specs.Puts.{put_at, Put}
-use Rattle.puts.proofs.Puts.{put_both, puts_both}
+use Rattle.puts.specs.Pens.{Wrote}
+use Rattle.puts.specs.Puts.{put_at}
+use Rattle.puts.specs.declared.pen.Pen.{Pen}
+use Rattle.puts.proofs.Pens.{wrote_as, wrote_both}
+use Rattle.puts.proofs.Puts.{put_both}
 use Rattle.rules.specs.Listing.{side_word}
 use Rattle.rules.specs.declared.Side.{Side}
 use Rattle.rules.specs.declared.Side.TheVariants.{Cpu, Iommu}
-use Rattle.listing.specs.Lines.{number_of, Near}
-use Rattle.listing.specs.declared.text.Base.{Base}
-use Rattle.listing.specs.declared.text.Base.TheVariants.{Ten, Sixteen}
+use Rattle.listing.specs.Lines.{Near}
 use Rattle.listing.proofs.Signed.{at_least, below_zero}
 
 -- ---- digits, the last first
@@ -41,27 +42,35 @@ put_later (x ∷ b) s at j y h =
     ap (λ (l : List ℕ). sets l (suc at) b) (set_later s at j x y (omega arith))
     ∙ put_later b (set s at x) (suc at) j y (omega arith)
 
--- the loop: r is what all digits leave; d is the last, m what is left of the number, and u the bytes with d
-pub digits_on : (β at left rest : ℕ) (s r : List ℕ) → put_at at (digits β left rest) s ≡ r → 0 < left
-    → (d m : ℕ) (u : List ℕ) → d ≡ glyph (rest % β) → m ≡ rest / β → u ≡ put_at (at + (left - 1)) (d ∷ []) s
-    → put_at at (digits β (left - 1) m) u ≡ r
+-- the loop: r is what all digits leave; d is the last, and u the bytes with d
+digit_on : (β at left rest : ℕ) (s r : List ℕ) → put_at at (digits β left rest) s ≡ r → 0 < left
+    → (d : ℕ) (u : List ℕ) → d ≡ glyph (rest % β) → u ≡ put_at (at + (left - 1)) (d ∷ []) s
+    → put_at at (digits β (left - 1) (rest / β)) u ≡ r
 unfolding digits put_at
-digits_on β at zero rest s r inv h d m u ed em eu = absurd (omega arith)
-digits_on β at (suc k) rest s r inv h d m u ed em eu =
+digit_on β at zero rest s r inv h d u ed eu = absurd (omega arith)
+digit_on β at (suc k) rest s r inv h d u ed eu =
     let e : suc k - 1 ≡ k = omega arith in
     let n : length (digits β k (rest / β)) ≡ k = length_digits β k (rest / β) in
     let p : at + (suc k - 1) ≡ at + length (digits β k (rest / β)) = omega arith in
-    ap₂ (λ (j : ℕ) (l : List ℕ). sets l at (digits β (suc k - 1) j)) em eu
+    ap (λ (l : List ℕ). sets l at (digits β (suc k - 1) (rest / β))) eu
     ∙ ap (λ (x : ℕ). sets (set s (at + (suc k - 1)) x) at (digits β (suc k - 1) (rest / β))) ed
     ∙ ap₂ (λ (i j : ℕ). sets (set s j (glyph (rest % β))) at (digits β i (rest / β))) e p
     ∙ put_later (digits β k (rest / β)) s at (at + length (digits β k (rest / β))) (glyph (rest % β)) (omega arith)
     ∙ put_both at (digits β k (rest / β)) (glyph (rest % β) ∷ []) s
     ∙ inv
 
-pub digits_end : (β at left rest : ℕ) (s r : List ℕ) → put_at at (digits β left rest) s ≡ r → left ≤ 0 → s ≡ r
+pub digits_on : (β at k i rest : ℕ) (s r : List ℕ) → put_at at (digits β (k - i) rest) s ≡ r → i < k
+    → (d : ℕ) (u : List ℕ) → d ≡ glyph (rest % β) → u ≡ put_at (at + (k - i - 1)) (d ∷ []) s
+    → put_at at (digits β (k - (i + 1)) (rest / β)) u ≡ r
+digits_on β at k i rest s r inv h d u ed eu =
+    let e : k - (i + 1) ≡ k - i - 1 = omega arith in
+    ap (λ (j : ℕ). put_at at (digits β j (rest / β)) u) e
+    ∙ digit_on β at (k - i) rest s r inv (omega arith) d u ed eu
+
+pub digits_end : (β at k i rest : ℕ) (s r : List ℕ) → put_at at (digits β (k - i) rest) s ≡ r → k ≤ i → s ≡ r
 unfolding digits put_at
-digits_end β at zero rest s r inv h = inv
-digits_end β at (suc k) rest s r inv h = absurd (omega arith)
+digits_end β at k i rest s r inv h =
+    let e : k - i ≡ 0 = omega arith in sym (ap (λ (j : ℕ). put_at at (digits β j rest) s) e) ∙ inv
 
 pub low_glyph : (d : ℕ) → d < 10 → 48 + d ≡ glyph d
 unfolding glyph
@@ -119,75 +128,45 @@ width_few n h = omega (arith, decimal_width n, decimal_length n 20 (omega arith)
 pub counted_few : (n k rest : ℕ) → n < 2 ^ 64 → k + width rest ≡ suc (width n) → 10 ≤ rest → k + 1 ≤ 20
 counted_few n k rest h inv l = omega (arith, width_few n h, more_width rest l, some_width (rest / 10))
 
--- ---- a word, and what stands after it
-pub word_put : (s u v b : List ℕ) (at end : ℕ) → u ≡ put_at at b s → v ≡ put_at (at + length b) (end ∷ []) u
-    → Put s at (b ++ (end ∷ [])) v (at + length b + 1)
-word_put s u v b at end eu ev =
-    puts_both s u v at (at + length b) (at + length b + 1) b (end ∷ []) (record { bytes = eu; end = refl })
-    (record { bytes = ev; end = omega arith })
+-- ---- a number, and what stands after it: the pen stands behind the digits when that is put
+pub number_put : (β k n end : ℕ) (p m q : Pen) → m.bytes.ghost_name ≡ p.bytes.ghost_name
+    → m.bytes.now ≡ put_at p.at (digits β k n) p.bytes.now → m.at ≡ p.at + k → Wrote m q (end ∷ [])
+    → Wrote p q (digits β k n ++ (end ∷ []))
+number_put β k n end p m q same eu em w =
+    wrote_both p m q _ _
+    (record { same = same; put = record { bytes = eu; end = em ∙ ap (λ (j : ℕ). p.at + j) (sym (length_digits β k n)) } }) w
 
--- ---- a number
-pub number_put : (β k n : ℕ) (s u v : List ℕ) (at end : ℕ) → u ≡ put_at at (digits β k n) s
-    → v ≡ put_at (at + k) (end ∷ []) u → Put s at (digits β k n ++ (end ∷ [])) v (at + k + 1)
-number_put β k n s u v at end eu ev =
-    let l : at + length (digits β k n) ≡ at + k = omega (arith, length_digits β k n) in
-    subst (λ (d : ℕ). Put s at (digits β k n ++ (end ∷ [])) v (d + 1)) l
-    (word_put s u v (digits β k n) at end eu (subst (λ (d : ℕ). v ≡ put_at d (end ∷ []) u) (sym l) ev))
+pub decimal_put : (n k end : ℕ) (p q : Pen) → k ≡ width n → Wrote p q (digits 10 k n ++ (end ∷ []))
+    → Wrote p q (decimal n ++ (end ∷ []))
+unfolding decimal
+decimal_put n k end p q e w = wrote_as p q _ _ (ap (λ (j : ℕ). digits 10 j n ++ (end ∷ [])) e) w
 
-pub decimal_put : (n k : ℕ) (s v : List ℕ) (at end d : ℕ) → k ≡ width n
-    → Put s at (digits (number_of Ten) k n ++ (end ∷ [])) v d → Put s at (decimal n ++ (end ∷ [])) v d
-unfolding decimal number_of
-decimal_put n k s v at end d e p = subst (λ (j : ℕ). Put s at (digits 10 j n ++ (end ∷ [])) v d) e p
-
-pub hex_put : (n : ℕ) (s u v : List ℕ) (at d : ℕ) → u ≡ put_at at (48 ∷ 120 ∷ []) s
-    → Put u (at + 2) (digits (number_of Sixteen) 16 n ++ (32 ∷ [])) v d → Put s at (hex n ++ (32 ∷ [])) v d
-unfolding hex number_of
-hex_put n s u v at d eu p =
-    puts_both s u v at (at + 2) d (48 ∷ 120 ∷ []) (digits 16 16 n ++ (32 ∷ []))
-    (record { bytes = eu; end = omega arith }) p
+pub hex_put : (n : ℕ) (p q r : Pen) → Wrote p q (48 ∷ 120 ∷ []) → Wrote q r (digits 16 16 n ++ (32 ∷ []))
+    → Wrote p r (hex n ++ (32 ∷ []))
+unfolding hex
+hex_put n p q r a b = wrote_both p q r (48 ∷ 120 ∷ []) (digits 16 16 n ++ (32 ∷ [])) a b
 
 -- ---- the word of a side, four bytes of it as a number
-module _ (s u : List ℕ) (at : ℕ) (side : Side) where
-  pub cpu_put : side ≡ Cpu → u ≡ put_at at (bytes_of 4 0x20555043) s → Put s at (side_word side ++ (32 ∷ [])) u (at + 4)
+module _ (p q : Pen) (side : Side) where
+  pub cpu_put : side ≡ Cpu → Wrote p q (bytes_of 4 0x20555043) → Wrote p q (side_word side ++ (32 ∷ []))
   unfolding side_word ascii bytes_of
-  cpu_put e eu =
-      subst (λ (x : Side). Put s at (side_word x ++ (32 ∷ [])) u (at + 4)) (sym e)
-      (record { bytes = eu; end = omega arith })
+  cpu_put e w = subst (λ (x : Side). Wrote p q (side_word x ++ (32 ∷ []))) (sym e) w
 
-  pub iommu_put : side ≡ Iommu → u ≡ put_at at (bytes_of 4 0x4d4d4f49) s → (v : List ℕ)
-      → v ≡ put_at (at + 4) (85 ∷ 32 ∷ []) u → Put s at (side_word side ++ (32 ∷ [])) v (at + 6)
+  pub iommu_put : side ≡ Iommu → (m : Pen) → Wrote p m (bytes_of 4 0x4d4d4f49) → Wrote m q (85 ∷ 32 ∷ [])
+      → Wrote p q (side_word side ++ (32 ∷ []))
   unfolding side_word ascii bytes_of
-  iommu_put e eu v ev =
-      subst (λ (x : Side). Put s at (side_word x ++ (32 ∷ [])) v (at + 6)) (sym e)
-      (puts_both s u v at (at + 4) (at + 6) (bytes_of 4 0x4d4d4f49) (85 ∷ 32 ∷ [])
-      (record { bytes = eu; end = omega arith }) (record { bytes = ev; end = omega arith }))
+  iommu_put e m a b =
+      subst (λ (x : Side). Wrote p q (side_word x ++ (32 ∷ []))) (sym e)
+      (wrote_both p m q (bytes_of 4 0x4d4d4f49) (85 ∷ 32 ∷ []) a b)
 
 -- ---- a number with its sign
-module _ (n : ℤ) (near : Near n) (s v : List ℕ) (at d : ℕ) where
-  pub below_put : lt_z (to_z w64 (of_z w64 n)) (pos 0) ≡ true → (u : List ℕ) → u ≡ put_at at (45 ∷ []) s
-      → Put u (at + 1) (decimal (nat_abs (to_z w64 (of_z w64 (pos 0 -ℤ to_z w64 (of_z w64 n))))) ++ (10 ∷ [])) v d
-      → Put s at (signed n ++ (10 ∷ [])) v d
-  below_put t u eu p =
-      let r = puts_both s u v at (at + 1) d (45 ∷ []) _ (record { bytes = eu; end = omega arith }) p in
-      subst (λ (b : List ℕ). Put s at (b ++ (10 ∷ [])) v d) (sym (below_zero n near t)) r
+module _ (n : ℤ) (near : Near n) (p q : Pen) where
+  pub below_put : lt_z (to_z w64 (of_z w64 n)) (pos 0) ≡ true → (m : Pen) → Wrote p m (45 ∷ [])
+      → Wrote m q (decimal (nat_abs (to_z w64 (of_z w64 (pos 0 -ℤ to_z w64 (of_z w64 n))))) ++ (10 ∷ []))
+      → Wrote p q (signed n ++ (10 ∷ []))
+  below_put t m a b =
+      wrote_as p q _ _ (ap (λ (l : List ℕ). l ++ (10 ∷ [])) (sym (below_zero n near t))) (wrote_both p m q (45 ∷ []) _ a b)
 
   pub above_put : lt_z (to_z w64 (of_z w64 n)) (pos 0) ≡ false
-      → Put s at (decimal (nat_abs (to_z w64 (of_z w64 n))) ++ (10 ∷ [])) v d → Put s at (signed n ++ (10 ∷ [])) v d
-  above_put t p = subst (λ (b : List ℕ). Put s at (b ++ (10 ∷ [])) v d) (sym (at_least n near t)) p
-
--- ---- by the base
-pub ten_last : (n d : ℕ) (base : Base) → base ≡ Ten → d ≡ glyph (n % 10) → d ≡ glyph (n % number_of base)
-unfolding number_of
-ten_last n d base e h = h ∙ sym (ap (λ (x : Base). glyph (n % number_of x)) e)
-
-pub sixteen_last : (n d : ℕ) (base : Base) → base ≡ Sixteen → d ≡ glyph (n % 16) → d ≡ glyph (n % number_of base)
-unfolding number_of
-sixteen_last n d base e h = h ∙ sym (ap (λ (x : Base). glyph (n % number_of x)) e)
-
-pub ten_rest : (n : ℕ) (base : Base) → base ≡ Ten → n / 10 ≡ n / number_of base
-unfolding number_of
-ten_rest n base e = sym (ap (λ (x : Base). n / number_of x) e)
-
-pub sixteen_rest : (n : ℕ) (base : Base) → base ≡ Sixteen → n / 16 ≡ n / number_of base
-unfolding number_of
-sixteen_rest n base e = sym (ap (λ (x : Base). n / number_of x) e)
+      → Wrote p q (decimal (nat_abs (to_z w64 (of_z w64 n))) ++ (10 ∷ [])) → Wrote p q (signed n ++ (10 ∷ []))
+  above_put t a = wrote_as p q _ _ (ap (λ (l : List ℕ). l ++ (10 ∷ [])) (sym (at_least n near t))) a

@@ -1,10 +1,9 @@
 -- The library's answer is 1 or 2, or what filling gives; the program's is the plan's, or the library's at what it
 -- leaves.
-use Prim.Native.Nat.{ℕ, ◌+◌, ◌-◌, ◌*◌}
-use native.Mathlib.Omega.{arith}
+use Prim.Native.Nat.{ℕ, ◌+◌}
 use mathlib.Core.Bool.{Bool, cond}
 use mathlib.Core.List.{List, []}
-use mathlib.Core.Path.{◌≡◌, refl, sym, ap, ap₂, ◌∙◌}
+use mathlib.Core.Path.{◌≡◌, refl, sym, ap, ◌∙◌}
 use borrow.Author.Tests.{eq-eqb, ne_eqb}
 use lib.ListN.{length}
 use Rattle.formats.specs.Formats.{Out, got, bad}
@@ -14,7 +13,6 @@ use Rattle.rules.specs.Limits.{limits}
 use Rattle.rules.specs.Listing.{listing, list, list_after, list_read, list_alone}
 use Rattle.rules.specs.Plan.{read_plan, Plan}
 use Rattle.rules.specs.Requests.{standing}
-use Rattle.rules.specs.Run.{request_size}
 use Rattle.rules.specs.Tables.{table_of, Zone}
 use Rattle.rules.specs.declared.Outcome.{Outcome}
 use Rattle.zones.specs.Kept.{Stands}
@@ -23,9 +21,10 @@ use Rattle.zones.proofs.Spelling.{config_view, table_view}
 use Rattle.zones.proofs.Stepping.{stands_same}
 use Rattle.plan.specs.Applying.{terminal_in, in_words, applied, state_in, AppliedIn}
 use Rattle.plan.specs.Read.{read_answer}
+use Rattle.plan.specs.Told.{Told, answer_by}
+use Rattle.std.specs.Prelude.{Ok, Err}
 use Rattle.plan.specs.declared.applying.State.{State}
 use Rattle.plan.specs.declared.read.Read.{Read}
-use Rattle.plan.specs.declared.words.Section.TheVariants.{End, Bad}
 use Rattle.plan.proofs.Deliveries.{apply_is_faithful}
 use Rattle.plan.proofs.Outcomes.{value_accepted}
 use Rattle.writer.proofs.Filling.{filled_with, own_refused, own_passed}
@@ -88,47 +87,42 @@ module _ (c t : List ℕ) (e : ℕ) (b w : List ℕ) (o : Outcome) (u : List ℕ
         f ∙ ap (λ (x : Terminal). list limits x.config x.table w) left
         ∙ sym (ap after (eq-eqb told.outcome.number 0 (sym (ap (λ (x : Outcome). x.number) answered) ∙ z)))
 
--- ---- a plan at its own base: r is what was read of it
-module _ (b w : List ℕ) (r : Read) (er : r ≡ read_answer (length b) (read_plan limits b)) where
-  read_as_law : (o : Out Plan) → read_plan limits b ≡ o → r.requests ≡ (read_answer (length b) o).requests
-  read_as_law o e = ap (λ (x : Read). x.requests) (er ∙ ap (read_answer (length b)) e)
-
-  pub alone_away : (k a : ℕ) → r.requests ≡ Bad k a
+-- ---- a plan at its own base, by what was read of it
+module _ (b w : List ℕ) where
+  pub alone_away : (k a : ℕ) → ◌≡◌ {A = Told Read} (Err (k, a)) (read_answer (length b) (read_plan limits b))
       → filled_with (record { number = k; place = a; inner = 0 }) w ≡ list_alone limits b w
-  unfolding read_answer list_read
-  alone_away k a f = by (read_plan limits b) refl
+  unfolding answer_by list_read
+  alone_away k a f = by (read_plan limits b) f
     where
-      by : (o : Out Plan) → read_plan limits b ≡ o
-          → filled_with (record { number = k; place = a; inner = 0 }) w ≡ list_read limits b w o
-      by (got p t) e =
-          absurd (let q : End (length b - length p.asked * request_size) ≡ Bad k a = sym (read_as_law (got p t) e) ∙ f in
-          let z : ◌≡◌ {A = ℕ} 0 1 = cc in
-          omega arith)
-      by (bad j t) e =
-          let q : Bad j (length b - length t) ≡ Bad k a = sym (read_as_law (bad j t) e) ∙ f in
-          let m : k ≡ j = cc in
-          let n : a ≡ length b - length t = cc in
-          ap₂ (λ (i x : ℕ). filled_with (plain i x) w) m n
+      turned : Told Read → ℕ × ℕ
+      turned (Ok x) = (k, a)
+      turned (Err x) = x
 
-  pub alone_listed : (a : ℕ) → r.requests ≡ End a → (o : Outcome) (v : List ℕ)
+      by : (o : Out Plan) → ◌≡◌ {A = Told Read} (Err (k, a)) (read_answer (length b) o)
+          → filled_with (record { number = k; place = a; inner = 0 }) w ≡ list_read limits b w o
+      by (got p t) e = absurd (cc)
+      by (bad j t) e = ap (λ (x : Told Read). filled_with (plain (turned x).0 (turned x).1) w) e
+
+  pub alone_listed : (r : Read) → ◌≡◌ {A = Told Read} (Ok r) (read_answer (length b) (read_plan limits b))
+      → (o : Outcome) (v : List ℕ)
       → filled_with o v
       ≡ list_after limits (apply limits (terminal_in (state_in r.config.words r.table.words r.edition)) b) w
       → filled_with o v ≡ list_alone limits b w
-  unfolding read_answer list_read
-  alone_listed a f o v h = by (read_plan limits b) refl
+  unfolding answer_by list_read
+  alone_listed r f o v h = by (read_plan limits b) f
     where
-      by : (x : Out Plan) → read_plan limits b ≡ x → filled_with o v ≡ list_read limits b w x
+      there : Told Read → Read
+      there (Ok x) = x
+      there (Err x) = r
+
+      by : (x : Out Plan) → ◌≡◌ {A = Told Read} (Ok r) (read_answer (length b) x) → filled_with o v ≡ list_read limits b w x
       by (got p t) e =
-          let q : r ≡ read_answer (length b) (got p t) = er ∙ ap (read_answer (length b)) e in
           let base : terminal_in (state_in r.config.words r.table.words r.edition) ≡ base_of limits p =
-          ap (λ (x : Read). terminal_in (state_in x.config.words x.table.words x.edition)) q
+          ap (λ (x : Told Read). terminal_in (state_in (there x).config.words (there x).table.words (there x).edition)) e
           ∙ (λ i. record {
             config = config_view (record { regions = p.regions; gic = p.marks.gic }) i;
             table = table_view p.zones i;
             edition = p.marks.edition;
           }) in
           h ∙ ap (λ (x : Terminal). list_after limits (apply limits x b) w) base
-      by (bad j t) e =
-          absurd (let q : Bad j (length b - length t) ≡ End a = sym (read_as_law (bad j t) e) ∙ f in
-          let z : ◌≡◌ {A = ℕ} 0 1 = cc in
-          omega arith)
+      by (bad j t) e = absurd (cc)

@@ -8,13 +8,6 @@ use Rattle.rules.specs.declared.Region.{Region}
 use Rattle.rules.specs.declared.Side.TheVariants.{Cpu, Iommu}
 use Rattle.zones.specs.Layout.{set_words}
 use Rattle.zones.specs.Records.{records_at}
-use Rattle.listing.specs.declared.text.Base.{Base}
-use Rattle.listing.specs.declared.text.Base.TheVariants.{Ten, Sixteen}
-
--- the number of a base
-unfoldable pub number_of : Base → ℕ
-number_of Ten = 10
-number_of Sixteen = 16
 
 -- a number of pages by which two addresses can lie apart: up to 2^52 either way
 abbrev pub Near : ℤ → Type 0
@@ -32,8 +25,8 @@ number_fields r =
 -- the lines of the zone whose id stands in word k
 unfoldable pub lines_at : List ℕ → ℕ → List ℕ
 lines_at w k =
-    set_lines limits (get_or w k 0) Cpu (records_at w (k + 2) (get_or w (k + 1) 0))
-    ++ set_lines limits (get_or w k 0) Iommu (records_at w (k + 2 + set_words) (get_or w (k + 1 + set_words) 0))
+    set_lines limits (get_or w k 0) Cpu (records_at w (k + 1 + 1) (get_or w (k + 1) 0))
+    ++ set_lines limits (get_or w k 0) Iommu (records_at w (k + 1 + set_words + 1) (get_or w (k + 1 + set_words) 0))
 
 -- a line of any words: two numbers of up to 20 digits, a word of 5, three of 18, a shift of 21, and what stands after
 -- each

@@ -5,21 +5,19 @@ mod lines;
 mod size;
 mod text;
 
-ghost use Rattle.std.specs.Prelude.{[], ◌≡◌};
-ghost use Rattle.rules.specs.Filling.{filling};
+ghost use Rattle.std.specs.Prelude.{◌≡◌};
 ghost use Rattle.rules.specs.Limits.{limits};
-ghost use Rattle.rules.specs.Listing.{list, list_alone, list_after, listing};
+ghost use Rattle.rules.specs.Listing.{list, list_alone, list_after};
 ghost use Rattle.plan.specs.Applying.{terminal_in, state_in};
 ghost use Rattle.rules.specs.Applying.{apply};
-ghost use Rattle.writer.specs.Writer.{TableFits};
-ghost use Rattle.zones.specs.View.{stored_config, stored_table, zones_in};
+ghost use Rattle.zones.specs.View.{stored_config, stored_table};
 
 use crate::lines::put_listing;
-use plan::{Section, apply_words, read_plan};
+use plan::{apply_words, read_plan};
 use rules::Outcome;
-use rules::numbers::BUFFER_SHORT;
 pub use size::LONGEST_LISTING;
-use zones::{CONFIG_WORDS, TABLE_WORDS, count_words, standing};
+use writer::fill_buffer;
+use zones::{CONFIG_WORDS, TABLE_WORDS, standing};
 
 // A refusal changes no byte of the buffer.
 pub fn list_table(
@@ -29,53 +27,19 @@ pub fn list_table(
 ) -> Outcome
     ensures { record { outcome = result; buffer = buffer.new } ≡ list limits (stored_config config.now) (stored_table table.now) buffer.old }
 {
-    let own = standing(config, table);
-    if own != 0 {
-        return Outcome {
-            number: own,
-            place: 0,
-            inner: 0,
-        };
+    if let Err(why) = standing(config, table) {
+        return Outcome::refused(why, 0);
     }
-    let width = count_words(table);
-    fill(table, buffer)
-}
-
-// Measure, then fill: the listing is put where there is no room for it, which says how long it is, and then into the buffer.
-fn fill(table: &[u64], buffer: &mut [u8]) -> Outcome
-    requires { TableFits table.now }
-    ensures { record { outcome = result; buffer = buffer.new } ≡ filling [] (listing limits (zones_in table.now)) buffer.old }
-{
-    let mut nowhere = [0u8; 0];
-    let length = put_listing(&mut nowhere, table);
-    if buffer.len() < length {
-        return Outcome {
-            number: BUFFER_SHORT,
-            place: 0,
-            inner: 0,
-        };
-    }
-    let end = put_listing(buffer, table);
-    Outcome {
-        number: 0,
-        place: length,
-        inner: 0,
-    }
+    fill_buffer(|b| put_listing(b, table), buffer)
 }
 
 // For a program without a terminal: the plan is applied to its own configuration, edition and zones, and what it leaves is listed.
 pub fn list_alone(plan: &[u8], buffer: &mut [u8]) -> Outcome
     ensures { record { outcome = result; buffer = buffer.new } ≡ list_alone limits plan.now buffer.old }
 {
-    let read = read_plan(plan);
-    let section = read.requests;
-    match section {
-        Section::Bad { number, at } => Outcome {
-            number,
-            place: at,
-            inner: 0,
-        },
-        Section::End(_) => {
+    match read_plan(plan) {
+        Err(refused) => Outcome::refused(refused.why, refused.at),
+        Ok(read) => {
             let config = read.config.words;
             let mut table = read.table.words;
             list_after(&config, &mut table, read.edition, plan, buffer)

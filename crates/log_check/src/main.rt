@@ -3,7 +3,7 @@
 #![tactic(auto)]
 
 use logs::{LONGEST_LOG, check_log};
-use plan_file::read;
+use plan_file::{Line, answer_one};
 use rules::LogAnswer;
 use std::io;
 use zones::{CONFIG_WORDS, TABLE_WORDS};
@@ -12,13 +12,10 @@ use zones::{CONFIG_WORDS, TABLE_WORDS};
 const BYTES_READ: usize = LONGEST_LOG + 1;
 
 fn main(rt: HostRuntime) -> io::Result<()> {
-    let mut bytes = [0u8; BYTES_READ];
-    let got = read(&rt, b"log", &mut bytes);
-    if !got.is_there {
-        return Ok(());
-    }
-    let n = got.count;
-    print(&rt, check(&bytes[..n]))
+    answer_one(&rt, b"log", &mut [0; BYTES_READ], |log| {
+        let LogAnswer { outcome, claimed } = check(log);
+        println!(rt; "{} {claimed}", Line(outcome))
+    })
 }
 
 // The end zones are as long as those of a log can be, and nobody reads them here.
@@ -27,12 +24,4 @@ fn check(log: &[u8]) -> LogAnswer {
     let mut table = [0u64; TABLE_WORDS];
     let mut zones = [0u8; LONGEST_LOG];
     check_log(&mut config, &mut table, log, &mut zones)
-}
-
-fn print(rt: &impl Print, answer: LogAnswer) -> io::Result<()> {
-    let outcome = answer.outcome;
-    println!(rt;
-        "{} {} {} {}",
-        outcome.number, outcome.place, outcome.inner, answer.claimed
-    )
 }

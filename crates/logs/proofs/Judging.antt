@@ -14,7 +14,7 @@ use Rattle.lists.specs.Places.{tab}
 use Rattle.lists.specs.Rules.{◌when◌, first_rule}
 use Rattle.lists.specs.Words.{part}
 use Rattle.lists.proofs.Tests.{not_holds}
-use Rattle.formats.specs.Formats.{Out, got, bad, number}
+use Rattle.formats.specs.Formats.{Out, got, bad}
 use Rattle.rules.specs.Applying.{store, plain, plan_config}
 use Rattle.rules.specs.Configuration.{config_of, Configuration, StoredConfig}
 use Rattle.rules.specs.Differing.{write_zones}
@@ -38,7 +38,9 @@ use Rattle.zones.specs.View.{stored_config, stored_table}
 use Rattle.zones.specs.Words.{words_of_config, words_of}
 use Rattle.zones.proofs.Spelling.{config_view, table_view}
 use Rattle.plan.specs.Sections.{config_answer, table_answer, RegionsIn, ZonesIn}
-use Rattle.plan.specs.declared.words.Section.{Section}
+use Rattle.plan.specs.Told.{Told, answer_by}
+use Rattle.plan.specs.declared.refused.Refused.{Refused}
+use Rattle.std.specs.Prelude.{Result, Ok, Err}
 use Rattle.plan.proofs.Bases.{requests_within, four_requests, four_marks_within, four_zones_there, four_regions_at}
 use Rattle.plan.proofs.Bases.{four_zones_at}
 use Rattle.plan.proofs.Numbers.{numbers_read}
@@ -47,11 +49,10 @@ use Rattle.writer.specs.Writer.{writes_zones_in, WritesZonesIn}
 use Rattle.logs.specs.Found.{found_log}
 use Rattle.logs.specs.Logs.{config_left, table_left, judged_in, config_read, zones_read, CheckedIn, JudgedIn}
 use Rattle.logs.specs.declared.finding.FoundLog.{FoundLog}
-use Rattle.logs.specs.declared.finding.FoundLog.TheVariants.{At, Bad as BadLog}
 use Rattle.logs.proofs.Locating.{log_after}
 
 -- ---- judged where the words lie
-module _ (gic : ℕ) (rs zs q a w : List ℕ) (r x : Section) (c t u : List ℕ) (o : LogAnswer) (eo : Outcome)
+module _ (gic : ℕ) (rs zs q a w : List ℕ) (r x : Result ℕ Refused) (c t u : List ℕ) (o : LogAnswer) (eo : Outcome)
     (config : RegionsIn gic rs r c) (base : ZonesIn zs x t) (done : AuditedIn c t q a o u) (same : eo ≡ o.outcome) where
   abbrev cw : List ℕ
   cw = config_read gic rs
@@ -305,51 +306,62 @@ module _ (b : List ℕ) (g : Log) (t : List ℕ) (e : read_log limits b ≡ got 
         ap (λ (k : ℕ). tab k (λ i. little (take 4 (drop (i * 4) (drop 4 s))))) m ∙ sym h.each,
       )
 
--- ---- f is what was found of the bytes
-module _ (b : List ℕ) (f : FoundLog) (ef : f ≡ found_log (length b) (read_log limits b)) where
-  pub check_refused : (c t w : List ℕ) (k a : ℕ) → f ≡ BadLog k a → CheckedIn c t b w (claimless (plain k a)) c t w
-  unfolding found_log check_read config_left table_left
-  check_refused c t w k a q = by (read_log limits b) refl ef
+-- ---- by what was found of the bytes
+module _ (b : List ℕ) where
+  pub check_refused : (c t w : List ℕ) (k a : ℕ)
+      → ◌≡◌ {A = Told FoundLog} (Err (k, a)) (found_log (length b) (read_log limits b))
+      → CheckedIn c t b w (claimless (plain k a)) c t w
+  unfolding answer_by check_read config_left table_left
+  check_refused c t w k a q = by (read_log limits b) refl q
     where
-      by : (o : Out Log) → read_log limits b ≡ o → f ≡ found_log (length b) o
+      turned : Told FoundLog → ℕ × ℕ
+      turned (Ok x) = (k, a)
+      turned (Err x) = x
+
+      by : (o : Out Log) → read_log limits b ≡ o → ◌≡◌ {A = Told FoundLog} (Err (k, a)) (found_log (length b) o)
           → CheckedIn c t b w (claimless (plain k a)) c t w
-      by (got g s) e d =
-          absurd (let z : found_log (length b) (got g s) ≡ BadLog k a = sym d ∙ q in
-          let y : ◌≡◌ {A = ℕ} 0 1 = cc in
-          omega arith)
+      by (got g s) e d = absurd (cc)
       by (bad j s) e d =
-          let z : BadLog j (length b - length s) ≡ BadLog k a = sym d ∙ q in
-          let i : k ≡ j = cc in
-          let m : a ≡ length b - length s = cc in
           record {
-            answer = (λ x. claimless (plain (i x) (m x))) ∙ ap (λ (o : Out Log). (check_read limits b w o).answer) (sym e);
+            answer =
+                ap (λ (x : Told FoundLog). claimless (plain (turned x).0 (turned x).1)) d
+                ∙ ap (λ (o : Out Log). (check_read limits b w o).answer) (sym e);
             config = ap (config_left c) (sym e);
             table = ap (table_left t) (sym e);
             buffer = ap (λ (o : Out Log). (check_read limits b w o).buffer) (sym e);
           }
 
-  module _ (gic zones requests end : ℕ) (q : f ≡ At gic zones requests end) where
+  module _ (f : FoundLog) (ef : ◌≡◌ {A = Told FoundLog} (Ok f) (found_log (length b) (read_log limits b))) where
     -- the log that was found, and where its parts lie
     pub record Whole (g : Log) : Type 0 where
       pub after : List ℕ
       pub reads : read_log limits b ≡ got g after
-      pub gic_is : gic ≡ g.plan.marks.gic
-      pub zones_is : zones ≡ zones_at limits g.plan
-      pub first_is : requests ≡ length b - claims_size (length g.claims) - length g.plan.asked * request_size
-      pub end_is : end ≡ length b - claims_size (length g.claims)
+      pub gic_is : f.gic ≡ g.plan.marks.gic
+      pub zones_is : f.zones ≡ zones_at limits g.plan
+      pub first_is : f.requests ≡ length b - claims_size (length g.claims) - length g.plan.asked * request_size
+      pub end_is : f.end ≡ length b - claims_size (length g.claims)
 
     pub whole : (g : Log) × Whole g
-    unfolding found_log
+    unfolding answer_by
     whole = by (read_log limits b) refl ef
       where
-        by : (o : Out Log) → read_log limits b ≡ o → f ≡ found_log (length b) o → (g : Log) × Whole g
-        by (got g s) e d =
-            let z : found_log (length b) (got g s) ≡ At gic zones requests end = sym d ∙ q in
-            (g, record { after = s; reads = e; gic_is = cc; zones_is = cc; first_is = cc; end_is = cc })
-        by (bad j s) e d =
-            absurd (let z : BadLog j (length b - length s) ≡ At gic zones requests end = sym d ∙ q in
-            let y : ◌≡◌ {A = ℕ} 0 1 = cc in
-            omega arith)
+        there : Told FoundLog → FoundLog
+        there (Ok x) = x
+        there (Err x) = f
+
+        by : (o : Out Log) → read_log limits b ≡ o → ◌≡◌ {A = Told FoundLog} (Ok f) (found_log (length b) o) → (g : Log) × Whole g
+        by (got g s) e d = (
+          g,
+          record {
+            after = s;
+            reads = e;
+            gic_is = ap (λ (x : Told FoundLog). (there x).gic) d;
+            zones_is = ap (λ (x : Told FoundLog). (there x).zones) d;
+            first_is = ap (λ (x : Told FoundLog). (there x).requests) d;
+            end_is = ap (λ (x : Told FoundLog). (there x).end) d;
+          },
+        )
+        by (bad j s) e d = absurd (cc)
 
     -- they lie among the bytes
     pub marks_there : 16 ≤ length b
@@ -358,14 +370,14 @@ module _ (b : List ℕ) (f : FoundLog) (ef : f ≡ found_log (length b) (read_lo
         let (s, ep, es, l, cl) = rest b g h.after h.reads in
         four_marks_within 3 b g.plan s ep
 
-    pub zones_there : zones ≤ length b
+    pub zones_there : f.zones ≤ length b
     zones_there =
         let (g, h) = whole in
         let (s, ep, es, l, cl) = rest b g h.after h.reads in
-        let ez : zones ≡ zones_at limits g.plan = h.zones_is in
+        let ez : f.zones ≡ zones_at limits g.plan = h.zones_is in
         omega (arith, four_zones_there 3 b g.plan s ep)
 
-    claims_after : (requests ≤ end) × (end + 4 ≤ length b)
+    claims_after : (f.requests ≤ f.end) × (f.end + 4 ≤ length b)
     claims_after =
         let (g, h) = whole in
         let (s, ep, es, l, cl) = rest b g h.after h.reads in
@@ -374,21 +386,21 @@ module _ (b : List ℕ) (f : FoundLog) (ef : f ≡ found_log (length b) (read_lo
         let ee = h.end_is in
         (omega arith, omega arith)
 
-    pub requests_before : requests ≤ end
+    pub requests_before : f.requests ≤ f.end
     requests_before = claims_after.0
 
-    pub claims_there : end + 4 ≤ length b
+    pub claims_there : f.end + 4 ≤ length b
     claims_there = claims_after.1
 
-    pub end_there : end ≤ length b
+    pub end_there : f.end ≤ length b
     end_there = let l = claims_there in omega arith
 
-    pub claims_place : length b < 2 ^ 64 → end + 4 < 2 ^ 64
+    pub claims_place : length b < 2 ^ 64 → f.end + 4 < 2 ^ 64
     claims_place h = let l = claims_there in omega arith
 
     pub check_judged : (c t w : List ℕ) (r : LogAnswer) (d u v : List ℕ)
-        → JudgedIn gic (take (length b - 16) (drop 16 b)) (take (length b - zones) (drop zones b))
-        (take (end - requests) (drop requests b)) (take (length b - (end + 4)) (drop (end + 4) b)) w r d u v
+        → JudgedIn f.gic (take (length b - 16) (drop 16 b)) (take (length b - f.zones) (drop f.zones b))
+        (take (f.end - f.requests) (drop f.requests b)) (take (length b - (f.end + 4)) (drop (f.end + 4) b)) w r d u v
         → CheckedIn c t b w r d u v
     unfolding check_read config_left table_left config_answer table_answer
     check_judged c t w r d u v j =
@@ -397,26 +409,26 @@ module _ (b : List ℕ) (f : FoundLog) (ef : f ≡ found_log (length b) (read_lo
         let m = requests_within 3 b g.plan s ep in
         let er = h.first_is in
         let ee = h.end_is in
-        let Q : List ℕ = take (end - requests) (drop requests b) in
-        let K : List ℕ = take (length b - (end + 4)) (drop (end + 4) b) in
+        let Q : List ℕ = take (f.end - f.requests) (drop f.requests b) in
+        let K : List ℕ = take (length b - (f.end + 4)) (drop (f.end + 4) b) in
         let C : List ℕ = words_of_config (plan_config g.plan) in
         let T : List ℕ = words_of g.plan.zones in
-        let config : config_read gic (take (length b - 16) (drop 16 b)) ≡ C =
-        ap (config_read gic) (rest_of b 16)
-        ∙ ap (λ (o : Out (List Region)). (config_answer gic o).words) (four_regions_at 3 b g.plan s ep)
+        let config : config_read f.gic (take (length b - 16) (drop 16 b)) ≡ C =
+        ap (config_read f.gic) (rest_of b 16)
+        ∙ ap (λ (o : Out (List Region)). (config_answer f.gic o).words) (four_regions_at 3 b g.plan s ep)
         ∙ ap (λ (k : ℕ). words_of_config (record { regions = g.plan.regions; gic = k })) h.gic_is in
-        let base : zones_read (take (length b - zones) (drop zones b)) ≡ T =
-        ap zones_read (rest_of b zones ∙ ap (λ (k : ℕ). drop k b) h.zones_is)
+        let base : zones_read (take (length b - f.zones) (drop f.zones b)) ≡ T =
+        ap zones_read (rest_of b f.zones ∙ ap (λ (k : ℕ). drop k b) h.zones_is)
         ∙ ap (λ (o : Out (List Zone)). (table_answer o).words) (four_zones_at 3 b g.plan s ep) in
-        let many : end - requests ≡ length g.plan.asked * request_size = omega arith in
-        let first : requests ≡ length b - length s - length g.plan.asked * request_size = omega arith in
+        let many : f.end - f.requests ≡ length g.plan.asked * request_size = omega arith in
+        let first : f.requests ≡ length b - length s - length g.plan.asked * request_size = omega arith in
         let rq : requests_in Q ≡ requests_of g.plan =
         ap₂ (λ (x y : ℕ). requests_in (take x (drop y b))) many first ∙ four_requests 3 b g.plan s ep in
-        let last : drop (end + 4) b ≡ drop 4 s =
-        sym (drop-drop 4 end b) ∙ ap (λ (x : List ℕ). drop 4 x) (ap (λ (k : ℕ). drop k b) ee ∙ sym es) in
-        let ca : claims_in K ≡ g.claims = ap claims_in (rest_of b (end + 4) ∙ last) ∙ cl in
-        let judged : judged_in (config_read gic (take (length b - 16) (drop 16 b)))
-        (zones_read (take (length b - zones) (drop zones b))) Q K w ≡ settled_log limits (audit_log limits g) w =
+        let last : drop (f.end + 4) b ≡ drop 4 s =
+        sym (drop-drop 4 f.end b) ∙ ap (λ (x : List ℕ). drop 4 x) (ap (λ (k : ℕ). drop k b) ee ∙ sym es) in
+        let ca : claims_in K ≡ g.claims = ap claims_in (rest_of b (f.end + 4) ∙ last) ∙ cl in
+        let judged : judged_in (config_read f.gic (take (length b - 16) (drop 16 b)))
+        (zones_read (take (length b - f.zones) (drop f.zones b))) Q K w ≡ settled_log limits (audit_log limits g) w =
         ap₂ (λ (x y : List ℕ). judged_in x y Q K w) config base ∙ own_judged b g h.after h.reads Q K rq ca w in
         record {
           answer =

@@ -25,30 +25,20 @@ pub fn check_log(
 ) -> LogAnswer
     ensures { CheckedIn config.old table.old log.now buffer.old result config.new table.new buffer.new }
 {
-    let found = find_log(log);
-    match found {
-        FoundLog::Bad { number, at } => LogAnswer {
-            outcome: Outcome {
-                number,
-                place: at,
-                inner: 0,
-            },
+    match find_log(log) {
+        Err(refused) => LogAnswer {
+            outcome: Outcome::refused(refused.why, refused.at),
             claimed: 0,
         },
-        FoundLog::At {
-            gic,
-            zones,
-            requests,
-            end,
-        } => {
-            let claims = end + SHORT_BYTES;
+        Ok(found) => {
+            let claims = found.end + SHORT_BYTES;
             judge(
                 config,
                 table,
-                gic,
+                found.gic,
                 &log[MARKS_BYTES..],
-                &log[zones..],
-                &log[requests..end],
+                &log[found.zones..],
+                &log[found.requests..found.end],
                 &log[claims..],
                 buffer,
             )
@@ -69,8 +59,9 @@ fn judge(
 ) -> LogAnswer
     ensures { JudgedIn gic regions.now zones.now requests.now claims.now buffer.old result config.new table.new buffer.new }
 {
-    let configured = read_regions_in(regions, gic, config);
-    let base = read_zones_in(zones, table);
+    // Neither section is refused: the log reads whole.
+    let _ = read_regions_in(regions, gic, config);
+    let _ = read_zones_in(zones, table);
     let audited = audit_in(config, table, requests, claims);
     let outcome = audited.outcome;
     if outcome.number != 0 {

@@ -48,13 +48,14 @@ use Rattle.zones.specs.Records.{record_at, records_at}
 use Rattle.zones.specs.View.{stored_config, stored_table, config_in, zones_in, ConfigPassed}
 use Rattle.owners.specs.View.{stored_owned}
 use Rattle.plan.specs.Held.{table_held}
+use Rattle.plan.specs.Steps.{Stood}
 use Rattle.plan.proofs.Numbers.{numbers_read}
 use Rattle.plan.proofs.Bases.{requests_last, config_by, zones_by}
 use Rattle.plan.proofs.Fields.{region_value, wide_region}
 use Rattle.plan.proofs.Locating.{marks_got}
 use Rattle.plan.proofs.Passing.{Listed, list_read_law}
-use Rattle.plan.proofs.Steps.{stood_by, Stood}
-use Rattle.plan.proofs.Undoing.{one_or_two}
+use Rattle.plan.proofs.Steps.{stood_by}
+use Rattle.plan.proofs.Undoing.{own_small}
 use Rattle.owned.specs.Found.{owned_zones_at}
 use Rattle.owned.specs.Held.{owners_behind, owned_held}
 use Rattle.owned.specs.Section.{owners_section}
@@ -66,9 +67,9 @@ module _ (c o t : List ℕ) where
   unfolding records_at
   full = length_tab most_regions (record_at c config_records)
 
-  pub owned_below : owned_standing limits (stored_owned c o) (stored_table t) ≡ 27 → ⊥
+  pub owned_small : owned_standing limits (stored_owned c o) (stored_table t) ≤ 2
   unfolding owned_standing_rules
-  owned_below = one_or_two _ _
+  owned_small = own_small _ _
 
   module _ (z : owned_standing limits (stored_owned c o) (stored_table t) ≡ 0) where
     passed : owned_check limits (stored_owned c o) ≡ Plain Sound

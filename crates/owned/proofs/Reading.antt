@@ -5,6 +5,7 @@ use mathlib.Core.List.{List, []}
 use mathlib.Core.Path.{◌≡◌, refl, sym, ap, ap₂, ◌∙◌}
 use lib.ListN.{length, take, drop, set, replicate}
 use lib.Seq.{set_at}
+use Rattle.std.proofs.Common.{Ok, Err}
 use Rattle.lists.specs.Bytes.{little}
 use Rattle.lists.specs.Places.{tab, places}
 use Rattle.lists.specs.Room.{room}
@@ -17,8 +18,7 @@ use Rattle.rules.specs.OwnedPlan.{owned_regions}
 use Rattle.rules.specs.Plan.{regions_section}
 use Rattle.rules.specs.declared.Region.{Region}
 use Rattle.plan.specs.Sections.{section_answer}
-use Rattle.plan.specs.declared.words.Section.{Section}
-use Rattle.plan.specs.declared.words.Section.TheVariants.{End, Bad}
+use Rattle.plan.specs.Told.{answer_by}
 use Rattle.plan.proofs.Numbers.{lawful_numbers}
 use Rattle.plan.proofs.Offsets.{rest_of, ends_with}
 use Rattle.owned.specs.Section.{owners_section, id_at, owners_in}
@@ -41,67 +41,59 @@ ids_put s w i n v e ev h l =
     ∙ sym (room_push most_regions 0 xs (id_at s i) few)
     ∙ ap (room most_regions 0) (sym (tab_last i (id_at s)))
 
-pub ids_all : (s w : List ℕ) (i n : ℕ) → w ≡ room most_regions 0 (tab i (id_at s)) → i ≤ n → n ≤ i
-    → w ≡ room most_regions 0 (tab n (id_at s))
-ids_all s w i n e l h =
-    let q : i ≡ n = omega arith in
-    e ∙ ap (λ (k : ℕ). room most_regions 0 (tab k (id_at s))) q
-
--- ---- behind the regions: r is where they end
-module _ (s : List ℕ) (r : Section) (er : r ≡ section_answer (length s) ((regions_section limits).read s)) where
+-- ---- behind the regions
+module _ (s : List ℕ) where
   abbrev behind : List Region → List ℕ → Out (List Region × List ℕ)
   behind rs u = then ((owners_section (length rs)).read u) (λ os t. got (rs, os) t)
 
-  pub none_read : (k p : ℕ) → r ≡ Bad k p → replicate most_regions 0 ≡ owners_in ((owned_regions limits).read s)
-  unfolding read_with then owners_in section_answer
-  none_read k p g = by ((regions_section limits).read s) er
+  pub none_read : (e : ℕ × ℕ) → Err e ≡ section_answer (length s) ((regions_section limits).read s)
+      → replicate most_regions 0 ≡ owners_in ((owned_regions limits).read s)
+  unfolding read_with then owners_in answer_by
+  none_read e g = by ((regions_section limits).read s) g
     where
-      by : (y : Out (List Region)) → r ≡ section_answer (length s) y → replicate most_regions 0 ≡ owners_in (then y behind)
-      by (got rs t) d =
-          absurd (let q : End (length s - length t) ≡ Bad k p = sym d ∙ g in
-          let z : ◌≡◌ {A = ℕ} 0 1 = cc in
-          omega arith)
+      by : (y : Out (List Region)) → Err e ≡ section_answer (length s) y
+          → replicate most_regions 0 ≡ owners_in (then y behind)
+      by (got rs t) d = absurd (cc)
       by (bad j t) d = refl
 
-  -- q is what the owners' section answered
-  module _ (e : ℕ) (g : r ≡ End e) (n : ℕ) (en : n ≡ little (part 0 4 s)) (q : Section)
-      (eq : q ≡ section_answer (length (take (length s - e) (drop e s)))
-      ((owners_section n).read (take (length s - e) (drop e s)))) where
+  -- which end at byte e, where the owners' section begins
+  module _ (e : ℕ) (g : Ok e ≡ section_answer (length s) ((regions_section limits).read s)) (n : ℕ)
+      (en : n ≡ little (part 0 4 s)) where
     abbrev rs : List Region
-    rs = (counted s r er e g n en).0
+    rs = (counted s e g n en).0
 
-    answered : q ≡ section_answer (length (drop e s)) ((owners_section (length rs)).read (drop e s))
+    answered : section_answer (length (take (length s - e) (drop e s))) ((owners_section n).read (take (length s - e) (drop e s)))
+        ≡ section_answer (length (drop e s)) ((owners_section (length rs)).read (drop e s))
     answered =
-        eq
-        ∙ ap₂ (λ (u : List ℕ) (k : ℕ). section_answer (length u) ((owners_section k).read u)) (rest_of s e)
-        (counted s r er e g n en).2
+        ap₂ (λ (u : List ℕ) (k : ℕ). section_answer (length u) ((owners_section k).read u)) (rest_of s e)
+        (counted s e g n en).2
 
     together : (owned_regions limits).read s ≡ behind rs (drop e s)
     unfolding read_with then
-    together = ap (λ (y : Out (List Region)). then y behind) (counted s r er e g n en).1
+    together = ap (λ (y : Out (List Region)). then y behind) (counted s e g n en).1
 
-    pub cut_read : (k p : ℕ) → q ≡ Bad k p → replicate most_regions 0 ≡ owners_in ((owned_regions limits).read s)
-    unfolding then owners_in section_answer
-    cut_read k p h = by ((owners_section (length rs)).read (drop e s)) answered ∙ sym (ap owners_in together)
+    pub cut_read : (x : ℕ × ℕ)
+        → Err x ≡ section_answer (length (take (length s - e) (drop e s))) ((owners_section n).read (take (length s - e) (drop e s)))
+        → replicate most_regions 0 ≡ owners_in ((owned_regions limits).read s)
+    unfolding then owners_in answer_by
+    cut_read x h = by ((owners_section (length rs)).read (drop e s)) (h ∙ answered) ∙ sym (ap owners_in together)
       where
-        by : (y : Out (List ℕ)) → q ≡ section_answer (length (drop e s)) y
+        by : (y : Out (List ℕ)) → Err x ≡ section_answer (length (drop e s)) y
             → replicate most_regions 0 ≡ owners_in (then y (λ os t. got (rs, os) t))
-        by (got os t) d =
-            absurd (let f : End (length (drop e s) - length t) ≡ Bad k p = sym d ∙ h in
-            let z : ◌≡◌ {A = ℕ} 0 1 = cc in
-            omega arith)
+        by (got os t) d = absurd (cc)
         by (bad j t) d = refl
 
-    pub ids_read : (a : ℕ) → q ≡ End a → (v : List ℕ)
-        → v ≡ room most_regions 0 (tab n (id_at (take (length s - e) (drop e s))))
+    pub ids_read : (a : ℕ)
+        → Ok a ≡ section_answer (length (take (length s - e) (drop e s))) ((owners_section n).read (take (length s - e) (drop e s)))
+        → (v : List ℕ) → v ≡ room most_regions 0 (tab n (id_at (take (length s - e) (drop e s))))
         → v ≡ owners_in ((owned_regions limits).read s)
     unfolding then owners_in
     ids_read a h v ev =
         let u : List ℕ = drop e s in
         let (os, o) =
-        ends_with u ((owners_section (length rs)).read u) ((lawful_numbers (length rs)).part u) q answered a h in
+        ends_with u ((owners_section (length rs)).read u) ((lawful_numbers (length rs)).part u) a (h ∙ answered) in
         ev
-        ∙ ap₂ (λ (k : ℕ) (x : List ℕ). room most_regions 0 (tab k (id_at x))) (counted s r er e g n en).2 (rest_of s e)
+        ∙ ap₂ (λ (k : ℕ) (x : List ℕ). room most_regions 0 (tab k (id_at x))) (counted s e g n en).2 (rest_of s e)
         ∙ ap (room most_regions 0) (sym (owners_are (length rs) u os (drop a u) o))
         ∙ sym (ap (λ (y : Out (List ℕ)). owners_in (then y (λ os t. got (rs, os) t))) o)
         ∙ sym (ap owners_in together)

@@ -6,6 +6,7 @@ use Rattle.rules.specs.OwnedPlan.{owned_steps}
 use Rattle.rules.specs.declared.Outcome.{Outcome}
 use Rattle.owners.specs.View.{stored_owned}
 use Rattle.plan.specs.Steps.{base_number, AppliedBy, RanOrUndoneBy, FoundBy}
+use Rattle.plan.specs.declared.finding.Parts.{Parts}
 use Rattle.owned.specs.Held.{owned_held}
 
 -- r is answered, and u is what the table's words then are
@@ -17,7 +18,8 @@ OwnedApplied c o t e b r u = AppliedBy (owned_steps limits) (stored_owned c o) t
 abbrev pub OwnedRanOrUndone : List ℕ → List ℕ → List ℕ → List ℕ → Outcome → List ℕ → Type 0
 OwnedRanOrUndone c o t b r u = RanOrUndoneBy (owned_steps limits) (stored_owned c o) t b r u
 
--- a plan that reads whole: its marks, and its bytes from the regions on, from the zones on and from the first request on
-abbrev pub OwnedFoundIn : List ℕ → List ℕ → List ℕ → ℕ → ℕ → ℕ → List ℕ → List ℕ → List ℕ → Outcome → List ℕ → Type 0
-OwnedFoundIn c o t e gic base rs zs b r u =
-    FoundBy (owned_steps limits) (stored_owned c o) t (base_number (owned_held rs gic c o) t e base zs) b r u
+-- a plan that reads whole, by its parts
+abbrev pub OwnedFoundIn : List ℕ → List ℕ → List ℕ → ℕ → Parts → Outcome → List ℕ → Type 0
+OwnedFoundIn c o t e p r u =
+    FoundBy (owned_steps limits) (stored_owned c o) t
+    (base_number (owned_held p.regions.now p.gic c o) t e p.edition p.zones.now) p.requests.now r u

@@ -1,5 +1,5 @@
 -- Bytes from the regions' count on, held against the words of a configuration and its owners.
-use Rattle.std.specs.Prelude.{ℕ, Bool, false, List, [], ◌∷◌, eqb, length, get_or}
+use Rattle.std.specs.Prelude.{ℕ, Bool, false, List, [], ◌∷◌, eqb, is_some, length, get_or}
 use Rattle.lists.specs.Room.{room}
 use Rattle.lists.specs.Tests.{all_of}
 use Rattle.formats.specs.Formats.{Out, got, bad}
@@ -7,7 +7,7 @@ use Rattle.rules.specs.Applying.{same_list}
 use Rattle.rules.specs.Limits.{limits}
 use Rattle.rules.specs.Plan.{regions_section}
 use Rattle.rules.specs.declared.Region.{Region}
-use Rattle.plan.specs.Held.{held_answer, is_held, config_held}
+use Rattle.plan.specs.Held.{held_answer, config_held}
 use Rattle.owned.specs.Section.{owners_section, id_at}
 
 -- owner i of those in the words o is id i behind the count that s begins with
@@ -16,7 +16,7 @@ same_owner s o i = eqb (get_or o i 0) (id_at s i)
 
 -- the bytes s are a section of n owners, the first n of the words o
 unfoldable pub owners_held : List ℕ → ℕ → List ℕ → Bool
-owners_held s n o = is_held (held_answer (length s) (same_list eqb (room n 0 o)) ((owners_section n).read s))
+owners_held s n o = is_some (held_answer (length s) (same_list eqb (room n 0 o)) ((owners_section n).read s))
 
 -- as many as regions were read
 unfoldable pub owners_behind : List ℕ → Out (List Region) → Bool

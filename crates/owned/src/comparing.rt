@@ -6,7 +6,7 @@ ghost use Rattle.rules.specs.Limits.{most_regions};
 ghost use Rattle.owned.specs.Held.{same_owner, owners_held, owned_held};
 
 use fields::u32_at;
-use plan::{Section, pass_numbers, pass_regions, same_config};
+use plan::{pass_numbers, pass_regions, same_config};
 use rules::limits::MOST_REGIONS;
 use rules::widths::SHORT_BYTES;
 use zones::CONFIG_WORDS;
@@ -23,8 +23,7 @@ pub fn same_owned(
     if !same_config(s, gic, config) {
         return false;
     }
-    let section = pass_regions(s);
-    let Section::End(end) = section else {
+    let Ok(end) = pass_regions(s) else {
         return false;
     };
     same_owners(&s[end..], u32_at(s, 0), owners)
@@ -35,8 +34,7 @@ fn same_owners(s: &[u8], count: u32, owners: &[u32; MOST_REGIONS]) -> bool
     requires { count ≤ most_regions }
     ensures { result ≡ owners_held s.now count owners.now }
 {
-    let section = pass_numbers(s, count);
-    let Section::End(_) = section else {
+    let Ok(_) = pass_numbers(s, count) else {
         return false;
     };
     same_ids(s, count as usize, owners)
@@ -47,12 +45,5 @@ fn same_ids(s: &[u8], n: usize, owners: &[u32; MOST_REGIONS]) -> bool
     requires { n ≤ most_regions }
     ensures { result ≡ all (same_owner s.now owners.now) (places 0 n) }
 {
-    let mut i = 0;
-    while i < n {
-        if owners[i] != u32_at(s, SHORT_BYTES + i * SHORT_BYTES) {
-            return false;
-        }
-        i += 1;
-    }
-    true
+    (0..n).all(|i| owners[i] == u32_at(s, SHORT_BYTES + i * SHORT_BYTES))
 }

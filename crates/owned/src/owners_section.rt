@@ -7,7 +7,7 @@ ghost use Rattle.rules.specs.OwnedPlan.{owned_regions};
 ghost use Rattle.owned.specs.Section.{id_at, owners_in};
 
 use fields::u32_at;
-use plan::{Section, pass_numbers, pass_regions};
+use plan::{pass_numbers, pass_regions};
 use rules::limits::MOST_REGIONS;
 use rules::widths::SHORT_BYTES;
 
@@ -15,13 +15,11 @@ use rules::widths::SHORT_BYTES;
 pub fn read_owners(s: &[u8]) -> [u32; MOST_REGIONS]
     ensures { result ≡ owners_in ((owned_regions limits).read s.now) }
 {
-    let section = pass_regions(s);
-    let Section::End(end) = section else {
+    let Ok(end) = pass_regions(s) else {
         return [0; MOST_REGIONS];
     };
     let count = u32_at(s, 0);
-    let behind = pass_numbers(&s[end..], count);
-    let Section::End(_) = behind else {
+    let Ok(_) = pass_numbers(&s[end..], count) else {
         return [0; MOST_REGIONS];
     };
     ids_at(&s[end..], count as usize)
@@ -33,10 +31,8 @@ fn ids_at(s: &[u8], n: usize) -> [u32; MOST_REGIONS]
     ensures { result ≡ room most_regions 0 (tab n (id_at s.now)) }
 {
     let mut owners = [0; MOST_REGIONS];
-    let mut i = 0;
-    while i < n {
+    for i in 0..n {
         owners[i] = u32_at(s, SHORT_BYTES + i * SHORT_BYTES);
-        i += 1;
     }
     owners
 }

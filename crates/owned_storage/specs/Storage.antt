@@ -5,6 +5,7 @@ use Rattle.rules.specs.OwnedPlan.{owned_steps}
 use Rattle.rules.specs.declared.Outcome.{Outcome}
 use Rattle.owners.specs.View.{stored_owned}
 use Rattle.plan.specs.Steps.{base_number}
+use Rattle.plan.specs.declared.finding.Parts.{Parts}
 use Rattle.storage.specs.Beside.{BesideBy, PreparedBy, FoundBesideBy}
 use Rattle.storage.specs.declared.Prepared.{Prepared}
 use Rattle.owned.specs.Held.{owned_held}
@@ -15,7 +16,8 @@ OwnedBeside c o t y e b r u = BesideBy (owned_steps limits) (stored_owned c o) t
 abbrev pub OwnedPrepared : List ℕ → List ℕ → List ℕ → List ℕ → ℕ → List ℕ → Prepared → List ℕ → Type 0
 OwnedPrepared c o t y e b r u = PreparedBy (owned_steps limits) (stored_owned c o) t y e b r u
 
--- a plan that reads whole: its marks, and its bytes from the regions on, from the zones on and from the first request on
-abbrev pub OwnedFoundBeside : List ℕ → List ℕ → List ℕ → List ℕ → ℕ → ℕ → ℕ → List ℕ → List ℕ → List ℕ → Outcome → List ℕ → Type 0
-OwnedFoundBeside c o t y e gic base rs zs b r u =
-    FoundBesideBy (owned_steps limits) (stored_owned c o) t y (base_number (owned_held rs gic c o) t e base zs) b r u
+-- a plan that reads whole, by its parts
+abbrev pub OwnedFoundBeside : List ℕ → List ℕ → List ℕ → List ℕ → ℕ → Parts → Outcome → List ℕ → Type 0
+OwnedFoundBeside c o t y e p r u =
+    FoundBesideBy (owned_steps limits) (stored_owned c o) t y
+    (base_number (owned_held p.regions.now p.gic c o) t e p.edition p.zones.now) p.requests.now r u

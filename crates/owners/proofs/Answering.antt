@@ -1,13 +1,13 @@
 -- One request and a translation: 1 and 2 come first, and past them 11 is put over the first machine's number.
 use Prim.Native.Nat.{ℕ, ◌≤◌, ◌<◌}
+use native.Mathlib.Decide.{dec_lt}
 use native.Mathlib.Omega.{arith}
 use mathlib.Core.Bool.{Bool, true, false, cond, not, ◌||◌}
 use mathlib.Core.List.{List, [], ◌∷◌}
-use mathlib.Core.Path.{◌≡◌, refl, sym, ap, ◌∙◌}
-use types.Run.{OneOf, miss}
-use denote.Enum.Declared.{tag_of}
+use mathlib.Core.Path.{◌≡◌, refl, sym, ap, ap₂, ◌∙◌}
 use borrow.Author.Tests.{eqb-false, lt-ltb, le-ltb, ne_eqb}
 use lib.Dec.{ltb, eqb}
+use Rattle.std.specs.Prelude.{Result, Ok, Err}
 use Rattle.lists.specs.Rules.{◌when◌, first_rule, Rule}
 use Rattle.lists.proofs.Rules.{hit_whatever, stage_hit}
 use Rattle.rules.specs.Changes.{region_set}
@@ -18,6 +18,8 @@ use Rattle.rules.specs.Owners.{owned_answer, owned_translated, may_hold}
 use Rattle.rules.specs.Requests.{find, refusal, after, standing_rules, answer}
 use Rattle.rules.specs.Tables.{table_of, check_table}
 use Rattle.rules.specs.Translation.{covering_in, translation_rules, translated_as, translated_after, translated}
+use Rattle.rules.specs.Numbers.{number, code}
+use Rattle.rules.specs.declared.refusal.Refusal.{Refusal}
 use Rattle.rules.specs.declared.Guest.{Guest}
 use Rattle.rules.specs.declared.Kind.{Kind}
 use Rattle.rules.specs.declared.Kind.TheVariants.{AddZone, RemoveZone, Insert, Remove, NoRequest}
@@ -25,9 +27,9 @@ use Rattle.rules.specs.declared.Region.{Region}
 use Rattle.rules.specs.declared.Request.{Request}
 use Rattle.rules.specs.declared.Side.{Side}
 use Rattle.rules.specs.declared.Translated.{Translated}
-use Rattle.rules.specs.contracts.Kind.{the_type}
 use Rattle.rules.proofs.OwnedOver.{owned_over}
 use Rattle.rules.proofs.Translation.{none_told}
+use Rattle.zones.proofs.Ruling.{number_some}
 use Rattle.zones.specs.Step.{afterwards, words_after, Stepped}
 use Rattle.zones.specs.View.{stored_config, config_in, stored_table}
 use Rattle.zones.specs.Words.{words_of}
@@ -35,23 +37,36 @@ use Rattle.owners.specs.Fitting.{Told}
 use Rattle.owners.specs.Step.{owned_answer_in, OwnedStepped}
 use Rattle.owners.specs.View.{stored_owned, owned_in}
 
--- ---- 11 over a number
-pub over_accepted : (n : ℕ) → n ≡ 0 → 11 ≡ eleven_over true n
-unfolding eleven_over
-over_accepted n e = sym (ap (eleven_over true) e)
+-- ---- 11 over an answer
+module _ (a : Result (Unit {0}) Refusal) where
+  pub over_below : (r : Refusal) → a ≡ Err r → number r < 11 → number r ≡ eleven_over true (code a)
+  unfolding eleven_over
+  over_below r e h =
+      sym (ap (λ (b : Bool). cond (b || ltb 11 (number r)) 11 (number r)) (ne_eqb (number r) 0 (number_some r))
+      ∙ ap (λ (b : Bool). cond b 11 (number r)) (le-ltb 11 (number r) (omega arith)))
+      ∙ ap (λ (x : Result (Unit {0}) Refusal). eleven_over true (code x)) (sym e)
 
-pub over_above : (n : ℕ) → 11 < n → 11 ≡ eleven_over true n
-unfolding eleven_over
-over_above n h = sym (ap (λ (b : Bool). cond (eqb n 0 || b) 11 n) (lt-ltb 11 n h) ∙ by (eqb n 0))
-  where
-    by : (b : Bool) → cond (b || true) 11 n ≡ 11
-    by true = refl
-    by false = refl
+  pub over_other : (r : Refusal) → a ≡ Err r → 11 ≤ number r → 11 ≡ eleven_over true (code a)
+  unfolding eleven_over
+  over_other r e h =
+      elim (dec_lt 11 (number r)) [
+        | yes l ↦
+            sym (ap (λ (b : Bool). cond (eqb (number r) 0 || b) 11 (number r)) (lt-ltb 11 (number r) l) ∙ by (eqb (number r) 0) (number r))
+        | no l ↦ let q : 11 ≡ number r = omega arith in ap (eleven_over true) q
+      ]
+      ∙ ap (λ (x : Result (Unit {0}) Refusal). eleven_over true (code x)) (sym e)
+    where
+      by : (b : Bool) (n : ℕ) → cond (b || true) 11 n ≡ 11
+      by true n = refl
+      by false n = refl
 
-pub over_below : (n : ℕ) → (n ≡ 0 → ⊥) → n ≤ 11 → n ≡ eleven_over true n
-unfolding eleven_over
-over_below n ne h =
-    sym (ap (λ (b : Bool). cond (b || ltb 11 n) 11 n) (ne_eqb n 0 ne) ∙ ap (λ (b : Bool). cond b 11 n) (le-ltb 11 n h))
+  pub over_accepted : ((r : Refusal) → a ≡ Err r → ⊥) → 11 ≡ eleven_over true (code a)
+  unfolding eleven_over
+  over_accepted n = by a n
+    where
+      by : (x : Result (Unit {0}) Refusal) → ((r : Refusal) → x ≡ Err r → ⊥) → 11 ≡ eleven_over true (code x)
+      by (Ok u) n = refl
+      by (Err r) n = absurd (n r refl)
 
 -- it is never 0
 pub over_refuses : (n : ℕ) → eleven_over true n ≡ 0 → ⊥
@@ -74,39 +89,39 @@ over_standing false false true m = refl
 over_standing b false false m = refl
 
 -- ---- whether a request is a stranger's
-module _ (c o : List ℕ) (q : Request) (k : Kind) (ek : k ≡ q.kind) where
-  pub stranger_told : (s : Side) (r : Region) (b : Bool) → k ≡ Insert s r
+module _ (c o : List ℕ) (q : Request) where
+  pub stranger_told : (s : Side) (r : Region) (b : Bool) → q.kind ≡ Insert s r
       → b ≡ may_hold (owned_in c o) q.zone s r → not b ≡ stranger (owned_in c o) q.kind q.zone
   unfolding stranger
-  stranger_told s r b e h = ap not h ∙ ap (λ (x : Kind). stranger (owned_in c o) x q.zone) (sym e ∙ ek)
+  stranger_told s r b e h = ap not h ∙ ap (λ (x : Kind). stranger (owned_in c o) x q.zone) (sym e)
 
-  pub no_stranger : OneOf (0 ∷ 1 ∷ 3 ∷ 4 ∷ []) (tag_of the_type k) → false ≡ stranger (owned_in c o) q.kind q.zone
+  pub no_stranger : ((s : Side) (r : Region) → q.kind ≡ Insert s r → ⊥) → false ≡ stranger (owned_in c o) q.kind q.zone
   unfolding stranger
-  no_stranger t = by k t ∙ ap (λ (x : Kind). stranger (owned_in c o) x q.zone) ek
+  no_stranger n = by q.kind n
     where
-      by : (k : Kind) → OneOf (0 ∷ 1 ∷ 3 ∷ 4 ∷ []) (tag_of the_type k) → false ≡ stranger (owned_in c o) k q.zone
-      by AddZone t = refl
-      by RemoveZone t = refl
-      by (Insert s r) t = absurd (miss (0 ∷ 1 ∷ 3 ∷ 4 ∷ []) 2 tt t)
-      by (Remove s r) t = refl
-      by NoRequest t = refl
+      by : (k : Kind) → ((s : Side) (r : Region) → k ≡ Insert s r → ⊥) → false ≡ stranger (owned_in c o) k q.zone
+      by AddZone n = refl
+      by RemoveZone n = refl
+      by (Insert s r) n = absurd (n s r refl)
+      by (Remove s r) n = refl
+      by NoRequest n = refl
 
 -- ---- a request
-module _ (c o t : List ℕ) (n : ℕ) (told : Told c o t n) (q : Request) where
-  pub own_first : (n ≡ 0 → ⊥) → OwnedStepped c o t q n t
+module _ (c o t : List ℕ) (q : Request) where
+  pub own_first : (r : Refusal) → Told c o t (number r) → OwnedStepped c o t q (number r) t
   unfolding owned_answer
-  own_first ne =
-      let k : n ≡ owned_answer_in c o t q =
-      hit_whatever (owned_standing_rules limits (stored_owned c o) (stored_table t)) n 0
-      (owned_refusal limits (owned_in c o) (table_of (stored_table t)) q) (told.number ne) ne in
+  own_first r told =
+      let k : number r ≡ owned_answer_in c o t q =
+      hit_whatever (owned_standing_rules limits (stored_owned c o) (stored_table t)) (number r) 0
+      (owned_refusal limits (owned_in c o) (table_of (stored_table t)) q) (told.number (number_some r)) (number_some r) in
       record {
         number = k;
         table =
             sym (ap (λ (b : Bool). cond b (words_of (after q.kind q.zone (table_of (stored_table t)))) t)
-            (ne_eqb _ 0 (λ z. ne (k ∙ z))));
+            (ne_eqb _ 0 (λ z. number_some r (k ∙ z))));
       }
 
-  module _ (z : n ≡ 0) where
+  module _ (told : Told c o t 0) where
     abbrev foreign : Bool
     foreign = stranger (owned_in c o) q.kind q.zone
 
@@ -115,14 +130,18 @@ module _ (c o t : List ℕ) (n : ℕ) (told : Told c o t n) (q : Request) where
     unfolding owned_answer answer standing_rules owned_of
     answer_over =
         ap (λ (rs : List (Rule ℕ)). first_rule rs (owned_refusal limits (owned_in c o) (table_of (stored_table t)) q))
-        (told.rules z)
+        (told.rules refl)
         ∙ ap (first_rule (standing_rules limits (stored_config c) (stored_table t)))
         (owned_over limits (owned_in c o) (table_of (stored_table t)) q)
         ∙ over_standing foreign (not (is_sound (check limits (stored_config c))))
         (not (check_table limits (stored_config c) (stored_table t)))
         (refusal limits (config_in c) (table_of (stored_table t)) q)
 
-    module _ (b : Bool) (eb : b ≡ stranger (owned_in c o) q.kind q.zone) where
+    -- x and y are the configuration and the owners under other names
+    module _ (x y : List ℕ) (ex : x ≡ c) (ey : y ≡ o) (b : Bool) (en : b ≡ stranger (owned_in x y) q.kind q.zone) where
+      eb : b ≡ stranger (owned_in c o) q.kind q.zone
+      eb = en ∙ ap₂ (λ (v w : List ℕ). stranger (owned_in v w) q.kind q.zone) ex ey
+
       pub stranger_refused : b ≡ true → (a m : ℕ) → a ≡ answer limits (stored_config c) (stored_table t) q
           → m ≡ eleven_over true a → OwnedStepped c o t q m t
       stranger_refused f a m ea em =
@@ -146,20 +165,21 @@ module _ (c o t : List ℕ) (n : ℕ) (told : Told c o t n) (q : Request) where
           record { number = h.number ∙ k; table = h.table ∙ ap (λ (m : ℕ). words_after m t q) k }
 
 -- ---- a translation
-module _ (c o t : List ℕ) (n : ℕ) (told : Told c o t n) (id : ℕ) (s : Side) (a : Guest) where
-  pub own_translated : (n ≡ 0 → ⊥)
-      → record { number = n; phys = record { 0 = 0 }; remaining = 0 }
+module _ (c o t : List ℕ) (id : ℕ) (s : Side) (a : Guest) where
+  pub own_translated : (r : Refusal) → Told c o t (number r)
+      → record { number = number r; phys = record { 0 = 0 }; remaining = 0 }
       ≡ owned_translated limits (stored_owned c o) (stored_table t) id s a
   unfolding owned_translated
-  own_translated ne =
+  own_translated r told =
       let rs : List (Rule ℕ) = translation_rules (table_of (stored_table t)) id s a.0 in
       let y : Region = covering_in a.0 (region_set (table_of (stored_table t)) (find id (table_of (stored_table t))) s) in
-      none_told n a.0 y ne
+      none_told (number r) a.0 y (number_some r)
       ∙ ap (λ (m : ℕ). translated_as m a.0 y)
-      (stage_hit (owned_standing_rules limits (stored_owned c o) (stored_table t)) rs n 0 (told.number ne) ne)
+      (stage_hit (owned_standing_rules limits (stored_owned c o) (stored_table t)) rs (number r) 0
+      (told.number (number_some r)) (number_some r))
 
-  pub plain_translated : n ≡ 0 → (r : Translated) → r ≡ translated limits (stored_config c) (stored_table t) id s a
+  pub plain_translated : Told c o t 0 → (r : Translated) → r ≡ translated limits (stored_config c) (stored_table t) id s a
       → r ≡ owned_translated limits (stored_owned c o) (stored_table t) id s a
   unfolding owned_translated translated
-  plain_translated z r e =
-      e ∙ ap (λ (rs : List (Rule ℕ)). translated_after rs (table_of (stored_table t)) id s a.0) (sym (told.rules z))
+  plain_translated told r e =
+      e ∙ ap (λ (rs : List (Rule ℕ)). translated_after rs (table_of (stored_table t)) id s a.0) (sym (told.rules refl))

@@ -1,22 +1,24 @@
 -- The check with owners from the first machine's: past C1 and C2, C3 is the lower of the first used record and the first
 -- used owner past the count, C7 the first wrong owner before it, and where neither is, all is as the first finds it.
-use Prim.Native.Nat.{ℕ, zero, suc, ◌+◌, ◌-◌, ◌≤◌, ◌<◌}
+use Prim.Native.Nat.{ℕ, zero, suc, ◌+◌, ◌≤◌, ◌<◌}
 use native.Mathlib.Decide.{dec_lt}
 use native.Mathlib.Omega.{arith}
 use mathlib.Core.Bool.{Bool, true, false, cond, not, true≢false}
 use mathlib.Core.List.{List, flat_map}
 use mathlib.Core.Logic.{◌⊎◌, inl, inr}
 use mathlib.Core.Path.{◌≡◌, refl, sym, ap, ◌∙◌}
-use borrow.Author.Tests.{ltb-false, leb-false, lt-ltb, le-ltb, le-leb, lt-leb, eq-eqb, ne_eqb}
+use borrow.Author.Tests.{eqb-true, ltb-true, ltb-false, leb-false, lt-ltb, le-ltb, le-leb, lt-leb, ne_eqb}
 use lib.Dec.{ltb, eqb}
 use lib.ListN.{length, get_or, take, drop, length-drop}
+use Rattle.std.specs.Prelude.{Option, Some, None}
+use Rattle.std.proofs.lemmas.Option.{none-some, same_Some}
 use Rattle.lists.specs.First.{first_index, first_from, any}
 use Rattle.lists.specs.Places.{places}
 use Rattle.lists.specs.Rules.{first_rule}
 use Rattle.lists.proofs.Every.{any_make, none_make}
 use Rattle.lists.proofs.First.{first_is, first_within, from_passes, between_fails, from_least, from_is, any_from}
 use Rattle.lists.proofs.Places.{length_places, get_d_places, length_tab}
-use Rattle.lists.proofs.Tests.{both_false, false_both, or_left, or_right, holds_or_fails, whole, told_off}
+use Rattle.lists.proofs.Tests.{both_false, false_both, or_left, or_right, holds_or_fails, whole}
 use Rattle.rules.specs.Configuration.{wrong_count, wrong_gic, position_rules, check, is_sound, check_number, check_place}
 use Rattle.rules.specs.Limits.{most_regions, limits, Limits}
 use Rattle.rules.specs.Owners.{used_at, wrong_at, owned_check, is_owned_sound}
@@ -30,9 +32,9 @@ use Rattle.rules.proofs.OwnedCheck.{late, late_many, late_at, place_at, owned_c1
 use Rattle.zones.specs.Layout.{config_count, config_gic, config_records}
 use Rattle.zones.specs.Records.{record_at, records_at}
 use Rattle.zones.specs.View.{all_records, stored_config}
-use Rattle.owners.specs.Fitting.{in_range, fits_at, unfit_at, owners_fit, used_record, Ranged}
+use Rattle.owners.specs.Fitting.{in_range, fits_at, unfit_at, owners_fit, first_unfit, used_record, below, Ranged}
 use Rattle.owners.specs.View.{stored_owned}
-use Rattle.owners.proofs.Fitting.{range_parts, fits_past, fits_below, unfit_from, unfit_there}
+use Rattle.owners.proofs.Fitting.{found_below, none_below, range_parts, fits_past, fits_below, unfit_from, unfit_there}
 use Rattle.owners.proofs.Fitting.{fit_between, fit_range, fit_at, fit_make}
 
 -- ---- C1 and C2 are the first machine's
@@ -68,9 +70,9 @@ module _ (c o : List ℕ) where
       )
       by false false ea eb = absurd (true≢false (sym (in_range_law ea eb) ∙ f))
 
-  pub early_plain : (t : Bool) (f : Checked) → t ≡ in_range c → not t ≡ true → f ≡ check limits (stored_config c)
+  pub early_plain : (f : Checked) → in_range c ≡ false → f ≡ check limits (stored_config c)
       → Plain f ≡ owned_check limits (stored_owned c o)
-  early_plain t f e g h = ap Plain h ∙ (early (told_off t (in_range c) e g)).0
+  early_plain f e h = ap Plain h ∙ (early e).0
 
 -- ---- C3 of a record is told by its number
 -- at the positions nothing gives that number
@@ -91,13 +93,31 @@ positions_late lim records k (suc n) e =
     by false false true j rest f e = omega arith
     by false false false j rest f e = f e
 
-pub record_told : (f : Checked) (m k : ℕ) → m ≡ check_number f → k ≡ check_place f → m ≡ 3 → k ≡ used_record f
-unfolding used_record
-record_told f m k e g h = g ∙ sym (ap (λ (b : Bool). cond b (check_place f) most_regions) (eq-eqb (check_number f) 3 (sym e ∙ h)))
+-- the place of C3, or the number of records
+unfoldable pub record_or_end : Checked → ℕ
+record_or_end f = cond (eqb (check_number f) 3) (check_place f) most_regions
 
-pub no_record_told : (f : Checked) (m : ℕ) → m ≡ check_number f → (m ≡ 3 → ⊥) → most_regions ≡ used_record f
-unfolding used_record
-no_record_told f m e ne = sym (ap (λ (b : Bool). cond b (check_place f) most_regions) (ne_eqb (check_number f) 3 (λ h. ne (e ∙ h))))
+no_record : (f : Checked) → (check_number f ≡ 3 → ⊥) → most_regions ≡ record_or_end f
+unfolding record_or_end
+no_record f ne = sym (ap (λ (b : Bool). cond b (check_place f) most_regions) (ne_eqb (check_number f) 3 ne))
+
+module _ (f : Checked) (o : Option ℕ) (e : o ≡ used_record f) where
+  pub record_there : (k : ℕ) → o ≡ Some k → (k ≡ record_or_end f) × (check_number f ≡ 3)
+  unfolding used_record record_or_end
+  record_there k h = by (eqb (check_number f) 3) refl (sym h ∙ e)
+    where
+      by : (b : Bool) → eqb (check_number f) 3 ≡ b → Some k ≡ cond b (Some (check_place f)) None
+          → (k ≡ cond b (check_place f) most_regions) × (check_number f ≡ 3)
+      by true q g = (same_Some _ _ g, eqb-true _ _ q)
+      by false q g = absurd (none-some k (sym g))
+
+  pub record_nowhere : o ≡ None → most_regions ≡ record_or_end f
+  unfolding used_record record_or_end
+  record_nowhere h = by (eqb (check_number f) 3) (sym h ∙ e)
+    where
+      by : (b : Bool) → None ≡ cond b (Some (check_place f)) None → most_regions ≡ cond b (check_place f) most_regions
+      by true g = absurd (none-some _ g)
+      by false g = refl
 
 -- ---- past C1 and C2
 module _ (c o : List ℕ) (e : Ranged c) where
@@ -133,20 +153,30 @@ module _ (c o : List ℕ) (e : Ranged c) where
   used_any : any used (drop n (all_records c)) ≡ ltb used_from most_regions
   used_any = any_from used (all_records c) n (omega (arith, long, few)) ∙ ap (ltb used_from) long
 
-  record_first : (f : Checked) (r : ℕ) → f ≡ check limits (stored_config c) → r ≡ used_record f → r ≡ used_from
-  unfolding used_record
-  record_first f r g h = h ∙ ap used_record g ∙ by (holds_or_fails (any used (drop n (all_records c))))
+  record_first : (f : Checked) (r : ℕ) → f ≡ check limits (stored_config c) → r ≡ record_or_end f → r ≡ used_from
+  unfolding record_or_end
+  record_first f r g h = h ∙ ap record_or_end g ∙ by (holds_or_fails (any used (drop n (all_records c))))
     where
       by : (any used (drop n (all_records c)) ≡ true) ⊎ (any used (drop n (all_records c)) ≡ false)
-          → used_record (check limits (stored_config c)) ≡ used_from
-      by (inl u) = ap used_record (used_some u)
+          → record_or_end (check limits (stored_config c)) ≡ used_from
+      by (inl u) = ap record_or_end (used_some u)
       by (inr u) =
           let l : most_regions ≤ used_from = ltb-false _ _ (sym used_any ∙ u) in
           let q : most_regions ≡ used_from = omega (arith, used_within) in
-          sym (no_record_told (check limits (stored_config c)) _ refl
+          sym (no_record (check limits (stored_config c))
           (λ z. positions_late limits (all_records c) 0 n
           (ap check_number (gives_positions limits (stored_config c) count_right gic_right u) ∙ z)))
           ∙ q
+
+  record_bound : (f : Checked) → f ≡ check limits (stored_config c) → check_number f ≡ 3 → used_from < most_regions
+  record_bound f g h = by (holds_or_fails (any used (drop n (all_records c))))
+    where
+      by : (any used (drop n (all_records c)) ≡ true) ⊎ (any used (drop n (all_records c)) ≡ false)
+          → used_from < most_regions
+      by (inl u) = ltb-true _ _ (sym used_any ∙ u)
+      by (inr u) = absurd
+          (positions_late limits (all_records c) 0 n
+          (ap check_number (gives_positions limits (stored_config c) count_right gic_right u) ∙ ap check_number (sym g) ∙ h))
 
   -- a position past the count where the record or the owner is used, and none before it where either is
   module _ (k : ℕ) (h : n ≤ k) (l : k < most_regions) (hit : used_at (stored_owned c o) k ≡ true)
@@ -185,7 +215,7 @@ module _ (c o : List ℕ) (e : Ranged c) where
       false_both (used (get_or (all_records c) j no_region)) (not (eqb (get_or o j 0) 0)) u (ap not (fits_past c o j h ∙ v))
 
   -- ---- what each return answers: r is the first used record, w the first owner past the count that does not fit
-  module _ (f : Checked) (r w : ℕ) (ef : f ≡ check limits (stored_config c)) (er : r ≡ used_record f)
+  module _ (f : Checked) (r w : ℕ) (ef : f ≡ check limits (stored_config c)) (er : r ≡ record_or_end f)
       (ew : w ≡ unfit_from c o n) where
     first_record : r ≡ used_from
     first_record = record_first f r ef er
@@ -253,6 +283,70 @@ module _ (c o : List ℕ) (e : Ranged c) where
             (λ i b. let a : i < n = omega (arith, length_places 0 n) in
             ap (wrong_at (stored_owned c o)) (place_at limits (stored_owned c o) i a) ∙ right_before i (omega arith) a)))
 
+-- ---- by what is looked for: the first owner past the count that does not fit, and the record of C3
+module _ (c o : List ℕ) (e : Ranged c) (f : Checked) (ef : f ≡ check limits (stored_config c)) (own rec : Option ℕ) (m : ℕ)
+    (em : m ≡ get_or c config_count 0) (ew : own ≡ first_unfit c o m) (er : rec ≡ used_record f) where
+  abbrev own_first : ℕ
+  own_first = unfit_from c o (get_or c config_count 0)
+
+  own_is : own ≡ below most_regions own_first
+  unfolding first_unfit
+  own_is = ew ∙ ap (λ (k : ℕ). below most_regions (unfit_from c o k)) em
+
+  record_within : (k : ℕ) → rec ≡ Some k → k < most_regions
+  record_within k h =
+      omega (
+        arith,
+        record_first c o e f k ef (record_there f rec er k h).0,
+        record_bound c o e f ef (record_there f rec er k h).1,
+      )
+
+  pub owner_only : (k : ℕ) → own ≡ Some k → rec ≡ None → Plain (NotZero k) ≡ owned_check limits (stored_owned c o)
+  owner_only k h g =
+      let there = found_below most_regions own_first own own_is k h in
+      owner_first c o e f most_regions k ef (record_nowhere f rec er g) there.0 there.1
+
+  pub owner_before : (k j : ℕ) → own ≡ Some k → rec ≡ Some j → k < j
+      → Plain (NotZero k) ≡ owned_check limits (stored_owned c o)
+  owner_before k j h g l =
+      owner_first c o e f j k ef (record_there f rec er j g).0 (found_below most_regions own_first own own_is k h).0 l
+
+  pub record_before : (k j : ℕ) → own ≡ Some k → rec ≡ Some j → j ≤ k → Plain f ≡ owned_check limits (stored_owned c o)
+  record_before k j h g l =
+      plain_record c o e f j k ef (record_there f rec er j g).0 (found_below most_regions own_first own own_is k h).0 l
+      (record_within j g)
+
+  pub record_only : (j : ℕ) → own ≡ None → rec ≡ Some j → Plain f ≡ owned_check limits (stored_owned c o)
+  record_only j h g =
+      let none_near : most_regions ≤ own_first = none_below most_regions own_first own own_is h in
+      let l : j < most_regions = record_within j g in
+      plain_record c o e f j own_first ef (record_there f rec er j g).0 refl (omega arith) l
+
+  module _ (h : own ≡ None) (g : rec ≡ None) (all : Option ℕ) (ea : all ≡ first_unfit c o 0) where
+    none_near : most_regions ≤ own_first
+    none_near = none_below most_regions own_first own own_is h
+
+    all_is : all ≡ below most_regions (unfit_from c o 0)
+    unfolding first_unfit
+    all_is = ea
+
+    pub wrong_told : (v : ℕ) → all ≡ Some v → v < m → WrongOwner v ≡ owned_check limits (stored_owned c o)
+    wrong_told v q l =
+        wrong_owner c o e f most_regions own_first ef (record_nowhere f rec er g) refl none_near (omega arith) v
+        (found_below most_regions (unfit_from c o 0) all all_is v q).0 (omega arith)
+
+    pub wrong_late : (v : ℕ) → all ≡ Some v → m ≤ v → Plain f ≡ owned_check limits (stored_owned c o)
+    wrong_late v q l =
+        plain_right c o e f most_regions own_first ef (record_nowhere f rec er g) refl none_near (omega arith) v
+        (found_below most_regions (unfit_from c o 0) all all_is v q).0 (omega arith)
+
+    pub none_wrong : all ≡ None → Plain f ≡ owned_check limits (stored_owned c o)
+    none_wrong q =
+        let few : get_or c config_count 0 ≤ most_regions = e.count in
+        let l : most_regions ≤ unfit_from c o 0 = none_below most_regions (unfit_from c o 0) all all_is q in
+        plain_right c o e f most_regions own_first ef (record_nowhere f rec er g) refl none_near (omega arith) (unfit_from c o 0) refl
+        (omega arith)
+
 -- ---- owners that fit leave the first machine's check as it is, and others are a fault
 module _ (c o : List ℕ) where
   abbrev found : Checked
@@ -263,7 +357,7 @@ module _ (c o : List ℕ) where
 
   -- the first used record, the first owner past the count that does not fit, the first of all
   abbrev r : ℕ
-  r = used_record found
+  r = record_or_end found
 
   abbrev w : ℕ
   w = unfit_from c o count

@@ -1,30 +1,33 @@
 -- The owner at a position, and the loop that looks for the first that does not fit: what is left gives the whole answer.
 use Prim.Native.Nat.{ℕ, ◌+◌, ◌≤◌, ◌<◌}
+use native.Mathlib.Decide.{dec_lt}
 use native.Mathlib.Omega.{arith}
 use mathlib.Core.Bool.{Bool, true, false, cond, not, true≢false}
 use mathlib.Core.List.{List}
 use mathlib.Core.Path.{◌≡◌, refl, sym, ap, ◌∙◌}
-use borrow.Author.Tests.{leb-true, leb-false, ltb-true, lt-ltb, le-ltb, le-leb, lt-leb, eq-eqb, ne_eqb, not-true, not-false}
+use borrow.Author.Tests.{ltb-false, leb-true, leb-false, ltb-true, lt-ltb, le-ltb, le-leb, lt-leb, eq-eqb, ne_eqb, not-true, not-false}
 use lib.Dec.{ltb, leb, eqb}
 use lib.ListN.{length, get_or}
+use Rattle.std.specs.Prelude.{Option, Some, None, is_some, MatchOption}
+use Rattle.std.proofs.lemmas.Option.{none-some, same_Some}
 use Rattle.lists.specs.First.{first_from, all}
 use Rattle.lists.specs.Places.{places}
-use Rattle.lists.proofs.First.{from_pass, from_hit, from_end, from_passes, between_fails}
+use Rattle.lists.proofs.First.{from_passes, between_fails, from_is, from_least}
 use Rattle.lists.proofs.Places.{length_places, get_d_places, every_at, every_make}
-use Rattle.lists.proofs.Tests.{true_of, same_test, parts, whole, all_miss, all_pass, all_last, told_off, told_on}
+use Rattle.lists.proofs.Tests.{true_of, same_test, parts, whole, all_miss, all_pass, all_last}
 use Rattle.rules.specs.Limits.{most_regions, highest_id}
 use Rattle.rules.specs.Owners.{gic_owner, right_owner}
 use Rattle.zones.specs.Layout.{config_count, config_gic}
-use Rattle.owners.specs.Fitting.{in_range, fits_at, unfit_at, owners_fit, Ranged}
+use Rattle.owners.specs.Fitting.{in_range, fits_at, unfit_at, owners_fit, first_unfit, below, Ranged}
 use Rattle.owners.specs.View.{stored_owned}
 
 -- ---- the count, and the GIC's position
 module _ (c : List ℕ) where
-  pub count_high : most_regions < get_or c config_count 0 → false ≡ in_range c
+  pub count_high : most_regions < get_or c config_count 0 → in_range c ≡ false
   unfolding in_range
-  count_high h = all_miss _ _ (lt-leb _ _ h)
+  count_high h = sym (all_miss _ _ (lt-leb _ _ h))
 
-  pub gic_told : get_or c config_count 0 ≤ most_regions → ltb (get_or c config_gic 0) (get_or c config_count 0) ≡ in_range c
+  gic_told : get_or c config_count 0 ≤ most_regions → ltb (get_or c config_gic 0) (get_or c config_count 0) ≡ in_range c
   unfolding in_range
   gic_told h = all_pass _ _ _ (le-leb _ _ h) (all_last _ _ refl)
 
@@ -32,8 +35,34 @@ module _ (c : List ℕ) where
   unfolding in_range
   range_parts e = record { count = leb-true _ _ (parts _ e).0; gic = ltb-true _ _ (parts _ e).1.0 }
 
-  pub range_told : (t : Bool) → t ≡ in_range c → not t ≡ false → Ranged c
-  range_told t e f = range_parts (told_on t (in_range c) e f)
+  pub range_make : Ranged c → in_range c ≡ true
+  unfolding in_range
+  range_make e = whole _ (le-leb _ _ e.count, (lt-ltb _ _ e.gic, tt))
+
+  pub gic_high : get_or c config_count 0 ≤ most_regions → get_or c config_count 0 ≤ get_or c config_gic 0 → in_range c ≡ false
+  gic_high h g = sym (gic_told h) ∙ le-ltb _ _ g
+
+-- ---- a number that is told where it is below n
+pub below_there : (n i j : ℕ) → i ≡ j → i < n → Some i ≡ below n j
+below_there n i j e h = ap Some e ∙ sym (ap (λ (b : Bool). cond b (Some j) None) (lt-ltb j n (omega arith)))
+
+pub below_none : (n j : ℕ) → n ≤ j → None ≡ below n j
+below_none n j h = sym (ap (λ (b : Bool). cond b (Some j) None) (le-ltb j n h))
+
+module _ (n i : ℕ) (o : Option ℕ) (e : o ≡ below n i) where
+  pub found_below : (k : ℕ) → o ≡ Some k → (k ≡ i) × (k < n)
+  found_below k h = by (ltb i n) refl (sym h ∙ e)
+    where
+      by : (b : Bool) → ltb i n ≡ b → Some k ≡ cond b (Some i) None → (k ≡ i) × (k < n)
+      by true q g = let j : k ≡ i = same_Some _ _ g in (j, omega (arith, ltb-true _ _ q))
+      by false q g = absurd (none-some k (sym g))
+
+  pub none_below : o ≡ None → n ≤ i
+  none_below h = by (ltb i n) refl (sym h ∙ e)
+    where
+      by : (b : Bool) → ltb i n ≡ b → None ≡ cond b (Some i) None → n ≤ i
+      by true q g = absurd (none-some _ g)
+      by false q g = ltb-false _ _ q
 
 -- ---- an owner
 module _ (c o : List ℕ) (i : ℕ) where
@@ -67,24 +96,6 @@ module _ (c o : List ℕ) where
   position : (i : ℕ) → i < most_regions → get_or (places 0 most_regions) i 0 ≡ i
   position i h = let e : 0 + i ≡ i = omega arith in get_d_places 0 most_regions i 0 h ∙ e
 
-  -- the loop's answers
-  module _ (i r : ℕ) (inv : unfit_from i ≡ r) where
-    pub unfit_hit : (t : Bool) → i < most_regions → t ≡ fits_at (stored_owned c o) i → not t ≡ true → i ≡ r
-    unfit_hit t h e f =
-        sym (from_hit (unfit_at (stored_owned c o)) (places 0 most_regions) i 0 (omega (arith, length_places 0 most_regions))
-        (ap (unfit_at (stored_owned c o)) (position i h) ∙ ap not (sym e) ∙ f)) ∙ inv
-
-    pub unfit_on : (t : Bool) → i < most_regions → t ≡ fits_at (stored_owned c o) i → not t ≡ false → unfit_from (i + 1) ≡ r
-    unfit_on t h e f =
-        sym (from_pass (unfit_at (stored_owned c o)) (places 0 most_regions) i 0
-        (omega (arith, length_places 0 most_regions))
-        (ap (unfit_at (stored_owned c o)) (position i h) ∙ ap not (sym e) ∙ f)) ∙ inv
-
-    pub unfit_end : most_regions ≤ i → i ≡ r
-    unfit_end h =
-        sym (from_end (unfit_at (stored_owned c o)) (places 0 most_regions) i (omega (arith, length_places 0 most_regions)))
-        ∙ inv
-
   -- what an answer says
   module _ (k i : ℕ) (e : i ≡ unfit_from k) where
     pub unfit_there : i < most_regions → fits_at (stored_owned c o) i ≡ false
@@ -102,6 +113,30 @@ module _ (c o : List ℕ) where
         (ap (unfit_at (stored_owned c o)) (sym (position j m))
         ∙ between_fails (unfit_at (stored_owned c o)) (places 0 most_regions) 0 k j h (omega arith))
 
+  -- what `find` says of the positions from k on
+  pub unfit_found : (k : ℕ) (r : Option ℕ) → k ≤ most_regions
+      → MatchOption r ((j : ℕ) → k ≤ j → j < most_regions → fits_at (stored_owned c o) j ≡ true)
+      (λ i. (k ≤ i) × (i < most_regions) × (fits_at (stored_owned c o) i ≡ false)
+      × ((j : ℕ) → k ≤ j → j < i → fits_at (stored_owned c o) j ≡ true))
+      → r ≡ first_unfit c o k
+  unfolding first_unfit
+  unfit_found k None m h =
+      below_none most_regions (unfit_from k)
+      (elim (dec_lt (unfit_from k) most_regions) [
+        | yes l ↦
+            absurd
+            (true≢false
+            (sym (h (unfit_from k) (from_least (unfit_at (stored_owned c o)) (places 0 most_regions) 0 k) l)
+            ∙ unfit_there k (unfit_from k) refl l))
+        | no l ↦ omega arith
+      ])
+  unfit_found k (Some i) m (a, l, f, before) =
+      below_there most_regions i (unfit_from k)
+      (sym
+      (from_is (unfit_at (stored_owned c o)) (places 0 most_regions) 0 k i a (omega (arith, length_places 0 most_regions))
+      (ap (unfit_at (stored_owned c o)) (position i l) ∙ ap not f)
+      (λ j x y. ap (unfit_at (stored_owned c o)) (position j (omega arith)) ∙ ap not (before j x y)))) l
+
   -- all fit
   pub all_fit : (k : ℕ) → k ≡ unfit_from 0 → leb most_regions k ≡ all (fits_at (stored_owned c o)) (places 0 most_regions)
   all_fit k e =
@@ -115,14 +150,24 @@ module _ (c o : List ℕ) where
       below : leb most_regions k ≡ false → k < most_regions
       below f = leb-false most_regions k f
 
-  pub none_fits : (t : Bool) → t ≡ in_range c → not t ≡ true → false ≡ owners_fit c o
+  pub none_fits : in_range c ≡ false → owners_fit c o ≡ false
   unfolding owners_fit
-  none_fits t e f = all_miss _ _ (told_off t (in_range c) e f)
+  none_fits h = sym (all_miss _ _ h)
 
-  pub fits_told : (t : Bool) (k : ℕ) → t ≡ in_range c → not t ≡ false → k ≡ unfit_from 0
-      → leb most_regions k ≡ owners_fit c o
-  unfolding owners_fit
-  fits_told t k e f g = all_pass _ _ _ (told_on t (in_range c) e f) (all_last _ _ (all_fit k g))
+  -- all fit where none is found that does not
+  pub fits_told : (r : Option ℕ) (b : Bool) → Ranged c → r ≡ first_unfit c o 0 → is_some r ≡ not b → b ≡ owners_fit c o
+  unfolding owners_fit first_unfit
+  fits_told r b e f g = by r refl
+    where
+      fit : leb most_regions (unfit_from 0) ≡ owners_fit c o
+      fit = all_pass _ _ _ (range_make c e) (all_last _ _ (all_fit (unfit_from 0) refl))
+
+      by : (x : Option ℕ) → r ≡ x → b ≡ owners_fit c o
+      by None q =
+          not-false b (sym g ∙ ap is_some q) ∙ sym (le-leb _ _ (none_below most_regions (unfit_from 0) r f q)) ∙ fit
+      by (Some k) q =
+          let there = found_below most_regions (unfit_from 0) r f k q in
+          not-true b (sym g ∙ ap is_some q) ∙ sym (lt-leb most_regions (unfit_from 0) (omega (arith, there.0, there.1))) ∙ fit
 
   module _ (e : owners_fit c o ≡ true) where
     pub fit_range : Ranged c

@@ -2,17 +2,23 @@
 -- the loops over a set and over the zones have one test of the definition each turn.
 use Prim.Native.Nat.{ℕ, ◌+◌, ◌-◌, ◌*◌, ◌≤◌, ◌<◌}
 use native.Mathlib.Nat.{sub-zero}
+use native.Mathlib.Decide.{dec_lt}
 use native.Mathlib.Omega.{arith}
-use mathlib.Core.Bool.{Bool, true, false, not, ◌||◌}
+use mathlib.Core.Bool.{Bool, true, false, ◌||◌, true≢false}
 use mathlib.Core.List.{List}
-use mathlib.Core.Path.{◌≡◌, sym, ap, ap₂, ◌∙◌}
-use borrow.Author.Tests.{not-true, not-false, le-leb, lt-leb, eq-eqb, ne_eqb}
-use lib.Dec.{eqb}
+use mathlib.Core.Path.{◌≡◌, refl, sym, ap, ap₂, ◌∙◌}
+use borrow.Author.Tests.{not-true, not-false, le-leb, lt-leb}
+use lib.Dec.{eqb, leb}
 use lib.ListN.{length, get_or, get_or-eq_default}
-use Rattle.lists.specs.First.{first_index, first_from, all}
+use Rattle.std.specs.Prelude.{Option, Some, None, MatchOption}
+use Rattle.std.specs.declared.ops.Range.{Range}
+use denote.Param.Members.{Mut}
+use Rattle.lists.specs.First.{first_index, all}
+use Rattle.lists.proofs.First.{first_passes, first_is}
+use Rattle.zones.proofs.Ranges.{RanOver, Tells, every_place}
 use Rattle.lists.specs.Places.{places}
 use Rattle.lists.specs.Room.{room}
-use Rattle.lists.proofs.Places.{length_tab, get_d_tab, take_tab, all_tab, every_stop, every_on}
+use Rattle.lists.proofs.Places.{length_tab, get_d_tab, take_tab, all_tab}
 use Rattle.lists.proofs.Room.{length_room, room_tab, room_take}
 use Rattle.lists.proofs.Tests.{or_left, all_miss, all_pass, all_last}
 use Rattle.rules.specs.Configuration.{gic_of, config_of}
@@ -26,7 +32,7 @@ use Rattle.zones.specs.Layout.{region_words, config_count, config_gic, config_re
 use Rattle.zones.specs.Records.{region_at, record_at, records_at}
 use Rattle.zones.specs.View.{all_records, config_in, set_in, zone_in, zones_in}
 use Rattle.zones.proofs.Readers.{start_is}
-use Rattle.zones.proofs.Records.{record_read, record_hit, record_end}
+use Rattle.zones.proofs.Records.{record_read}
 use Rattle.owners.specs.Fitting.{own_set, own_zone, own_table, Ranged}
 use Rattle.owners.specs.View.{owned_in}
 
@@ -51,26 +57,40 @@ module _ (c o : List ℕ) (e : Ranged c) where
     unfolding owner_of owned_of
     owner_is = ap (λ (rs : List Region). get_or (room count 0 o) (first_index (region_eq r) rs) gic_owner) regions_are
 
-    -- the loop's answers
-    module _ (n i : ℕ) (en : n ≡ count) (inv : first_from (region_eq r) (records_at c config_records n) i
-        ≡ first_index (region_eq r) (records_at c config_records n)) where
-      pub owner_found : (x : Region) (t : Bool) → i < n → x ≡ region_at c (config_records + i * region_words)
-          → t ≡ region_eq r x → t ≡ true → get_or o i 0 ≡ owner_of (owned_in c o) r
-      owner_found x t h g a f =
-          let q : i ≡ first_index (region_eq r) (records_at c config_records n) =
-          record_hit c config_records n i _ (region_eq r) x t inv h (record_read c config_records i x g) a f in
-          let p : i ≡ place = q ∙ ap (λ (m : ℕ). first_index (region_eq r) (records_at c config_records m)) en in
-          sym (owner_is
-          ∙ ap (λ (k : ℕ). get_or (room count 0 o) k gic_owner) (sym p)
-          ∙ ap (λ (l : List ℕ). get_or l i gic_owner) (room_tab count 0 o)
-          ∙ get_d_tab count (λ j. get_or o j 0) i gic_owner (omega arith))
-
-      pub owner_none : n ≤ i → gic_owner ≡ owner_of (owned_in c o) r
-      owner_none h =
-          let q : i ≡ first_index (region_eq r) (records_at c config_records n) =
-          record_end c config_records n i _ (region_eq r) inv h in
-          let p : i ≡ place = q ∙ ap (λ (m : ℕ). first_index (region_eq r) (records_at c config_records m)) en in
-          sym (owner_is ∙ get_or-eq_default (room count 0 o) gic_owner (omega (arith, length_room count 0 o)))
+    -- what `find` says of the positions, and the owner at the one that it gives
+    pub owner_told : (n : ℕ) (f : Option ℕ) (k : ℕ) → n ≡ count
+        → MatchOption f ((j : ℕ) → 0 ≤ j → j < n → region_eq r (record_at c config_records j) ≡ false)
+        (λ i. (0 ≤ i) × (i < n) × (region_eq r (record_at c config_records i) ≡ true)
+        × ((j : ℕ) → 0 ≤ j → j < i → region_eq r (record_at c config_records j) ≡ false))
+        → MatchOption f (k ≡ gic_owner) (λ i. k ≡ get_or o i 0) → k ≡ owner_of (owned_in c o) r
+    unfolding records_at
+    owner_told n None k en h e =
+        let far : count ≤ place =
+        elim (dec_lt place count) [
+          | yes l ↦ absurd
+              (true≢false
+              (sym (first_passes (region_eq r) (records_at c config_records count) no_region (omega (arith, many)))
+              ∙ ap (region_eq r) (get_d_tab count (record_at c config_records) place no_region l)
+              ∙ h place (omega arith) (omega arith)))
+          | no l ↦ omega arith
+        ] in
+        e ∙ sym (owner_is ∙ get_or-eq_default (room count 0 o) gic_owner (omega (arith, length_room count 0 o)))
+      where
+        many : length (records_at c config_records count) ≡ count
+        many = length_tab count (record_at c config_records)
+    owner_told n (Some i) k en (z, l, hit, before) e =
+        let q : place ≡ i =
+        first_is (region_eq r) (records_at c config_records count) no_region i (omega (arith, many))
+        (ap (region_eq r) (get_d_tab count (record_at c config_records) i no_region (omega arith)) ∙ hit)
+        (λ j x. ap (region_eq r) (get_d_tab count (record_at c config_records) j no_region (omega arith))
+        ∙ before j (omega arith) x) in
+        e ∙ sym (owner_is
+        ∙ ap (λ (k : ℕ). get_or (room count 0 o) k gic_owner) q
+        ∙ ap (λ (l : List ℕ). get_or l i gic_owner) (room_tab count 0 o)
+        ∙ get_d_tab count (λ j. get_or o j 0) i gic_owner (omega arith))
+      where
+        many : length (records_at c config_records count) ≡ count
+        many = length_tab count (record_at c config_records)
 
     pub gic_asked : (g : ℕ) (x : Region) (t : Bool) → g ≡ get_or c config_gic 0
         → x ≡ region_at c (config_records + g * region_words) → t ≡ region_eq r x → t ≡ region_eq r (gic_of (config_in c))
@@ -83,30 +103,28 @@ module _ (c o : List ℕ) (e : Ranged c) where
 
 -- ---- whether a zone may hold a region: k is its owner
 module _ (c o : List ℕ) (id : ℕ) (s : Side) (r : Region) (k : ℕ) (ek : k ≡ owner_of (owned_in c o) r) where
-  pub may_own : k ≡ id → true ≡ may_hold (owned_in c o) id s r
+  abbrev owns : Bool
+  owns = eqb k id
+
+  same : owns ≡ eqb (owner_of (owned_in c o) r) id
+  same = ap (λ (n : ℕ). eqb n id) ek
+
+  pub may_cpu : s ≡ Cpu → owns ≡ may_hold (owned_in c o) id s r
   unfolding may_hold
-  may_own h = by s
-    where
-      same : eqb (owner_of (owned_in c o) r) id ≡ true
-      same = eq-eqb _ _ (sym ek ∙ h)
+  may_cpu q = same ∙ sym (ap (λ (x : Side). may_hold (owned_in c o) id x r) q)
 
-      by : (s : Side) → true ≡ may_hold (owned_in c o) id s r
-      by Cpu = sym same
-      by Iommu = sym (or_left (eqb (owner_of (owned_in c o) r) id) _ same)
-
-  module _ (ne : k ≡ id → ⊥) where
-    other : eqb (owner_of (owned_in c o) r) id ≡ false
-    other = ne_eqb _ _ (λ h. ne (ek ∙ h))
-
-    pub may_cpu : s ≡ Cpu → false ≡ may_hold (owned_in c o) id s r
-    unfolding may_hold
-    may_cpu q = sym (ap (λ (x : Side). may_hold (owned_in c o) id x r) q ∙ other)
-
-    pub may_iommu : s ≡ Iommu → (t : Bool) → t ≡ region_eq r (gic_of (config_in c)) → t ≡ may_hold (owned_in c o) id s r
+  module _ (q : s ≡ Iommu) where
+    either : (owns || region_eq r (gic_of (config_in c))) ≡ may_hold (owned_in c o) id s r
     unfolding may_hold owned_of
-    may_iommu q t e =
-        e ∙ sym (ap (λ (x : Side). may_hold (owned_in c o) id x r) q
-        ∙ ap (λ (b : Bool). b || region_eq r (gic_of (config_in c))) other)
+    either =
+        ap (λ (b : Bool). b || region_eq r (gic_of (config_in c))) same
+        ∙ sym (ap (λ (x : Side). may_hold (owned_in c o) id x r) q)
+
+    pub may_own : owns ≡ true → owns ≡ may_hold (owned_in c o) id s r
+    may_own h = h ∙ sym (or_left owns (region_eq r (gic_of (config_in c))) h) ∙ either
+
+    pub may_iommu : owns ≡ false → (t : Bool) → t ≡ region_eq r (gic_of (config_in c)) → t ≡ may_hold (owned_in c o) id s r
+    may_iommu h t e = e ∙ sym (ap (λ (b : Bool). b || region_eq r (gic_of (config_in c))) h) ∙ either
 
 -- ---- a set, record by record
 -- the zone may hold record i of those whose count stands in word k
@@ -121,30 +139,20 @@ module _ (c o t : List ℕ) (id : ℕ) (s : Side) (k n : ℕ) (en : n ≡ get_or
   unfolding records_at
   many = length_tab (get_or t k 0) (record_at t (k + 1)) ∙ sym en
 
-  pub set_over : most_in_set < n → false ≡ own_set (owned_in c o) id s (records_at t (k + 1) (get_or t k 0))
+  pub set_over : leb n most_in_set ≡ false
+      → leb n most_in_set ≡ own_set (owned_in c o) id s (records_at t (k + 1) (get_or t k 0))
   unfolding own_set
-  set_over h = all_miss _ _ (lt-leb (length held) most_in_set (omega (arith, many)))
+  set_over h = h ∙ all_miss _ _ (ap (λ (m : ℕ). leb m most_in_set) many ∙ h)
 
-  pub set_start : n ≤ most_in_set
-      → all (may_at c o t id s k) (places 0 (n - 0)) ≡ own_set (owned_in c o) id s (records_at t (k + 1) (get_or t k 0))
+  pub set_told : {F : Type 0} {g : Mut F (ℕ × Unit {0}) Bool} {f : F} (u : Range ℕ) (r : Bool) → leb n most_in_set ≡ true
+      → RanOver g f 0 n u r → Tells g f (may_at c o t id s k)
+      → r ≡ own_set (owned_in c o) id s (records_at t (k + 1) (get_or t k 0))
   unfolding own_set may_at records_at
-  set_start h =
-      all_pass _ _ _ (le-leb (length held) most_in_set (omega (arith, many)))
+  set_told u r h ran told =
+      every_place (may_at c o t id s k) 0 n u r ran told
+      ∙ all_pass _ _ _ (ap (λ (m : ℕ). leb m most_in_set) many ∙ h)
       (all_last _ _ (ap (λ (m : ℕ). all (may_at c o t id s k) (places 0 m)) (sub-zero n ∙ en)
       ∙ sym (all_tab (may_hold (owned_in c o) id s) (get_or t k 0) (record_at t (k + 1)))))
-
-module _ (c o t : List ℕ) (id : ℕ) (s : Side) (k n i : ℕ) (r : Bool)
-    (inv : all (may_at c o t id s k) (places i (n - i)) ≡ r) (h : i < n) (x : Region)
-    (ex : x ≡ region_at t (k + 1 + i * region_words)) (b : Bool) (eb : b ≡ may_hold (owned_in c o) id s x) where
-  at_place : b ≡ may_at c o t id s k i
-  unfolding may_at
-  at_place = eb ∙ ap (may_hold (owned_in c o) id s) (record_read t (k + 1) i x ex)
-
-  pub set_stop : not b ≡ true → false ≡ r
-  set_stop f = every_stop (may_at c o t id s k) i n r b inv h at_place (not-true b f)
-
-  pub set_on : not b ≡ false → all (may_at c o t id s k) (places (i + 1) (n - (i + 1))) ≡ r
-  set_on f = every_on (may_at c o t id s k) i n r b inv h at_place (not-false b f)
 
 -- ---- a zone: j is the word where it begins
 module _ (c o t : List ℕ) (z j id : ℕ) (ej : j ≡ zone_start z) (h : z < most_zones) (ei : id ≡ get_or t j 0) where
@@ -175,15 +183,15 @@ module _ (c o t : List ℕ) (z j id : ℕ) (ej : j ≡ zone_start z) (h : z < mo
       e ∙ ap₂ (λ (m : ℕ) (xs : List Region). own_set (owned_in c o) m Iommu xs) id_same (set_at Iommu (j + 1 + set_words) q)
 
   module _ (a : Bool) (ea : a ≡ own_set (owned_in c o) id Cpu (records_at t (j + 1 + 1) (get_or t (j + 1) 0))) where
-    pub zone_stop : not a ≡ true → false ≡ own_zone (owned_in c o) (zone_in t z)
+    pub zone_stop : a ≡ false → a ≡ own_zone (owned_in c o) (zone_in t z)
     unfolding own_zone
-    zone_stop f = all_miss _ _ (sym (cpu_same a ea) ∙ not-true a f)
+    zone_stop f = f ∙ all_miss _ _ (sym (cpu_same a ea) ∙ f)
 
-    pub zone_told : not a ≡ false → (b : Bool)
+    pub zone_told : a ≡ true → (b : Bool)
         → b ≡ own_set (owned_in c o) id Iommu (records_at t (j + 1 + set_words + 1) (get_or t (j + 1 + set_words) 0))
         → b ≡ own_zone (owned_in c o) (zone_in t z)
     unfolding own_zone
-    zone_told f b e = all_pass b _ _ (sym (cpu_same a ea) ∙ not-false a f) (all_last b _ (iommu_same b e))
+    zone_told f b e = all_pass b _ _ (sym (cpu_same a ea) ∙ f) (all_last b _ (iommu_same b e))
 
 -- ---- the zones
 unfoldable pub own_at : List ℕ → List ℕ → List ℕ → ℕ → Bool
@@ -194,25 +202,15 @@ module _ (c o t : List ℕ) (n : ℕ) (en : n ≡ get_or t 0 0) where
   unfolding zones_in
   zones_many = length_tab (get_or t 0 0) (zone_in t) ∙ sym en
 
-  pub zones_over : most_zones < n → false ≡ own_table (owned_in c o) (zones_in t)
+  pub zones_over : leb n most_zones ≡ false → leb n most_zones ≡ own_table (owned_in c o) (zones_in t)
   unfolding own_table
-  zones_over h = all_miss _ _ (lt-leb (length (zones_in t)) most_zones (omega (arith, zones_many)))
+  zones_over h = h ∙ all_miss _ _ (ap (λ (m : ℕ). leb m most_zones) zones_many ∙ h)
 
-  pub zones_start : n ≤ most_zones → all (own_at c o t) (places 0 (n - 0)) ≡ own_table (owned_in c o) (zones_in t)
+  pub zones_told : {F : Type 0} {g : Mut F (ℕ × Unit {0}) Bool} {f : F} (u : Range ℕ) (r : Bool) → leb n most_zones ≡ true
+      → RanOver g f 0 n u r → Tells g f (own_at c o t) → r ≡ own_table (owned_in c o) (zones_in t)
   unfolding own_table own_at zones_in
-  zones_start h =
-      all_pass _ _ _ (le-leb (length (zones_in t)) most_zones (omega (arith, zones_many)))
+  zones_told u r h ran told =
+      every_place (own_at c o t) 0 n u r ran told
+      ∙ all_pass _ _ _ (ap (λ (m : ℕ). leb m most_zones) zones_many ∙ h)
       (all_last _ _ (ap (λ (m : ℕ). all (own_at c o t) (places 0 m)) (sub-zero n ∙ en)
       ∙ sym (all_tab (own_zone (owned_in c o)) (get_or t 0 0) (zone_in t))))
-
-module _ (c o t : List ℕ) (n z : ℕ) (r : Bool) (inv : all (own_at c o t) (places z (n - z)) ≡ r) (h : z < n) (b : Bool)
-    (eb : b ≡ own_zone (owned_in c o) (zone_in t z)) where
-  zone_here : b ≡ own_at c o t z
-  unfolding own_at
-  zone_here = eb
-
-  pub zones_stop : not b ≡ true → false ≡ r
-  zones_stop f = every_stop (own_at c o t) z n r b inv h zone_here (not-true b f)
-
-  pub zones_on : not b ≡ false → all (own_at c o t) (places (z + 1) (n - (z + 1))) ≡ r
-  zones_on f = every_on (own_at c o t) z n r b inv h zone_here (not-false b f)

@@ -5,29 +5,33 @@ use native.Mathlib.Omega.{arith}
 use mathlib.Core.Bool.{Bool, true, false, not, ◌&&◌, true≢false}
 use mathlib.Core.List.{List, [], ◌∷◌}
 use mathlib.Core.Path.{◌≡◌, refl, sym, ap, ap₂, ◌∙◌}
-use borrow.Author.Tests.{not-true}
+use borrow.Author.Tests.{ne_eqb}
 use lib.Dec.{eqb}
+use Rattle.std.specs.Prelude.{Result, Ok, Err, is_ok}
 use Rattle.lists.specs.First.{all}
 use Rattle.lists.specs.Rules.{◌when◌, first_rule, Rule}
 use Rattle.lists.specs.Tests.{all_of}
 use Rattle.lists.proofs.Every.{all_from}
 use Rattle.lists.proofs.Rules.{rule_hit, rule_skip}
-use Rattle.lists.proofs.Tests.{false_of, same_test, parts, whole, told_on}
+use Rattle.lists.proofs.Tests.{false_of, same_test, parts, whole}
 use Rattle.rules.specs.Configuration.{check, is_sound, Configuration}
 use Rattle.rules.specs.Limits.{limits}
 use Rattle.rules.specs.Owners.{holds_own, owned_sound, owned_check_table, owned_check, is_owned_sound, owned_of}
 use Rattle.rules.specs.Owners.{owned_standing_rules, owned_standing, Owned}
 use Rattle.rules.specs.Requests.{standing_rules, standing}
 use Rattle.rules.specs.Tables.{sound_set, sound_zone, sound, tidy, check_table, table_of, Zone}
+use Rattle.rules.specs.Numbers.{number, code}
 use Rattle.rules.specs.declared.Checked.{Checked}
 use Rattle.rules.specs.declared.Checked.TheVariants.{Sound}
+use Rattle.rules.specs.declared.refusal.Refusal.{Refusal}
 use Rattle.rules.proofs.Configuration.{sound_is, fault_unsound}
 use Rattle.zones.specs.View.{stored_config, stored_table, config_in, zones_in}
+use Rattle.zones.proofs.Ruling.{number_some}
 use Rattle.zones.proofs.Stored.{passed_same}
-use Rattle.owners.specs.Fitting.{owners_fit, own_set, own_zone, own_table, Ranged, Told}
+use Rattle.owners.specs.Fitting.{in_range, owners_fit, own_set, own_zone, own_table, Told}
 use Rattle.owners.specs.View.{stored_owned, owned_in}
 use Rattle.owners.proofs.Checking.{fit_plain, unfit_fault}
-use Rattle.owners.proofs.Fitting.{fit_range}
+use Rattle.owners.proofs.Fitting.{none_fits, fit_range}
 
 -- ---- a zone holds no other's region exactly where it holds what it may, within limits
 own_zone_law : (o : Owned) (z : Zone) → own_zone o z ≡ true → holds_own o z ≡ true
@@ -110,60 +114,70 @@ module _ (c o t : List ℕ) where
     rules = λ z. absurd (omega arith);
   }
 
-  pub told_unfit : (b : Bool) → b ≡ owners_fit c o → not b ≡ true → Told c o t 1
-  told_unfit b e f = told_one (unfit_fault c o (sym e ∙ not-true b f))
+  pub told_early : in_range c ≡ false → Told c o t 1
+  told_early h = told_one (unfit_fault c o (none_fits c o h))
 
-  module _ (b : Bool) (eb : b ≡ owners_fit c o) (fb : not b ≡ false) where
-    fit : owners_fit c o ≡ true
-    fit = told_on b (owners_fit c o) eb fb
+  -- x and y are the configuration and the owners under other names
+  module _ (x y : List ℕ) (ex : x ≡ c) (ey : y ≡ o) where
+    named_fit : owners_fit x y ≡ owners_fit c o
+    named_fit = ap₂ owners_fit ex ey
 
-    pub told_range : Ranged c
-    told_range = fit_range c o fit
+    pub told_unfit : (b : Bool) → b ≡ owners_fit x y → b ≡ false → Told c o t 1
+    told_unfit b e f = told_one (unfit_fault c o (sym (e ∙ named_fit) ∙ f))
 
-    module _ (h : Bool) (eh : h ≡ own_table (owned_in c o) (zones_in t)) where
-      pub told_own : h ≡ true → Told c o t 0
-      unfolding owned_standing_rules standing_rules
-      told_own g = record {
-        number = λ ne. absurd (ne refl);
-        range = λ z. told_range;
-        rules = λ z. ap₂ (λ (x y : Bool). 1 when not x ∷ 2 when not y ∷ []) (sound_same fit)
-            (table_same fit (sym eh ∙ g));
-      }
+    module _ (b : Bool) (eb : b ≡ owners_fit x y) (fb : b ≡ true) where
+      fit : owners_fit c o ≡ true
+      fit = sym (eb ∙ named_fit) ∙ fb
 
-      module _ (g : h ≡ false) (f : Checked) (ef : f ≡ check limits (stored_config c)) where
-        pub told_fault : (f ≡ Sound → ⊥) → Told c o t 1
-        told_fault bad = told_one (sound_same fit ∙ ap is_sound (sym ef) ∙ fault_unsound f bad)
+      module _ (h : Bool) (en : h ≡ own_table (owned_in x y) (zones_in t)) where
+        eh : h ≡ own_table (owned_in c o) (zones_in t)
+        eh = en ∙ ap₂ (λ (a b : List ℕ). own_table (owned_in a b) (zones_in t)) ex ey
 
-        pub told_foreign : f ≡ Sound → Told c o t 2
-        unfolding owned_standing_rules
-        told_foreign k = record {
-          number = λ ne.
-              rule_skip _ _ _ _ _ (ap not (sound_same fit ∙ ap is_sound (sym ef ∙ k) ∙ sound_is))
-              (rule_hit _ _ _ _ _ (ap not (false_of _ (λ e. true≢false (sym (all_own fit e) ∙ sym eh ∙ g)))) refl);
-          range = λ z. absurd (omega arith);
-          rules = λ z. absurd (omega arith);
+        pub told_own : h ≡ true → Told c o t 0
+        unfolding owned_standing_rules standing_rules
+        told_own g = record {
+          number = λ ne. absurd (ne refl);
+          range = λ z. fit_range c o fit;
+          rules = λ z. ap₂ (λ (x y : Bool). 1 when not x ∷ 2 when not y ∷ []) (sound_same fit)
+              (table_same fit (sym eh ∙ g));
         }
 
+        module _ (g : h ≡ false) (f : Checked) (ef : f ≡ check limits (stored_config c)) where
+          pub told_fault : (f ≡ Sound → ⊥) → Told c o t 1
+          told_fault bad = told_one (sound_same fit ∙ ap is_sound (sym ef) ∙ fault_unsound f bad)
+
+          pub told_foreign : f ≡ Sound → Told c o t 2
+          unfolding owned_standing_rules
+          told_foreign k = record {
+            number = λ ne.
+                rule_skip _ _ _ _ _ (ap not (sound_same fit ∙ ap is_sound (sym ef ∙ k) ∙ sound_is))
+                (rule_hit _ _ _ _ _ (ap not (false_of _ (λ e. true≢false (sym (all_own fit e) ∙ sym eh ∙ g)))) refl);
+            range = λ z. absurd (omega arith);
+            rules = λ z. absurd (omega arith);
+          }
+
   -- ---- the number, and the check
-  module _ (n : ℕ) (told : Told c o t n) where
-    pub own_stands : (n ≡ 0 → ⊥) → n ≡ owned_standing limits (stored_owned c o) (stored_table t)
-    own_stands ne = told.number ne
+  pub own_stands : (r : Refusal) → Told c o t (number r)
+      → number r ≡ owned_standing limits (stored_owned c o) (stored_table t)
+  own_stands r told = told.number (number_some r)
 
-    pub stands_ranged : n ≡ 0 → Ranged c
-    stands_ranged z = told.range z
+  pub plain_stands : Told c o t 0 → (m : ℕ) → m ≡ standing limits (stored_config c) (stored_table t)
+      → m ≡ owned_standing limits (stored_owned c o) (stored_table t)
+  plain_stands told m e = e ∙ ap (λ (rs : List (Rule ℕ)). first_rule rs 0) (sym (told.rules refl))
 
-    pub plain_stands : n ≡ 0 → (m : ℕ) → m ≡ standing limits (stored_config c) (stored_table t)
-        → m ≡ owned_standing limits (stored_owned c o) (stored_table t)
-    plain_stands z m e = e ∙ ap (λ (rs : List (Rule ℕ)). first_rule rs 0) (sym (told.rules z))
-
-  pub stands_told : (n : ℕ) → n ≡ owned_standing limits (stored_owned c o) (stored_table t)
-      → eqb n 0 ≡ owned_check_table limits (stored_owned c o) (stored_table t)
+  pub stands_told : (r : Result (Unit {0}) Refusal) → code r ≡ owned_standing limits (stored_owned c o) (stored_table t)
+      → is_ok r ≡ owned_check_table limits (stored_owned c o) (stored_table t)
   unfolding owned_standing_rules owned_check_table all_of first_rule
-  stands_told n e =
-      ap (λ (m : ℕ). eqb m 0) e
+  stands_told r e =
+      ok_none r
+      ∙ ap (λ (m : ℕ). eqb m 0) e
       ∙ by (is_owned_sound (owned_check limits (stored_owned c o)))
       (tidy (stored_table t) && (owned_sound limits (owned_in c o) (table_of (stored_table t)) && true))
     where
+      ok_none : (x : Result (Unit {0}) Refusal) → is_ok x ≡ eqb (code x) 0
+      ok_none (Ok u) = refl
+      ok_none (Err w) = sym (ne_eqb (number w) 0 (number_some w))
+
       by : (x y : Bool) → eqb (first_rule (1 when not x ∷ 2 when not (x && y) ∷ []) 0) 0 ≡ (x && y)
       by true true = refl
       by true false = refl

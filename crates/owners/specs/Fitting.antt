@@ -1,7 +1,7 @@
 -- What the owners add to the first machine's check, asked of any words: whether each owner is one that its position can
 -- have, and whether each zone holds what it may hold.
-use Rattle.std.specs.Prelude.{ℕ, ◌≤◌, ◌<◌, Bool, cond, not, List, [], ◌∷◌, ◌≡◌, ltb, leb, eqb, length, get_or}
-use Rattle.lists.specs.First.{all}
+use Rattle.std.specs.Prelude.{ℕ, ◌≤◌, ◌<◌, Bool, cond, not, List, [], ◌∷◌, ◌≡◌, ltb, leb, eqb, length, get_or, Option, Some, None}
+use Rattle.lists.specs.First.{first_from, all}
 use Rattle.lists.specs.Places.{places}
 use Rattle.lists.specs.Tests.{all_of}
 use Rattle.rules.specs.Configuration.{check_number, check_place}
@@ -37,9 +37,17 @@ unfit_at s i = not (fits_at s i)
 unfoldable pub owners_fit : List ℕ → List ℕ → Bool
 owners_fit c o = all_of (in_range c ∷ all (fits_at (stored_owned c o)) (places 0 most_regions) ∷ [])
 
--- the place of C3, or the number of records
-unfoldable pub used_record : Checked → ℕ
-used_record f = cond (eqb (check_number f) 3) (check_place f) most_regions
+-- i, where it is below n
+abbrev pub below : ℕ → ℕ → Option ℕ
+below n i = cond (ltb i n) (Some i) None
+
+-- the first position from k on whose owner does not fit
+unfoldable pub first_unfit : List ℕ → List ℕ → ℕ → Option ℕ
+first_unfit c o k = below most_regions (first_from (unfit_at (stored_owned c o)) (places 0 most_regions) k)
+
+-- the place of C3, where that is found
+unfoldable pub used_record : Checked → Option ℕ
+used_record f = cond (eqb (check_number f) 3) (Some (check_place f)) None
 
 -- ---- what zones hold
 -- the set is within limits, and the zone may hold each of its regions; both sets of a zone; every zone of a table

@@ -1,5 +1,5 @@
 -- A run of requests from lent bytes: its answer, and the words of the table afterwards.
-use Rattle.std.specs.Prelude.{ℕ, Bool, List, ◌≡◌}
+use Rattle.std.specs.Prelude.{ℕ, Bool, List, ◌≡◌, length, Option}
 use Rattle.lists.specs.First.{first_index}
 use Rattle.rules.specs.Limits.{limits}
 use Rattle.rules.specs.Owners.{stranger, owned_standing, owned_run, owned_run_answer}
@@ -9,6 +9,7 @@ use Rattle.rules.specs.declared.Outcome.{Outcome}
 use Rattle.rules.specs.declared.Request.{Request}
 use Rattle.zones.specs.Run.{words_run}
 use Rattle.zones.specs.View.{stored_table}
+use Rattle.owners.specs.Fitting.{below}
 use Rattle.owners.specs.View.{stored_owned, owned_in}
 
 -- the words of the table that the accepted requests leave, or those that were given
@@ -27,6 +28,6 @@ pub record OwnedRan (c o t b : List ℕ) (r : Outcome) (u : List ℕ) : Type 0 w
 unfoldable pub strange : List ℕ → List ℕ → Request → Bool
 strange c o q = stranger (owned_in c o) q.kind q.zone
 
--- the first of the requests that is one, or their number
-abbrev pub first_stranger : List ℕ → List ℕ → List ℕ → ℕ
-first_stranger c o b = first_index (strange c o) (requests_in b)
+-- the first of the requests that is one
+abbrev pub first_stranger : List ℕ → List ℕ → List ℕ → Option ℕ
+first_stranger c o b = below (length (requests_in b)) (first_index (strange c o) (requests_in b))

@@ -4,6 +4,7 @@
 
 mod check;
 mod holding;
+mod owned;
 mod run;
 mod sound;
 mod steps;

@@ -2,13 +2,14 @@
 ghost use Rattle.std.specs.Prelude.{◌≡◌};
 ghost use Rattle.rules.specs.Limits.{limits};
 ghost use Rattle.rules.specs.Owners.{owned_translated};
+ghost use Rattle.zones.specs.Translate.{told};
 ghost use Rattle.zones.specs.View.{stored_table};
 ghost use Rattle.owners.specs.View.{stored_owned};
 
-use crate::sound::own_number;
+use crate::sound::vetted;
 use rules::limits::MOST_REGIONS;
-use rules::{Guest, Phys, Side, Translated};
-use zones::{CONFIG_WORDS, TABLE_WORDS};
+use rules::{Guest, Refusal, Side};
+use zones::{CONFIG_WORDS, Stretch, TABLE_WORDS};
 
 // Where the device or processor of a zone comes out, for any words and any address.
 pub fn translate_in(
@@ -18,16 +19,9 @@ pub fn translate_in(
     zone: u32,
     side: Side,
     a: Guest,
-) -> Translated
-    ensures { result ≡ owned_translated limits (stored_owned c.now owners.now) (stored_table t.now) zone side a }
+) -> Result<Stretch, Refusal>
+    ensures { told result ≡ owned_translated limits (stored_owned c.now owners.now) (stored_table t.now) zone side a }
 {
-    let own = own_number(c, owners, t);
-    if own != 0 {
-        return Translated {
-            number: own,
-            phys: Phys(0),
-            remaining: 0,
-        };
-    }
+    vetted(c, owners, t)?;
     zones::translate_in(c, t, zone, side, a)
 }

@@ -34,8 +34,8 @@ use Rattle.zones.specs.Records.{records_at}
 use Rattle.zones.specs.View.{stored_config, stored_table, config_in, zones_in, ConfigPassed}
 use Rattle.zones.proofs.Running.{part_take, request_within}
 use Rattle.zones.proofs.Stepping.{stands_same}
-use Rattle.plan.specs.Held.{held_answer, is_held, holds_regions, config_held, table_held}
-use Rattle.plan.specs.declared.comparing.Held.TheVariants.{Same, Other}
+use Rattle.plan.specs.Held.{held_answer, holds_regions, config_held, table_held}
+use Rattle.std.proofs.Common.{Some, None, is_some}
 use Rattle.plan.proofs.Fields.{asked_in, region_value, wide_region, in_bytes}
 use Rattle.zones.proofs.ConfigReaders.{count_is, gic_is, regions_in}
 use Rattle.plan.proofs.Locating.{marks_got, requests_read_law}
@@ -212,11 +212,11 @@ module _ (b : List ℕ) (p : Plan) (t : List ℕ) (e : read_plan limits b ≡ go
 
 -- ---- its base, held against the terminal's words c and w
 pub held_value : {A : Type 0} (n : ℕ) (f : A → Bool) (o : Out A) (x : A) (t : List ℕ) → o ≡ got x t
-    → is_held (held_answer n f o) ≡ f x
-unfolding is_held held_answer
-held_value n f o x t e = ap (λ (y : Out _). is_held (held_answer n f y)) e ∙ by (f x)
+    → is_some (held_answer n f o) ≡ f x
+unfolding held_answer
+held_value n f o x t e = ap (λ (y : Out _). is_some (held_answer n f y)) e ∙ by (f x)
   where
-    by : (v : Bool) → is_held (cond v (Same (n - length t)) Other) ≡ v
+    by : (v : Bool) → is_some (cond v (Some (n - length t)) None) ≡ v
     by true = refl
     by false = refl
 
@@ -228,7 +228,7 @@ unfolding config_held holds_regions
 config_by c s gic rs t ok e =
     let regions : records_at c config_records (get_or c config_count 0) ≡ (config_in c).regions =
     ap (records_at c config_records) (count_is c ok).0 ∙ sym (regions_in c ok) in
-    let first : is_held (held_answer (length s) (holds_regions c config_count config_records) ((regions_section limits).read s))
+    let first : is_some (held_answer (length s) (holds_regions c config_count config_records) ((regions_section limits).read s))
     ≡ same_list region_eq (config_in c).regions rs =
     held_value _ (holds_regions c config_count config_records) _ rs t e
     ∙ ap (λ (l : List Region). same_list region_eq l rs) regions in

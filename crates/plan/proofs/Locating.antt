@@ -1,22 +1,23 @@
--- The sections of a plan, one after another: what a section leaves is lent to the next, and an offset in a part is one
--- in the plan when the part's own offset is added.
-use Prim.Native.Nat.{ℕ, suc, ◌+◌, ◌-◌, ◌*◌, ◌^◌, ◌≤◌, ◌<◌}
+-- The sections of a plan, one after another: each begins where the one before it ends.
+use Prim.Native.Nat.{ℕ, suc, ◌+◌, ◌-◌, ◌*◌, ◌≤◌, ◌<◌}
 use native.Mathlib.Omega.{arith}
-use mathlib.Core.Bool.{Bool, true, false, not, cond}
+use mathlib.Core.Bool.{Bool, true, false, cond}
 use mathlib.Core.List.{List, [], ◌∷◌}
 use mathlib.Core.Path.{◌≡◌, refl, sym, ap, ap₂, ◌∙◌}
-use borrow.Author.Tests.{lt-ltb, le-ltb}
+use borrow.Author.Tests.{lt-ltb, le-ltb, ltb-true, ltb-false}
 use lib.Dec.{ltb}
+use Rattle.std.proofs.Common.{Ok, Err}
 use lib.ListN.{length, take, drop, length-append, length-drop}
 use lib.Seq.{drop-drop}
 use Rattle.lists.specs.Bytes.{little}
 use Rattle.lists.specs.Places.{tab}
-use Rattle.formats.specs.Formats.{Out, got, bad, left, then, read_number, within, read_many, read_count}
+use Rattle.formats.specs.Formats.{Format, listed, Out, got, bad, left, then, read_number, read_many, read_count}
 use Rattle.formats.specs.Formats.{read_headed, read_both, read_as, at_end, read_file, number, both, exactly}
 use Rattle.formats.proofs.Formats.{Part, then_got, both_got, count_got}
-use Rattle.formats.proofs.Widths.{number_there, number_short, wide_number, wide_got, exactly_got}
-use Rattle.rules.specs.Fields.{region_size}
+use Rattle.formats.proofs.Widths.{number_short, wide_number, wide_got, exactly_got}
+use Rattle.rules.specs.Fields.{region_size, short_size}
 use Rattle.rules.specs.Limits.{most_regions, most_zones, most_in_set, most_requests, limits, in_format}
+use Rattle.rules.specs.Numbers.{number as number_of}
 use Rattle.rules.specs.Plan.{short, region_format, region_field, marks_to, marks_format, set_format, zone_to, zone_format}
 use Rattle.rules.specs.Plan.{plan_to, marks_section, regions_section, zones_section, requests_section, plan_format, read_plan}
 use Rattle.rules.specs.Plan.{Asked, Marks, Plan, RegionFits}
@@ -26,42 +27,30 @@ use Rattle.rules.specs.Tables.{Zone}
 use Rattle.rules.specs.declared.Region.{Region}
 use Rattle.rules.proofs.Plan.{lawful_region_field, lawful_list, lawful_zone, lawful_regions, lawful_zones}
 use Rattle.rules.proofs.Plan.{lawful_requests, lawful_plan}
-use Rattle.plan.specs.Fields.{NumberRead}
+use Rattle.plan.specs.Fields.{FieldRead}
 use Rattle.plan.specs.Held.{two_sets}
-use Rattle.plan.specs.Found.{marks_bytes, found_of, found_in, four_of, four_in, whole_of, leading, after_requests, requests_found}
-use Rattle.plan.specs.Found.{after_zones, zones_found}
-use Rattle.plan.specs.Found.{after_regions, regions_found, after_marks, marks_found}
-use Rattle.plan.specs.Sections.{marks_answer, section_answer}
-use Rattle.plan.specs.declared.field.Number.{Number}
-use Rattle.plan.specs.declared.field.Number.TheVariants.{Is, Missing}
+use Rattle.plan.specs.Found.{marks_bytes, found_at, found_of, found_in, four_at, four_of, four_in, whole_of, leading}
+use Rattle.plan.specs.Found.{after_requests, requests_found, after_zones, zones_found, after_regions, regions_found}
+use Rattle.plan.specs.Found.{after_marks, marks_found}
+use Rattle.plan.specs.Sections.{marks_answer, section_answer, reached}
+use Rattle.plan.specs.Told.{Told, answer_by}
 use Rattle.plan.specs.declared.finding.Found.{Found}
-use Rattle.plan.specs.declared.finding.Found.TheVariants.{At, Bad as BadFound}
 use Rattle.plan.specs.declared.finding.Four.{Four}
-use Rattle.plan.specs.declared.finding.Four.TheVariants.{At as FourAt, Bad as BadFour}
+use Rattle.plan.specs.declared.refused.Refused.{Refused}
 use Rattle.plan.specs.declared.sections.Marks.{Marks as MarksAre}
-use Rattle.plan.specs.declared.sections.Marks.TheVariants.{Are, Bad as BadMarks}
-use Rattle.plan.specs.declared.words.Section.{Section}
-use Rattle.plan.specs.declared.words.Section.TheVariants.{End, Bad}
-use Rattle.plan.proofs.Fields.{asked_in, asked_format, wide_asked, region_value, wide_region}
-use Rattle.plan.proofs.Into.{count_missing, count_out, count_in}
-use Rattle.plan.proofs.Offsets.{place, rest_of, part_in, left_within, end_within, bad_within, ends_with}
+use Rattle.plan.proofs.Fields.{asked_in, asked_format, wide_asked, region_value, wide_region, field_is, field_stops}
+use Rattle.plan.proofs.Offsets.{place, part_in, end_within, ends_with}
 use Rattle.plan.proofs.Passing.{list_read_law}
+use Rattle.plan.proofs.Told.{answer_stops, answer_as}
 
 -- ---- where something ends that is put together: o, and then what f says
 section_as : {A B : Type 0} (n : ℕ) (o : Out A) (to : A → B)
     → section_answer n o ≡ section_answer n (then o (λ x t. got (to x) t))
-unfolding section_answer then
-section_as n (got x t) to = refl
-section_as n (bad k t) to = refl
+section_as n o to = answer_as (λ x t. n - length t) (λ x t. n - length t) to (λ x t. refl) n o
 
-section_stops : {A B : Type 0} (n : ℕ) (o : Out A) (f : A → List ℕ → Out B) (r : Section) (k p : ℕ)
-    → r ≡ section_answer n o → r ≡ Bad k p → r ≡ section_answer n (then o f)
-unfolding section_answer then
-section_stops n (got x t) f r k p er e =
-    absurd (let q : End (n - length t) ≡ Bad k p = sym er ∙ e in
-    let z : ◌≡◌ {A = ℕ} 0 1 = cc in
-    omega arith)
-section_stops n (bad j t) f r k p er e = er
+section_stops : {A B : Type 0} (n : ℕ) (o : Out A) (f : A → List ℕ → Out B) (e : ℕ × ℕ)
+    → Err e ≡ section_answer n o → Err e ≡ section_answer n (then o f)
+section_stops n o f = answer_stops (λ x t. n - length t) n o f (λ x t. n - length t)
 
 -- ---- a zone: its id, then two sets
 pub set_part : (s : List ℕ) (at : ℕ) → Part (left ((set_format limits).read (drop at s))) s
@@ -70,16 +59,19 @@ set_part s at =
     ((lawful_list 0 most_in_set region_field RegionFits lawful_region_field).part (drop at s))
 
 module _ (s : List ℕ) (start : ℕ) where
-  pub zone_none : start ≤ length s → length s - start < 4
-      → Bad 20 start ≡ section_answer (length s) ((zone_format limits).read (drop start s))
-  unfolding section_answer read_as read_both then
-  zone_none h l =
-      rw (number_short 4 (drop start s) (omega (arith, length-drop start s))) (ap (Bad 20) (place s start h))
+  pub zone_none : (e : Refused) → FieldRead short_size s start (read_number 4 (drop start s)) (Err e)
+      → Err (number_of e.why, e.at) ≡ section_answer (length s) ((zone_format limits).read (drop start s))
+  unfolding read_as read_both
+  zone_none e read =
+      section_stops (length s) (then (read_number 4 (drop start s)) (λ x u. then (two_sets.read u) (λ y t. got (pair x y) t)))
+      (λ x t. got (zone_to x) t) (number_of e.why, e.at)
+      (field_stops short_size s start (read_number 4 (drop start s)) (λ x u. then (two_sets.read u) (λ y t. got (pair x y) t))
+      (λ x t. length s - length t) e read)
+    where
+      pair : ℕ → List Region × List Region → ℕ × (List Region × List Region)
+      pair x y = (x, y)
 
-  module _ (h : start ≤ length s) (l : 4 ≤ length s - start) where
-    abbrev id : ℕ
-    id = little (take 4 (drop start s))
-
+  module _ (id : ℕ) (read : FieldRead short_size s start (read_number 4 (drop start s)) (Ok id)) where
     zone_as : section_answer (length s) (two_sets.read (drop (start + 4) s))
         ≡ section_answer (length s) ((zone_format limits).read (drop start s))
     unfolding read_as read_both then
@@ -87,7 +79,8 @@ module _ (s : List ℕ) (start : ℕ) where
         section_as (length s) (two_sets.read (drop (start + 4) s)) with_id
         ∙ section_as (length s) (then (two_sets.read (drop (start + 4) s)) (λ y t. got (with_id y) t)) zone_to
         ∙ sym (ap (λ (o : Out ℕ). section_answer (length s)
-        (then (then o (λ x u. then (two_sets.read u) (λ y t. got (pair x y) t))) (λ x t. got (zone_to x) t))) read)
+        (then (then o (λ x u. then (two_sets.read u) (λ y t. got (pair x y) t))) (λ x t. got (zone_to x) t)))
+        (field_is short_size s start (read_number 4 (drop start s)) id read))
       where
         pair : ℕ → List Region × List Region → ℕ × (List Region × List Region)
         pair x y = (x, y)
@@ -95,73 +88,70 @@ module _ (s : List ℕ) (start : ℕ) where
         with_id : List Region × List Region → ℕ × (List Region × List Region)
         with_id y = (id, y)
 
-        read : read_number 4 (drop start s) ≡ got id (drop (start + 4) s)
-        read = number_there 4 (drop start s) (omega (arith, length-drop start s)) ∙ ap (got id) (drop-drop 4 start s)
+    pub zone_stops : (e : ℕ × ℕ) → Err e ≡ section_answer (length s) ((set_format limits).read (drop (start + 4) s))
+        → Err e ≡ section_answer (length s) ((zone_format limits).read (drop start s))
+    unfolding read_both
+    zone_stops e f =
+        section_stops (length s) ((set_format limits).read (drop (start + 4) s))
+        (λ x u. then ((set_format limits).read u) (λ y t. got (pair x y) t)) e f
+        ∙ zone_as
+      where
+        pair : List Region → List Region → List Region × List Region
+        pair x y = (x, y)
 
-    module _ (r : Section) (er : r ≡ section_answer (length s) ((set_format limits).read (drop (start + 4) s))) where
-      pub zone_stops : (k p : ℕ) → r ≡ Bad k p → r ≡ section_answer (length s) ((zone_format limits).read (drop start s))
-      unfolding read_both
-      zone_stops k p f =
-          section_stops (length s) ((set_format limits).read (drop (start + 4) s))
-          (λ x u. then ((set_format limits).read u) (λ y t. got (pair x y) t)) r k p er f
+    module _ (a : ℕ) (f : Ok a ≡ section_answer (length s) ((set_format limits).read (drop (start + 4) s))) where
+      pub second_there : a ≤ length s
+      second_there = end_within s _ (set_part s (start + 4)) a f
+
+      pub zone_ends : (v : Told ℕ) → v ≡ section_answer (length s) ((set_format limits).read (drop a s))
+          → v ≡ section_answer (length s) ((zone_format limits).read (drop start s))
+      unfolding read_both then
+      zone_ends v h =
+          let (xs, o) = ends_with s _ (set_part s (start + 4)) a f in
+          h
+          ∙ section_as (length s) ((set_format limits).read (drop a s)) (pair xs)
+          ∙ sym (ap (λ (x : Out (List Region)). section_answer (length s)
+          (then x (λ x u. then ((set_format limits).read u) (λ y t. got (pair x y) t)))) o)
           ∙ zone_as
         where
           pair : List Region → List Region → List Region × List Region
           pair x y = (x, y)
 
-      module _ (a : ℕ) (f : r ≡ End a) where
-        pub second_there : a ≤ length s
-        second_there = end_within s _ (set_part s (start + 4)) r er a f
-
-        pub zone_ends : (v : Section) → v ≡ section_answer (length s) ((set_format limits).read (drop a s))
-            → v ≡ section_answer (length s) ((zone_format limits).read (drop start s))
-        unfolding read_both then
-        zone_ends v h =
-            let (xs, o) = ends_with s _ (set_part s (start + 4)) r er a f in
-            h
-            ∙ section_as (length s) ((set_format limits).read (drop a s)) (pair xs)
-            ∙ sym (ap (λ (x : Out (List Region)). section_answer (length s)
-            (then x (λ x u. then ((set_format limits).read u) (λ y t. got (pair x y) t)))) o)
-            ∙ zone_as
-          where
-            pair : List Region → List Region → List Region × List Region
-            pair x y = (x, y)
-
 -- ---- zones one after another: where those from i on end is where all of them end
 pub zone_part : (s : List ℕ) (at : ℕ) → Part (left ((zone_format limits).read (drop at s))) s
 zone_part s at = part_in s (left ((zone_format limits).read (drop at s))) at ((lawful_zone limits).part (drop at s))
 
-abbrev pub zones_end : List ℕ → ℕ → ℕ → Section
+abbrev pub zones_end : List ℕ → ℕ → ℕ → Told ℕ
 zones_end s n at = section_answer (length s) (read_many (zone_format limits) n (drop at s))
 
-module _ (s : List ℕ) (n i at : ℕ) (R : Section) (inv : zones_end s (n - i) at ≡ R) where
-  pub list_over : n ≤ i → at ≤ length s → End at ≡ R
-  unfolding section_answer read_many
+module _ (s : List ℕ) (n i at : ℕ) (R : Told ℕ) (inv : zones_end s (n - i) at ≡ R) where
+  pub list_over : n ≤ i → at ≤ length s → Ok at ≡ R
+  unfolding answer_by read_many
   list_over h l =
       let e : n - i ≡ 0 = omega arith in
-      ap End (place s at l) ∙ sym (ap (λ (m : ℕ). zones_end s m at) e) ∙ inv
+      ap (λ (p : ℕ). Ok p) (place s at l) ∙ sym (ap (λ (m : ℕ). zones_end s m at) e) ∙ inv
 
-  module _ (h : i < n) (r : Section) (er : r ≡ section_answer (length s) ((zone_format limits).read (drop at s))) where
+  module _ (h : i < n) where
     turn : section_answer (length s) (then ((zone_format limits).read (drop at s))
         (λ x u. then (read_many (zone_format limits) (n - (i + 1)) u) (λ xs t. got (x ∷ xs) t)))
         ≡ R
     unfolding read_many
     turn = let e : n - i ≡ suc (n - (i + 1)) = omega arith in sym (ap (λ (m : ℕ). zones_end s m at) e) ∙ inv
 
-    pub list_stops : (k p : ℕ) → r ≡ Bad k p → r ≡ R
-    list_stops k p f =
+    pub list_stops : (e : ℕ × ℕ) → Err e ≡ section_answer (length s) ((zone_format limits).read (drop at s)) → Err e ≡ R
+    list_stops e f =
         section_stops (length s) ((zone_format limits).read (drop at s))
-        (λ x u. then (read_many (zone_format limits) (n - (i + 1)) u) (λ xs t. got (x ∷ xs) t)) r k p er f
+        (λ x u. then (read_many (zone_format limits) (n - (i + 1)) u) (λ xs t. got (x ∷ xs) t)) e f
         ∙ turn
 
-    module _ (a : ℕ) (f : r ≡ End a) where
+    module _ (a : ℕ) (f : Ok a ≡ section_answer (length s) ((zone_format limits).read (drop at s))) where
       pub list_within : a ≤ length s
-      list_within = end_within s _ (zone_part s at) r er a f
+      list_within = end_within s _ (zone_part s at) a f
 
       pub list_goes : zones_end s (n - (i + 1)) a ≡ R
       unfolding then
       list_goes =
-          let (x, o) = ends_with s _ (zone_part s at) r er a f in
+          let (x, o) = ends_with s _ (zone_part s at) a f in
           section_as (length s) (read_many (zone_format limits) (n - (i + 1)) (drop a s)) (λ xs. x ∷ xs)
           ∙ sym (ap (λ (y : Out Zone). section_answer (length s)
           (then y (λ x u. then (read_many (zone_format limits) (n - (i + 1)) u) (λ xs t. got (x ∷ xs) t)))) o)
@@ -171,149 +161,69 @@ pub list_begins : (s : List ℕ) (n at : ℕ) → zones_end s (n - 0) at ≡ zon
 list_begins s n at = let e : n - 0 ≡ n = omega arith in ap (λ (m : ℕ). zones_end s m at) e
 
 -- the zones' section, after its count
-module _ (s : List ℕ) (c : Number) (read : NumberRead s 0 (read_number 4 (drop 0 s)) c) where
-  pub zones_none : c ≡ Missing → Bad 20 0 ≡ section_answer (length s) ((zones_section limits).read s)
-  unfolding section_answer read_headed then
-  zones_none e = rw (count_missing s 0 c read 0 most_zones e) (ap (Bad 20) (place s 0 (omega arith)))
+module _ (s : List ℕ) (at : ℕ) where
+  pub zones_none : (e : Refused) → FieldRead short_size s at (read_count 4 0 most_zones (drop at s)) (Err e)
+      → Err (number_of e.why, e.at) ≡ section_answer (length s) ((zones_section limits).read (drop at s))
+  unfolding read_headed
+  zones_none =
+      field_stops short_size s at (read_count 4 0 most_zones (drop at s)) (λ c u. read_many (zone_format limits) c u)
+      (λ x t. length s - length t)
 
-  module _ (n : ℕ) (b : Bool) (e : c ≡ Is n) (t : b ≡ within 0 most_zones n) where
-    pub zones_out : not b ≡ true → Bad 21 0 ≡ section_answer (length s) ((zones_section limits).read s)
-    unfolding section_answer read_headed then
-    zones_out h = rw (count_out s 0 c read 0 most_zones n b e t h) (ap (Bad 21) (place s 0 (omega arith)))
+  pub zones_pass : (n : ℕ) → FieldRead short_size s at (read_count 4 0 most_zones (drop at s)) (Ok n) → (v : Told ℕ)
+      → v ≡ zones_end s n (at + 4) → v ≡ section_answer (length s) ((zones_section limits).read (drop at s))
+  unfolding read_headed then
+  zones_pass n read v g =
+      g ∙ sym (ap (λ (o : Out ℕ). section_answer (length s) (then o (λ c u. read_many (zone_format limits) c u)))
+      (field_is short_size s at (read_count 4 0 most_zones (drop at s)) n read))
 
-    pub zones_pass : (v : Section) → not b ≡ false → v ≡ zones_end s n 4
-        → v ≡ section_answer (length s) ((zones_section limits).read s)
-    unfolding read_headed then
-    zones_pass v h g =
-        g ∙ sym (ap (λ (o : Out ℕ). section_answer (length s) (then o (λ c u. read_many (zone_format limits) c u)))
-        (count_in s 0 c read 0 most_zones n b e t h))
-
--- ---- a section that reads o, in a part of the plan that begins at byte base
-module _ {A : Type 0} (s : List ℕ) (o : Out A) (part : Part (left o) s) (r : Section)
-    (er : r ≡ section_answer (length s) o) (f : A → List ℕ → Four) (base : ℕ) where
+-- ---- a section that reads o, among n bytes, and what f says of what is behind it
+module _ {A : Type 0} (n : ℕ) (o : Out A) (f : A → List ℕ → Told Four) where
   -- a refusal is the plan's
-  pub leads_bad : (k a : ℕ) → r ≡ Bad k a → BadFour k (base + a) ≡ leading f (base + length s) o
-  unfolding section_answer leading left
-  leads_bad k a g = by o er (left_within s o part r er)
+  pub leads_bad : (e : ℕ × ℕ) → Err e ≡ section_answer n o → Err e ≡ leading f n o
+  unfolding answer_by leading
+  leads_bad e g = by o g
     where
-      by : (o : Out A) → r ≡ section_answer (length s) o → length (left o) ≤ length s
-          → BadFour k (base + a) ≡ leading f (base + length s) o
-      by (got x t) d l =
-          absurd (let q : End (length s - length t) ≡ Bad k a = sym d ∙ g in
-          let z : ◌≡◌ {A = ℕ} 0 1 = cc in
-          omega arith)
-      by (bad j t) d l =
-          let q : Bad j (length s - length t) ≡ Bad k a = sym d ∙ g in
-          let m : k ≡ j = cc in
-          let n : length s - length t ≡ a = cc in
-          let place : base + a ≡ base + length s - length t = omega arith in
-          ap₂ (λ (i p : ℕ). BadFour i p) m place
+      by : (o : Out A) → Err e ≡ section_answer n o → Err e ≡ leading f n o
+      by (got x t) d = absurd (cc)
+      by (bad j t) d = let q : e ≡ (j, n - length t) = cc in ap (λ (x : ℕ × ℕ). Err x) q
 
-  pub leads_on : (e : ℕ) (x : A) → o ≡ got x (drop e s) → f x (drop e s) ≡ leading f (base + length s) o
+  pub leads_on : (x : A) (t : List ℕ) → o ≡ got x t → f x t ≡ leading f n o
   unfolding leading
-  leads_on e x h = sym (ap (leading f (base + length s)) h)
+  leads_on x t h = sym (ap (leading f n) h)
 
--- the offset of what follows a section
-next_base : (s : List ℕ) (e base : ℕ) → e ≤ length s → base + e + length (drop e s) ≡ base + length s
-next_base s e base h = omega (arith, length-drop e s)
+-- ---- bytes that end before a place: r is whether they reach it
+pub reached_there : (n a : ℕ) (x : Unit {0}) → Ok x ≡ reached n a → a ≤ n
+unfolding reached
+reached_there n a x e = by (ltb n a) refl e
+  where
+    by : (h : Bool) → ltb n a ≡ h → ◌≡◌ {A = Told (Unit {0})} (Ok x) (cond h (Err (20, n)) (Ok tt)) → a ≤ n
+    by true q f = absurd (cc)
+    by false q f = ltb-false _ _ q
 
--- ---- the regions
-module _ (s : List ℕ) (gic edition base : ℕ) (r : Section)
-    (er : r ≡ section_answer (length s) ((regions_section limits).read s)) where
-  regions_part : Part (left ((regions_section limits).read s)) s
-  regions_part = (lawful_regions limits).part s
+pub reached_not : (n a : ℕ) (e : ℕ × ℕ) → Err e ≡ reached n a → (n < a) × (e ≡ (20, n))
+unfolding reached
+reached_not n a e d = by (ltb n a) refl d
+  where
+    by : (h : Bool) → ltb n a ≡ h → ◌≡◌ {A = Told (Unit {0})} (Err e) (cond h (Err (20, n)) (Ok tt)) → (n < a) × (e ≡ (20, n))
+    by true q f = (ltb-true _ _ q, cc)
+    by false q f = absurd (cc)
 
-  module _ (k a : ℕ) (g : r ≡ Bad k a) where
-    pub regions_place : base + length s < 2 ^ 64 → base + a < 2 ^ 64
-    regions_place h = let l : a ≤ length s = bad_within s _ regions_part r er k a g in omega arith
+pub list_beyond : {A : Type 0} (f : Format A) (lo hi : ℕ) (s : List ℕ) (a : ℕ) (e : ℕ × ℕ) → Err e ≡ reached (length s) a
+    → Err e ≡ section_answer (length s) ((listed 4 lo hi f).read (drop a s))
+unfolding answer_by read_headed read_count then
+list_beyond f lo hi s a e d =
+    let (h, q) = reached_not _ _ _ d in
+    let at : length s ≡ length s - length (drop a s) = omega (arith, length-drop a s) in
+    rw q (rw (number_short 4 (drop a s) (omega (arith, length-drop a s))) (ap (λ (p : ℕ). Err (20, p)) at))
 
-    pub regions_refused : BadFour k (base + a) ≡ regions_found gic edition base (base + length s) s
-    regions_refused = leads_bad s _ regions_part r er (after_regions gic edition base (base + length s)) base k a g
-
-  module _ (e : ℕ) (g : r ≡ End e) where
-    pub regions_end : e ≤ length s
-    regions_end = end_within s _ regions_part r er e g
-
-    pub zones_place : base + length s < 2 ^ 64 → base + e < 2 ^ 64
-    zones_place h = let l : e ≤ length s = regions_end in omega arith
-
-    pub zones_follow : base + length s < 2 ^ 64 → base + e + length (take (length s - e) (drop e s)) < 2 ^ 64
-    zones_follow h = let l : e ≤ length s = regions_end in omega (arith, ap length (rest_of s e), next_base s e base l)
-
-    pub regions_lead : (v : Four)
-        → v ≡ zones_found gic edition (base + e) (base + e + length (take (length s - e) (drop e s)))
-        (take (length s - e) (drop e s))
-        → v ≡ regions_found gic edition base (base + length s) s
-    unfolding after_regions
-    regions_lead v h =
-        let (rs, o) = ends_with s _ regions_part r er e g in
-        let read = list_read_law region_format region_size region_value wide_region 1 most_regions s rs (drop e s) o in
-        let l : e ≤ length s = regions_end in
-        let at : base + e ≡ base + (4 + length rs * region_size) =
-        omega (
-          arith,
-          read.there,
-          ap length read.rest,
-          length-drop e s,
-          length-drop (4 + length rs * region_size) s,
-        ) in
-        h ∙ ap (λ (b : List ℕ). zones_found gic edition (base + e) (base + e + length b) b) (rest_of s e)
-        ∙ ap₂ (λ (z n : ℕ). zones_found gic edition z n (drop e s)) at (next_base s e base l)
-        ∙ leads_on s _ regions_part r er (after_regions gic edition base (base + length s)) base e rs o
-
--- ---- the zones
-module _ (s : List ℕ) (gic edition base : ℕ) (r : Section)
-    (er : r ≡ section_answer (length s) ((zones_section limits).read s)) where
-  zones_part_law : Part (left ((zones_section limits).read s)) s
-  zones_part_law = (lawful_zones limits).part s
-
-  module _ (k a : ℕ) (g : r ≡ Bad k a) where
-    pub bad_zones_place : base + length s < 2 ^ 64 → base + a < 2 ^ 64
-    bad_zones_place h = let l : a ≤ length s = bad_within s _ zones_part_law r er k a g in omega arith
-
-    pub zones_refused : BadFour k (base + a) ≡ zones_found gic edition base (base + length s) s
-    zones_refused = leads_bad s _ zones_part_law r er (after_zones gic edition base (base + length s)) base k a g
-
-  module _ (e : ℕ) (g : r ≡ End e) where
-    pub zones_end_law : e ≤ length s
-    zones_end_law = end_within s _ zones_part_law r er e g
-
-    pub requests_place : base + length s < 2 ^ 64 → base + e < 2 ^ 64
-    requests_place h = let l : e ≤ length s = zones_end_law in omega arith
-
-    pub requests_follow : base + length s < 2 ^ 64 → base + e + length (take (length s - e) (drop e s)) < 2 ^ 64
-    requests_follow h = let l : e ≤ length s = zones_end_law in omega (arith, ap length (rest_of s e), next_base s e base l)
-
-    pub zones_lead : (v : Four)
-        → v ≡ requests_found gic edition base (base + e + length (take (length s - e) (drop e s)))
-        (take (length s - e) (drop e s))
-        → v ≡ zones_found gic edition base (base + length s) s
-    unfolding after_zones
-    zones_lead v h =
-        let (zs, o) = ends_with s _ zones_part_law r er e g in
-        h ∙ ap (λ (b : List ℕ). requests_found gic edition base (base + e + length b) b) (rest_of s e)
-        ∙ ap (λ (n : ℕ). requests_found gic edition base n (drop e s)) (next_base s e base zones_end_law)
-        ∙ leads_on s _ zones_part_law r er (after_zones gic edition base (base + length s)) base e zs o
-
--- in a plan b, from byte z on
-module _ (b : List ℕ) (gic edition z : ℕ) where
-  pub zones_beyond : length b < z → BadFour 20 (length b) ≡ zones_found gic edition z (length b) (drop z b)
-  unfolding leading read_headed read_count then
-  zones_beyond h =
-      let at : length b ≡ length b - length (drop z b) = omega (arith, length-drop z b) in
-      rw (number_short 4 (drop z b) (omega (arith, length-drop z b))) (ap (BadFour 20) at)
-
-  pub zones_start : z ≤ length b → length b < 2 ^ 64 → z + length (take (length b - z) (drop z b)) < 2 ^ 64
-  zones_start h l = omega (arith, ap length (rest_of b z), length-drop z b)
-
-  pub zones_from_law : z ≤ length b → (v : Four)
-      → v ≡ zones_found gic edition z (z + length (take (length b - z) (drop z b))) (take (length b - z) (drop z b))
-      → v ≡ zones_found gic edition z (length b) (drop z b)
-  zones_from_law h v e =
-      let n : z + length (drop z b) ≡ length b = omega (arith, length-drop z b) in
-      e
-      ∙ ap (λ (s : List ℕ). zones_found gic edition z (z + length s) s) (rest_of b z)
-      ∙ ap (λ (k : ℕ). zones_found gic edition z k (drop z b)) n
+-- ---- the zones of a plan s, from byte z on
+pub zones_beyond : (s : List ℕ) (gic edition z : ℕ) (e : ℕ × ℕ) → Err e ≡ reached (length s) z
+    → Err e ≡ zones_found gic edition z (length s) (drop z s)
+unfolding leading read_headed read_count then
+zones_beyond s gic edition z e d =
+    let (h, q) = reached_not _ _ _ d in
+    let at : length s ≡ length s - length (drop z s) = omega (arith, length-drop z s) in
+    rw q (rw (number_short 4 (drop z s) (omega (arith, length-drop z s))) (ap (λ (p : ℕ). Err (20, p)) at))
 
 -- ---- the requests: so many of one width
 pub requests_read_law : (s : List ℕ) (qs : List Asked) (t : List ℕ) → (requests_section limits).read s ≡ got qs t
@@ -323,39 +233,54 @@ requests_read_law s qs t e =
     let read = list_read_law asked_format request_size asked_in wide_asked 0 most_requests s qs t e in
     (omega (arith, read.there, ap length read.rest, length-drop (4 + length qs * request_size) s), read.each)
 
-module _ (s : List ℕ) (base gic edition zones : ℕ) (r : Section)
-    (er : r ≡ section_answer (length s) ((requests_section limits).read s)) where
-  requests_part : Part (left ((requests_section limits).read s)) s
-  requests_part = (lawful_requests limits).part s
+module _ (s : List ℕ) (gic edition z : ℕ) where
+  zones_at_part : Part (left ((zones_section limits).read (drop z s))) s
+  zones_at_part = part_in s (left ((zones_section limits).read (drop z s))) z ((lawful_zones limits).part (drop z s))
 
-  module _ (k a : ℕ) (g : r ≡ Bad k a) where
-    pub bad_requests_place : base + length s < 2 ^ 64 → base + a < 2 ^ 64
-    bad_requests_place h = let l : a ≤ length s = bad_within s _ requests_part r er k a g in omega arith
+  pub zones_refused : (e : ℕ × ℕ) → Err e ≡ section_answer (length s) ((zones_section limits).read (drop z s))
+      → Err e ≡ zones_found gic edition z (length s) (drop z s)
+  zones_refused = leads_bad (length s) ((zones_section limits).read (drop z s)) (after_zones gic edition z (length s))
 
-    pub requests_refused : BadFour k (base + a) ≡ requests_found gic edition zones (base + length s) s
-    requests_refused = leads_bad s _ requests_part r er (after_requests gic edition zones (base + length s)) base k a g
+  -- the requests' count is at byte l
+  module _ (l : ℕ) (f : Ok l ≡ section_answer (length s) ((zones_section limits).read (drop z s))) where
+    pub zones_within : l ≤ length s
+    zones_within = end_within s _ zones_at_part l f
 
-  module _ (e : ℕ) (g : r ≡ End e) where
-    found : (qs : List Asked) × ((requests_section limits).read s ≡ got qs (drop e s))
-        × (4 + length qs * request_size + length (drop e s) ≡ length s)
-    found = let (qs, o) = ends_with s _ requests_part r er e g in (qs, o, (requests_read_law s qs (drop e s) o).0)
+    behind_zones : requests_found gic edition z (length s) (drop l s) ≡ zones_found gic edition z (length s) (drop z s)
+    unfolding after_zones
+    behind_zones =
+        let (zs, o) = ends_with s _ zones_at_part l f in
+        leads_on (length s) ((zones_section limits).read (drop z s)) (after_zones gic edition z (length s)) zs (drop l s) o
 
-    pub requests_start : base + length s < 2 ^ 64 → base + 4 < 2 ^ 64
-    requests_start h = let (qs, o, l) = found in omega arith
+    requests_part : Part (left ((requests_section limits).read (drop l s))) s
+    requests_part =
+        part_in s (left ((requests_section limits).read (drop l s))) l ((lawful_requests limits).part (drop l s))
 
-    pub requests_over : base + length s < 2 ^ 64 → base + e < 2 ^ 64
-    requests_over h = let l : e ≤ length s = end_within s _ requests_part r er e g in omega arith
+    pub requests_refused : (e : ℕ × ℕ) → Err e ≡ section_answer (length s) ((requests_section limits).read (drop l s))
+        → Err e ≡ zones_found gic edition z (length s) (drop z s)
+    requests_refused e g =
+        leads_bad (length s) ((requests_section limits).read (drop l s)) (after_requests gic edition z (length s)) e g
+        ∙ behind_zones
 
-    pub requests_found_law : FourAt gic edition zones (base + 4) (base + e)
-        ≡ requests_found gic edition zones (base + length s) s
-    unfolding after_requests
-    requests_found_law =
-        let (qs, o, l) = found in
-        let w : e ≤ length s = end_within s _ requests_part r er e g in
-        let first : base + 4 ≡ base + length s - length (drop e s) - length qs * request_size = omega arith in
-        let last : base + e ≡ base + length s - length (drop e s) = omega (arith, length-drop e s) in
-        ap₂ (λ (x y : ℕ). FourAt gic edition zones x y) first last
-        ∙ leads_on s _ requests_part r er (after_requests gic edition zones (base + length s)) base e qs o
+    module _ (e : ℕ) (g : Ok e ≡ section_answer (length s) ((requests_section limits).read (drop l s))) where
+      found : (qs : List Asked) × ((requests_section limits).read (drop l s) ≡ got qs (drop e s))
+          × (4 + length qs * request_size + length (drop e s) ≡ length (drop l s))
+      found =
+          let (qs, o) = ends_with s _ requests_part e g in (qs, o, (requests_read_law (drop l s) qs (drop e s) o).0)
+
+      pub requests_start : l + 4 ≤ length s
+      requests_start = let (qs, o, m) = found in omega (arith, length-drop l s)
+
+      pub sections_found : Ok (four_at gic edition z (l + 4) e) ≡ zones_found gic edition z (length s) (drop z s)
+      unfolding after_requests
+      sections_found =
+          let (qs, o, m) = found in
+          let first : l + 4 ≡ length s - length (drop e s) - length qs * request_size = omega (arith, length-drop l s) in
+          let last : e ≡ length s - length (drop e s) = place s e (end_within s _ requests_part e g) in
+          ap₂ (λ (x y : ℕ). Ok (four_at gic edition z x y)) first last
+          ∙ leads_on (length s) ((requests_section limits).read (drop l s)) (after_requests gic edition z (length s)) qs
+          (drop e s) o
+          ∙ behind_zones
 
 -- ---- the marks, and the whole
 pub marks_got : (k : ℕ) (s : List ℕ) (m : Marks) (t : List ℕ) → (marks_section (in_format (k ∷ []) limits)).read s ≡ got m t
@@ -376,58 +301,47 @@ marks_got k s m t e =
       sym q4 ∙ q3 ∙ ap (drop 4) (q2 ∙ ap (drop 4) q1 ∙ drop-drop 4 4 u) ∙ drop-drop 4 8 u ∙ ap (drop 12) eu ∙ drop-drop 12 4 s,
     )
 
--- ---- what was found, of what a reader of plans of any kind reads: r is that
+-- ---- what was found, of what a reader of plans of any kind reads
 module _ {S : Type 0} (plan : S → Plan) (zones_of : S → ℕ) (n : ℕ) (o : Out S) where
-  pub record Whole (gic edition zones requests : ℕ) : Type 0 where
+  pub record Whole (r : Found) : Type 0 where
     pub said : S
     pub left : List ℕ
     pub read : o ≡ got said left
-    pub gic_is : gic ≡ (plan said).marks.gic
-    pub edition_is : edition ≡ (plan said).marks.edition
-    pub zones_is : zones ≡ zones_of said
-    pub requests_is : requests ≡ n - length (plan said).asked * request_size
+    pub gic_is : r.gic ≡ (plan said).marks.gic
+    pub edition_is : r.edition ≡ (plan said).marks.edition
+    pub zones_is : r.zones ≡ zones_of said
+    pub requests_is : r.requests ≡ n - length (plan said).asked * request_size
 
-  module _ (r : Found) (er : r ≡ found_of plan zones_of n o) where
-    -- a refusal
-    pub refusal_by : (k a : ℕ) → r ≡ BadFound k a → (t : List ℕ) × (o ≡ bad k t) × (a ≡ n - length t)
-    unfolding found_of
-    refusal_by k a f = by o refl
-      where
-        by : (x : Out S) → o ≡ x → (t : List ℕ) × (o ≡ bad k t) × (a ≡ n - length t)
-        by (got p t) e =
-            absurd (let q : found_of plan zones_of n (got p t) ≡ BadFound k a = sym (er ∙ ap (found_of plan zones_of n) e)
-            ∙ f in
-            let z : ◌≡◌ {A = ℕ} 0 1 = cc in
-            omega arith)
-        by (bad j t) e =
-            let q : BadFound j (n - length t) ≡ BadFound k a = sym (er ∙ ap (found_of plan zones_of n) e) ∙ f in
-            let i : j ≡ k = cc in
-            let p : a ≡ n - length t = cc in
-            (t, e ∙ ap (λ (x : ℕ). bad x t) i, p)
+  -- a refusal
+  pub refusal_by : (k a : ℕ) → Err (k, a) ≡ found_of plan zones_of n o → (t : List ℕ) × (o ≡ bad k t) × (a ≡ n - length t)
+  unfolding answer_by
+  refusal_by k a f = by o refl f
+    where
+      by : (x : Out S) → o ≡ x → Err (k, a) ≡ found_of plan zones_of n x → (t : List ℕ) × (o ≡ bad k t) × (a ≡ n - length t)
+      by (got p t) e g = absurd (cc)
+      by (bad j t) e g =
+          let q : ◌≡◌ {A = ℕ × ℕ} (k, a) (j, n - length t) = cc in
+          (t, e ∙ ap (λ (x : ℕ). bad x t) (sym (ap (λ (x : ℕ × ℕ). x.0) q)), ap (λ (x : ℕ × ℕ). x.1) q)
 
-    -- a plan that reads whole
-    pub whole_by : (gic edition zones requests : ℕ) → r ≡ At gic edition zones requests
-        → Whole gic edition zones requests
-    unfolding found_of
-    whole_by gic edition zones requests f = by o refl
-      where
-        by : (x : Out S) → o ≡ x → Whole gic edition zones requests
-        by (got p t) e =
-            let q : At (plan p).marks.gic (plan p).marks.edition (zones_of p)
-            (n - length (plan p).asked * request_size)
-            ≡ At gic edition zones requests =
-            sym (er ∙ ap (found_of plan zones_of n) e) ∙ f in
-            let g : gic ≡ (plan p).marks.gic = cc in
-            let d : edition ≡ (plan p).marks.edition = cc in
-            let z : zones ≡ zones_of p = cc in
-            let l : requests ≡ n - length (plan p).asked * request_size = cc in
-            record { said = p; left = t; read = e; gic_is = g; edition_is = d; zones_is = z; requests_is = l }
-        by (bad j t) e =
-            absurd (let q : BadFound j (n - length t)
-            ≡ At gic edition zones requests = sym (er ∙ ap (found_of plan zones_of n) e)
-            ∙ f in
-            let z : ◌≡◌ {A = ℕ} 0 1 = cc in
-            omega arith)
+  -- a plan that reads whole
+  pub whole_by : (r : Found) → Ok r ≡ found_of plan zones_of n o → Whole r
+  unfolding answer_by
+  whole_by r f = by o refl f
+    where
+      by : (x : Out S) → o ≡ x → Ok r ≡ found_of plan zones_of n x → Whole r
+      by (got p t) e g =
+          let q : r ≡ found_at (plan p).marks.gic (plan p).marks.edition (zones_of p)
+          (n - length (plan p).asked * request_size) = cc in
+          record {
+            said = p;
+            left = t;
+            read = e;
+            gic_is = ap (λ (x : Found). x.gic) q;
+            edition_is = ap (λ (x : Found). x.edition) q;
+            zones_is = ap (λ (x : Found). x.zones) q;
+            requests_is = ap (λ (x : Found). x.requests) q;
+          }
+      by (bad j t) e g = absurd (cc)
 
 -- a plan is its sections, one after another
 module _ (n : ℕ) where
@@ -435,7 +349,7 @@ module _ (n : ℕ) where
       → leading (after_requests m.gic m.edition (marks_bytes + (4 + length rs * region_size)) n) n o
       ≡ four_in n (then (then (then (then o (λ qs t. got (zs, qs) t)) (λ y t. got (rs, y) t))
       (λ y t. got (m, y) t)) (λ x t. got (plan_to x) t))
-  unfolding then leading after_requests four_in
+  unfolding then leading after_requests answer_by
   with_requests m rs zs (got qs u) = refl
   with_requests m rs zs (bad k u) = refl
 
@@ -444,14 +358,14 @@ module _ (n : ℕ) where
       ≡ four_in n (then (then (then (then o
       (λ zs s. then ((requests_section limits).read s) (λ qs t. got (zs, qs) t))) (λ y t. got (rs, y) t))
       (λ y t. got (m, y) t)) (λ x t. got (plan_to x) t))
-  unfolding then leading after_zones four_in
+  unfolding then leading after_zones answer_by
   with_zones_law m rs (got zs u) = with_requests m rs zs ((requests_section limits).read u)
   with_zones_law m rs (bad k u) = refl
 
   with_regions_law : (m : Marks) (o : Out (List Region)) → leading (after_regions m.gic m.edition marks_bytes n) n o
       ≡ four_in n (then (then (then o (λ rs s. then ((both (zones_section limits) (requests_section limits)).read s)
       (λ y t. got (rs, y) t))) (λ y t. got (m, y) t)) (λ x t. got (plan_to x) t))
-  unfolding then leading after_regions read_both four_in
+  unfolding then leading after_regions read_both answer_by
   with_regions_law m (got rs u) = with_zones_law m rs ((zones_section limits).read u)
   with_regions_law m (bad k u) = refl
 
@@ -459,7 +373,7 @@ module _ (n : ℕ) where
       ≡ four_in n (then (then o (λ m s. then
       ((both (regions_section limits) (both (zones_section limits) (requests_section limits))).read s)
       (λ y t. got (m, y) t))) (λ x t. got (plan_to x) t))
-  unfolding then leading after_marks read_both four_in
+  unfolding then leading after_marks read_both answer_by
   with_marks (got m u) = with_regions_law m ((regions_section limits).read u)
   with_marks (bad k u) = refl
 
@@ -467,114 +381,116 @@ module _ (n : ℕ) where
   unfolding read_as read_both
   whole_plan_law k b = with_marks ((marks_section (in_format (k ∷ []) limits)).read b)
 
--- m is what the reader of marks answered for the format with the mark j
-module _ (j : ℕ) (s : List ℕ) (m : MarksAre)
-    (em : m ≡ marks_answer (length s) ((marks_section (in_format (j ∷ []) limits)).read s)) where
-  pub marks_bad : (k a : ℕ) → m ≡ BadMarks k a
-      → (t : List ℕ) × ((marks_section (in_format (j ∷ []) limits)).read s ≡ bad k t) × (a ≡ length s - length t)
-  unfolding marks_answer
-  marks_bad k a f = by ((marks_section (in_format (j ∷ []) limits)).read s) refl em
+-- ---- bytes that begin with a plan of the format with the mark j
+module _ (j : ℕ) (s : List ℕ) where
+  abbrev read : Out Marks
+  read = (marks_section (in_format (j ∷ []) limits)).read s
+
+  pub marks_bad : (f : Marks → List ℕ → Told Four) (e : ℕ × ℕ) → Err e ≡ marks_answer (length s) read
+      → Err e ≡ leading f (length s) read
+  unfolding answer_by leading
+  marks_bad f e d = by read d
     where
-      by : (o : Out Marks) → (marks_section (in_format (j ∷ []) limits)).read s ≡ o → m ≡ marks_answer (length s) o
-          → (t : List ℕ) × ((marks_section (in_format (j ∷ []) limits)).read s ≡ bad k t) × (a ≡ length s - length t)
-      by (got x t) e g =
-          absurd (let q : Are x.gic x.edition ≡ BadMarks k a = sym g ∙ f in
-          let z : ◌≡◌ {A = ℕ} 0 1 = cc in
-          omega arith)
-      by (bad n t) e g =
-          let q : BadMarks n (length s - length t) ≡ BadMarks k a = sym g ∙ f in
-          let i : n ≡ k = cc in
-          let p : a ≡ length s - length t = cc in
-          (t, e ∙ ap (λ (x : ℕ). bad x t) i, p)
+      by : (o : Out Marks) → Err e ≡ marks_answer (length s) o → Err e ≡ leading f (length s) o
+      by (got x t) d = absurd (cc)
+      by (bad k t) d = let q : e ≡ (k, length s - length t) = cc in ap (λ (x : ℕ × ℕ). Err x) q
 
-  pub marks_refused : (k a : ℕ) → m ≡ BadMarks k a
-      → BadFour k a ≡ four_in (length s) ((plan_format (in_format (j ∷ []) limits)).read s)
-  unfolding leading
-  marks_refused k a f =
-      let (t, e, p) = marks_bad k a f in
-      ap (BadFour k) p ∙ sym (ap (leading (after_marks (length s)) (length s)) e) ∙ whole_plan_law (length s) j s
+  pub marks_refused : (e : ℕ × ℕ) → Err e ≡ marks_answer (length s) read
+      → Err e ≡ four_in (length s) ((plan_format (in_format (j ∷ []) limits)).read s)
+  marks_refused e f = marks_bad (after_marks (length s)) e f ∙ whole_plan_law (length s) j s
 
-  module _ (gic edition : ℕ) (f : m ≡ Are gic edition) where
-    abbrev read : Out Marks
-    read = (marks_section (in_format (j ∷ []) limits)).read s
-
-    pub marks_are : read ≡ got (record { gic = gic; edition = edition }) (drop 16 s)
-    unfolding marks_answer
-    marks_are = by read refl em
+  module _ (m : MarksAre) (f : Ok m ≡ marks_answer (length s) read) where
+    pub marks_are : read ≡ got (record { gic = m.gic; edition = m.edition }) (drop 16 s)
+    unfolding answer_by
+    marks_are = by read refl f
       where
-        by : (o : Out Marks) → read ≡ o → m ≡ marks_answer (length s) o
-            → read ≡ got (record { gic = gic; edition = edition }) (drop 16 s)
+        by : (o : Out Marks) → read ≡ o → Ok m ≡ marks_answer (length s) o
+            → read ≡ got (record { gic = m.gic; edition = m.edition }) (drop 16 s)
         by (got x t) e g =
-            let q : Are x.gic x.edition ≡ Are gic edition = sym g ∙ f in
-            let i : x.gic ≡ gic = cc in
-            let k : x.edition ≡ edition = cc in
-            e ∙ ap₂ (λ (y z : ℕ). got (record { gic = y; edition = z }) t) i k
-            ∙ ap (got (record { gic = gic; edition = edition })) (marks_got j s x t e).1
-        by (bad k t) e g =
-            absurd (let q : BadMarks k (length s - length t) ≡ Are gic edition = sym g ∙ f in
-            let z : ◌≡◌ {A = ℕ} 0 1 = cc in
-            omega arith)
+            let q : m ≡ record { gic = x.gic; edition = x.edition } = cc in
+            e ∙ ap₂ (λ (y z : ℕ). got (record { gic = y; edition = z }) t) (sym (ap (λ (y : MarksAre). y.gic) q))
+            (sym (ap (λ (y : MarksAre). y.edition) q))
+            ∙ ap (got (record { gic = m.gic; edition = m.edition })) (marks_got j s x t e).1
+        by (bad k t) e g = absurd (cc)
 
     pub marks_there : 16 ≤ length s
-    marks_there = (marks_got j s (record { gic = gic; edition = edition }) (drop 16 s) marks_are).0
+    marks_there = (marks_got j s (record { gic = m.gic; edition = m.edition }) (drop 16 s) marks_are).0
 
-    pub regions_follow : length s < 2 ^ 64 → 16 + length (take (length s - 16) (drop 16 s)) < 2 ^ 64
-    regions_follow h = let l : 16 ≤ length s = marks_there in omega (arith, ap length (rest_of s 16), length-drop 16 s)
-
-    pub marks_lead : (v : Four)
-        → v ≡ regions_found gic edition marks_bytes (16 + length (take (length s - 16) (drop 16 s)))
-        (take (length s - 16) (drop 16 s))
-        → v ≡ four_in (length s) ((plan_format (in_format (j ∷ []) limits)).read s)
+    behind_marks : regions_found m.gic m.edition marks_bytes (length s) (drop 16 s)
+        ≡ four_in (length s) ((plan_format (in_format (j ∷ []) limits)).read s)
     unfolding leading after_marks
-    marks_lead v h =
-        let l : 16 ≤ length s = marks_there in
-        let n : 16 + length (drop 16 s) ≡ length s = omega (arith, length-drop 16 s) in
-        h ∙ ap (λ (b : List ℕ). regions_found gic edition marks_bytes (16 + length b) b) (rest_of s 16)
-        ∙ ap (λ (k : ℕ). regions_found gic edition marks_bytes k (drop 16 s)) n
-        ∙ sym (ap (leading (after_marks (length s)) (length s)) marks_are) ∙ whole_plan_law (length s) j s
+    behind_marks =
+        sym (ap (leading (after_marks (length s)) (length s)) marks_are) ∙ whole_plan_law (length s) j s
+
+    pub regions_refused : (e : ℕ × ℕ) → Err e ≡ section_answer (length s) ((regions_section limits).read (drop 16 s))
+        → Err e ≡ four_in (length s) ((plan_format (in_format (j ∷ []) limits)).read s)
+    regions_refused e g =
+        leads_bad (length s) ((regions_section limits).read (drop 16 s)) (after_regions m.gic m.edition marks_bytes (length s)) e
+        g
+        ∙ behind_marks
+
+    -- the zones begin at byte z
+    pub zones_lead : (z : ℕ) → Ok z ≡ section_answer (length s) ((regions_section limits).read (drop 16 s)) → (v : Told Four)
+        → v ≡ zones_found m.gic m.edition z (length s) (drop z s)
+        → v ≡ four_in (length s) ((plan_format (in_format (j ∷ []) limits)).read s)
+    unfolding after_regions
+    zones_lead z g v h =
+        let part : Part (left ((regions_section limits).read (drop 16 s))) s =
+        part_in s (left ((regions_section limits).read (drop 16 s))) 16 ((lawful_regions limits).part (drop 16 s)) in
+        let (rs, o) = ends_with s _ part z g in
+        let listed = list_read_law region_format region_size region_value wide_region 1 most_regions (drop 16 s) rs (drop z s) o in
+        let l : z ≤ length s = end_within s _ part z g in
+        let k : 16 ≤ length s = marks_there in
+        let at : z ≡ marks_bytes + (4 + length rs * region_size) =
+        omega (
+          arith,
+          listed.there,
+          ap length listed.rest,
+          length-drop z s,
+          length-drop 16 s,
+          length-drop (4 + length rs * region_size) (drop 16 s),
+        ) in
+        h ∙ ap (λ (b : ℕ). zones_found m.gic m.edition b (length s) (drop z s)) at
+        ∙ leads_on (length s) ((regions_section limits).read (drop 16 s)) (after_regions m.gic m.edition marks_bytes (length s)) rs
+        (drop z s) o
+        ∙ behind_marks
 
 -- ---- the whole file: what was found of the four sections, and nothing may follow them
 module _ {S : Type 0} (plan : S → Plan) (zones_of : S → ℕ) (n : ℕ) where
   pub whole_of_law : (o : Out S) → length (left o) ≤ n
       → whole_of n (four_of plan zones_of n o) ≡ found_of plan zones_of n (then o at_end)
-  unfolding whole_of four_of found_of then at_end left
+  unfolding whole_of answer_by then at_end left
   whole_of_law (got p []) h =
       let z : n - 0 ≡ n = omega arith in
-      ap (λ (k : ℕ). cond (ltb k n) (BadFound 22 k)
-      (At (plan p).marks.gic (plan p).marks.edition (zones_of p) (k - length (plan p).asked * request_size))) z
-      ∙ ap (λ (x : Bool). cond x (BadFound 22 n)
-      (At (plan p).marks.gic (plan p).marks.edition (zones_of p) (n - length (plan p).asked * request_size)))
-      (le-ltb n n (omega arith))
+      ap (λ (k : ℕ). cond (ltb k n) (Err (22, k)) (found k)) z
+      ∙ ap (λ (x : Bool). cond x (Err (22, n)) (found n)) (le-ltb n n (omega arith))
+    where
+      found : ℕ → Told Found
+      found k = Ok (found_at (plan p).marks.gic (plan p).marks.edition (zones_of p) (k - length (plan p).asked * request_size))
   whole_of_law (got p (x ∷ t)) h =
       let m : ℕ = n - length (x ∷ t) in
-      ap (λ (y : Bool). cond y (BadFound 22 m)
-      (At (plan p).marks.gic (plan p).marks.edition (zones_of p) (m - length (plan p).asked * request_size)))
+      ap (λ (y : Bool). cond y (Err (22, m)) (Ok (found_at (plan p).marks.gic (plan p).marks.edition (zones_of p)
+      (m - length (plan p).asked * request_size))))
       (lt-ltb m n (let k : 0 < length (x ∷ t) = omega arith in omega arith))
   whole_of_law (bad k t) h = refl
 
--- r is what was found of the sections
-module _ (n : ℕ) (r : Four) where
-  pub ends_bad : (k a : ℕ) → r ≡ BadFour k a → BadFound k a ≡ whole_of n r
-  unfolding whole_of
-  ends_bad k a f = sym (ap (whole_of n) f)
+-- by what was found of the sections
+pub ends_early : (n : ℕ) (r : Four) → r.end < n → Err (22, r.end) ≡ whole_of n (Ok r)
+unfolding whole_of
+ends_early n r h = sym (ap (λ (x : Bool). cond x (Err (22, r.end)) (Ok r.found)) (lt-ltb r.end n h))
 
-  module _ (gic edition zones requests end : ℕ) (f : r ≡ FourAt gic edition zones requests end) where
-    pub ends_early : end < n → BadFound 22 end ≡ whole_of n r
-    unfolding whole_of
-    ends_early h =
-        sym (ap (whole_of n) f
-        ∙ ap (λ (x : Bool). cond x (BadFound 22 end) (At gic edition zones requests)) (lt-ltb end n h))
+pub ends_there : (n : ℕ) (r : Four) → n ≤ r.end → Ok r.found ≡ whole_of n (Ok r)
+unfolding whole_of
+ends_there n r h = sym (ap (λ (x : Bool). cond x (Err (22, r.end)) (Ok r.found)) (le-ltb r.end n h))
 
-    pub ends_there : n ≤ end → At gic edition zones requests ≡ whole_of n r
-    unfolding whole_of
-    ends_there h =
-        sym (ap (whole_of n) f
-        ∙ ap (λ (x : Bool). cond x (BadFound 22 end) (At gic edition zones requests)) (le-ltb end n h))
+pub ends_bad : (n : ℕ) (e : ℕ × ℕ) → Err e ≡ whole_of n (Err e)
+unfolding whole_of
+ends_bad n e = refl
 
 -- a plan that was found whole
-pub plan_found : (s : List ℕ) (r : Four) (v : Found) → r ≡ four_in (length s) ((plan_format limits).read s)
+pub plan_found : (s : List ℕ) (r : Told Four) (v : Told Found) → r ≡ four_in (length s) ((plan_format limits).read s)
     → v ≡ whole_of (length s) r → v ≡ found_in (length s) (read_plan limits s)
-unfolding read_plan read_file found_in four_in
+unfolding read_plan read_file
 plan_found s r v er e =
     let (w, q) = (lawful_plan limits).part s in
     e ∙ ap (whole_of (length s)) er

@@ -8,9 +8,9 @@ use lib.ListN.{length, take, drop, length-append, length-drop, take-append-drop}
 use lib.Seq.{take_all, drop_at}
 use Rattle.formats.specs.Formats.{Out, got, bad, left}
 use Rattle.formats.proofs.Formats.{Part, part_trans}
+use Rattle.std.proofs.Common.{Ok}
+use Rattle.plan.specs.Told.{answer_by}
 use Rattle.plan.specs.Sections.{section_answer}
-use Rattle.plan.specs.declared.words.Section.{Section}
-use Rattle.plan.specs.declared.words.Section.TheVariants.{End, Bad}
 
 -- an offset, and what is left from there
 pub place : (s : List ℕ) (k : ℕ) → k ≤ length s → k ≡ length s - length (drop k s)
@@ -25,51 +25,26 @@ pub part_in : (s t : List ℕ) (at : ℕ) → Part t (drop at s) → Part t s
 part_in s t at p = part_trans t (drop at s) s p (take at s, sym (take-append-drop at s))
 
 -- ---- a section that reads o, in bytes of which what o leaves is the end
-module _ {A : Type 0} (s : List ℕ) (o : Out A) (part : Part (left o) s) (r : Section)
-    (er : r ≡ section_answer (length s) o) where
+module _ {A : Type 0} (s : List ℕ) (o : Out A) (part : Part (left o) s) where
   pub left_within : length (left o) ≤ length s
   left_within = omega (arith, ap length part.1, length-append part.0 (left o))
 
-  pub end_within : (e : ℕ) → r ≡ End e → e ≤ length s
-  unfolding section_answer
-  end_within e f = by o er
-    where
-      by : (o : Out A) → r ≡ section_answer (length s) o → e ≤ length s
-      by (got x t) g =
-          let q : End (length s - length t) ≡ End e = sym g ∙ f in
-          let m : length s - length t ≡ e = cc in
-          omega arith
-      by (bad k t) g =
-          absurd (let q : Bad k (length s - length t) ≡ End e = sym g ∙ f in
-          let z : ◌≡◌ {A = ℕ} 0 1 = cc in
-          omega arith)
-
-  pub bad_within : (k a : ℕ) → r ≡ Bad k a → a ≤ length s
-  unfolding section_answer
-  bad_within k a f = by o er
-    where
-      by : (o : Out A) → r ≡ section_answer (length s) o → a ≤ length s
-      by (got x t) g =
-          absurd (let q : End (length s - length t) ≡ Bad k a = sym g ∙ f in
-          let z : ◌≡◌ {A = ℕ} 0 1 = cc in
-          omega arith)
-      by (bad j t) g =
-          let q : Bad j (length s - length t) ≡ Bad k a = sym g ∙ f in
-          let m : length s - length t ≡ a = cc in
-          omega arith
-
   -- what it reads, where it ends
-  pub ends_with : (e : ℕ) → r ≡ End e → (x : A) × (o ≡ got x (drop e s))
-  unfolding section_answer left
-  ends_with e f = by o part er
+  pub ends_with : (e : ℕ) → Ok e ≡ section_answer (length s) o → (x : A) × (o ≡ got x (drop e s))
+  unfolding answer_by left
+  ends_with e f = by o part f
     where
-      by : (o : Out A) → Part (left o) s → r ≡ section_answer (length s) o → (x : A) × (o ≡ got x (drop e s))
+      by : (o : Out A) → Part (left o) s → Ok e ≡ section_answer (length s) o → (x : A) × (o ≡ got x (drop e s))
       by (got x t) p g =
-          let q : End (length s - length t) ≡ End e = sym g ∙ f in
-          let m : length s - length t ≡ e = cc in
+          let m : e ≡ length s - length t = cc in
           let n : length p.0 ≡ e = omega (arith, ap length p.1, length-append p.0 t) in
           (x, ap (got x) (sym (ap (drop e) p.1 ∙ drop_at p.0 t e n)))
-      by (bad k t) p g =
-          absurd (let q : Bad k (length s - length t) ≡ End e = sym g ∙ f in
-          let z : ◌≡◌ {A = ℕ} 0 1 = cc in
-          omega arith)
+      by (bad k t) p g = absurd (cc)
+
+  pub end_within : (e : ℕ) → Ok e ≡ section_answer (length s) o → e ≤ length s
+  unfolding answer_by
+  end_within e f = by o f
+    where
+      by : (o : Out A) → Ok e ≡ section_answer (length s) o → e ≤ length s
+      by (got x t) g = let m : e ≡ length s - length t = cc in omega arith
+      by (bad k t) g = absurd (cc)

@@ -3,29 +3,37 @@
 use Prim.Native.Nat.{ℕ, zero, suc, ◌+◌, ◌-◌, ◌*◌, ◌/◌, ◌≤◌, ◌<◌}
 use native.Mathlib.Nat.{suc-mul, zero-mul}
 use native.Mathlib.Omega.{arith}
-use mathlib.Core.Bool.{Bool, true, false, not}
+use mathlib.Core.Bool.{Bool, true, false, cond}
 use mathlib.Core.List.{List, ◌∷◌}
-use mathlib.Core.Path.{◌≡◌, sym, ap, ap₂, ◌∙◌}
+use mathlib.Core.Path.{◌≡◌, refl, sym, ap, ap₂, ◌∙◌}
+use borrow.Author.Tests.{lt-ltb, le-ltb, ltb-true, ltb-false}
+use lib.Dec.{ltb}
+use Rattle.std.proofs.Common.{Ok, Err}
+use Rattle.std.proofs.Math.Nat.{div-mul-le_self, le-div_iff_mul-le, mod-eq-sub-div-mul, mod-lt}
 use lib.ListN.{length, take, drop, length-drop}
 use lib.Seq.{drop-drop}
 use Rattle.lists.specs.Bytes.{little}
 use Rattle.lists.specs.Places.{tab}
 use Rattle.lists.proofs.Places.{length_tab}
-use Rattle.formats.specs.Formats.{Out, got, bad, then, Format, read_number, field, read_many, within, read_count}
+use Rattle.formats.specs.Formats.{Out, got, bad, then, Format, field, read_many, read_count}
 use Rattle.formats.specs.Formats.{read_headed, listed, number}
 use Rattle.formats.proofs.Formats.{then_got, count_got}
 use Rattle.formats.proofs.Widths.{Wide, number_there, wide_number, wide_got, wide_field, fields_there, fields_cut}
-use Rattle.rules.specs.Fields.{region_size}
-use Rattle.plan.specs.Fields.{NumberRead}
-use Rattle.plan.specs.Sections.{section_answer}
-use Rattle.plan.specs.declared.field.Number.{Number}
-use Rattle.plan.specs.declared.field.Number.TheVariants.{Is, Missing}
-use Rattle.plan.specs.declared.words.Section.TheVariants.{End, Bad}
-use Rattle.rules.specs.Plan.{region_format}
-use Rattle.rules.specs.declared.Region.{Region}
-use Rattle.plan.proofs.Fields.{region_value, wide_region}
-use Rattle.plan.proofs.Into.{count_missing, count_out, count_in, number_within}
+use Rattle.rules.specs.Fields.{region_size, short_size}
+use Rattle.rules.specs.Limits.{most_requests, limits}
+use Rattle.rules.specs.Numbers.{number as number_of}
+use Rattle.rules.specs.Run.{request_size}
+use Rattle.plan.specs.Fields.{field_out, field_end, FieldRead}
+use Rattle.plan.specs.Told.{answer_by}
+use Rattle.plan.specs.declared.refused.Refused.{Refused}
+use Rattle.plan.specs.Sections.{section_answer, fields_answer}
+use Rattle.rules.specs.Plan.{region_format, region_field, requests_section}
+use Rattle.plan.proofs.Fields.{asked_in, asked_format, wide_asked, region_value, wide_region}
 use Rattle.plan.proofs.Offsets.{place}
+
+-- what is there of fields of k bytes ends before the next
+next_over : (n k : ℕ) → 0 < k → n < suc (n / k) * k
+next_over n k z = omega (arith, suc-mul (n / k) k, mod-eq-sub-div-mul n k, div-mul-le_self n k, mod-lt n {m = k} z)
 
 module _ {A : Type 0} (F : Format A) (k : ℕ) (f : List ℕ → A) (wide : Wide F k f) where
   -- ---- what was read was all there
@@ -71,67 +79,72 @@ module _ {A : Type 0} (F : Format A) (k : ℕ) (f : List ℕ → A) (wide : Wide
         each = v ∙ ap₂ (λ (j : ℕ) (d : List ℕ). tab j (λ i. f (drop (i * k) d))) (sym w) eu;
       }
 
-  -- ---- by what the count's reader answered
-  module _ (lo hi : ℕ) (s : List ℕ) (at : ℕ) (c : Number) (read : NumberRead s at (read_number 4 (drop at s)) c) where
-    abbrev list_at : Out (List A)
-    list_at = (listed 4 lo hi (field F)).read (drop at s)
+  -- ---- passing over them: by the count, and how many are there
+  pub fields_law : (lo hi : ℕ) (s : List ℕ) (at : ℕ) → at ≤ length s → 0 < k
+      → fields_answer k (length s) at (read_count 4 lo hi (drop at s))
+      ≡ section_answer (length s) ((listed 4 lo hi (field F)).read (drop at s))
+  unfolding fields_answer answer_by read_headed then
+  fields_law lo hi s at h z = by (read_count 4 lo hi (drop at s)) refl
+    where
+      there : ℕ
+      there = (length s - (at + 4)) / k
 
-    pub list_none : at ≤ length s → c ≡ Missing → Bad 20 at ≡ section_answer (length s) list_at
-    unfolding section_answer read_headed then
-    list_none h e = rw (count_missing s at c read lo hi e) (ap (Bad 20) (place s at h))
+      told : (n : ℕ) → at + 4 ≤ length s → (x : Bool) → ltb there n ≡ x
+          → cond x (Err (20, at + 4 + there * k)) (Ok (at + 4 + n * k))
+          ≡ section_answer (length s) (read_many (field F) n (drop (at + 4) s))
+      told n l true e =
+          let m : there * k ≤ length s - (at + 4) = div-mul-le_self (length s - (at + 4)) k in
+          let q : read_many (field F) n (drop (at + 4) s) ≡ bad 20 (drop (at + 4 + there * k) s) =
+          fields_cut F k f wide n there (drop (at + 4) s) (ltb-true there n e) (omega (arith, length-drop (at + 4) s))
+          (omega (arith, length-drop (at + 4) s, next_over (length s - (at + 4)) k z))
+          ∙ ap (bad 20) (drop-drop (there * k) (at + 4) s) in
+          ap (λ (p : ℕ). Err (20, p)) (place s (at + 4 + there * k) (omega arith))
+          ∙ ap (section_answer (length s)) (sym q)
+      told n l false e =
+          let m : n * k ≤ length s - (at + 4) =
+          (le-div_iff_mul-le {k = k} {x = n} {y = length s - (at + 4)} z).0 (ltb-false there n e) in
+          let q : read_many (field F) n (drop (at + 4) s)
+          ≡ got (tab n (λ i. f (drop (i * k) (drop (at + 4) s)))) (drop (at + 4 + n * k) s) =
+          fields_there F k f wide n (drop (at + 4) s) (omega (arith, length-drop (at + 4) s))
+          ∙ ap (got (tab n (λ i. f (drop (i * k) (drop (at + 4) s))))) (drop-drop (n * k) (at + 4) s) in
+          ap (λ (p : ℕ). Ok p) (place s (at + 4 + n * k) (omega arith)) ∙ ap (section_answer (length s)) (sym q)
 
-    module _ (n : ℕ) (b : Bool) (e : c ≡ Is n) (t : b ≡ within lo hi n) where
-      pub list_out : at ≤ length s → not b ≡ true → Bad 21 at ≡ section_answer (length s) list_at
-      unfolding section_answer read_headed then
-      list_out h g = rw (count_out s at c read lo hi n b e t g) (ap (Bad 21) (place s at h))
+      by : (o : Out ℕ) → read_count 4 lo hi (drop at s) ≡ o
+          → fields_answer k (length s) at o ≡ section_answer (length s) (then o (λ c t. read_many (field F) c t))
+      by (bad j t) e = refl
+      by (got n t) e =
+          let (l, et) =
+          wide_got (number 4) 4 (λ b. little (take 4 b)) (wide_number 4) (drop at s) n t (count_got 4 lo hi (drop at s) n t e).0 in
+          let d : t ≡ drop (at + 4) s = et ∙ drop-drop 4 at s in
+          told n (omega (arith, length-drop at s)) (ltb there n) refl
+          ∙ ap (λ (u : List ℕ). section_answer (length s) (read_many (field F) n u)) (sym d)
 
-      module _ (h : not b ≡ false) where
-        fields_at : read_many (field F) n (drop (at + 4) s) ≡ list_at
-        unfolding read_headed then
-        fields_at = rw (count_in s at c read lo hi n b e t h)
+-- ---- as the code goes about it: the count was read
+module _ (w : ℕ) (s : List ℕ) (at lo hi : ℕ) where
+  pub fields_stop : (e : Refused) → FieldRead short_size s at (read_count 4 lo hi (drop at s)) (Err e)
+      → Err (number_of e.why, e.at) ≡ fields_answer w (length s) at (read_count 4 lo hi (drop at s))
+  unfolding fields_answer field_out field_end
+  fields_stop e read = rw read.read (ap (λ (p : ℕ). Err (number_of e.why, p)) (place s e.at read.within))
 
-        -- m are there, and the next is cut
-        pub list_cut : (m : ℕ) → m < n → at + 4 + m * k ≤ length s → length s < at + 4 + suc m * k
-            → Bad 20 (at + 4 + m * k) ≡ section_answer (length s) list_at
-        unfolding section_answer
-        list_cut m g l u =
-            let q : read_many (field F) n (drop (at + 4) s) ≡ bad 20 (drop (at + 4 + m * k) s) =
-            fields_cut F k f wide n m (drop (at + 4) s) g (omega (arith, length-drop (at + 4) s))
-            (omega (arith, length-drop (at + 4) s))
-            ∙ ap (bad 20) (drop-drop (m * k) (at + 4) s) in
-            ap (Bad 20) (place s (at + 4 + m * k) l) ∙ ap (section_answer (length s)) (sym q ∙ fields_at)
+  module _ (n : ℕ) (read : FieldRead short_size s at (read_count 4 lo hi (drop at s)) (Ok n)) where
+    pub fields_short : (length s - (at + 4)) / w < n
+        → Err (20, at + 4 + (length s - (at + 4)) / w * w) ≡ fields_answer w (length s) at (read_count 4 lo hi (drop at s))
+    unfolding fields_answer field_out
+    fields_short h = rw (read.read, lt-ltb _ _ h) refl
 
-        pub list_end : at + 4 + n * k ≤ length s → End (at + 4 + n * k) ≡ section_answer (length s) list_at
-        unfolding section_answer
-        list_end l =
-            let q : read_many (field F) n (drop (at + 4) s)
-            ≡ got (tab n (λ i. f (drop (i * k) (drop (at + 4) s)))) (drop (at + 4 + n * k) s) =
-            fields_there F k f wide n (drop (at + 4) s) (omega (arith, length-drop (at + 4) s))
-            ∙ ap (got (tab n (λ i. f (drop (i * k) (drop (at + 4) s))))) (drop-drop (n * k) (at + 4) s) in
-            ap End (place s (at + 4 + n * k) l) ∙ ap (section_answer (length s)) (sym q ∙ fields_at)
+    pub fields_end : n ≤ (length s - (at + 4)) / w
+        → Ok (at + 4 + n * w) ≡ fields_answer w (length s) at (read_count 4 lo hi (drop at s))
+    unfolding fields_answer field_out
+    fields_end h = rw (read.read, le-ltb _ _ h) refl
 
--- ---- regions
-module _ (lo hi : ℕ) (s : List ℕ) (at : ℕ) (c : Number) (read : NumberRead s at (read_number 4 (drop at s)) c) where
-  abbrev regions_at : Out (List Region)
-  regions_at = (listed 4 lo hi (field region_format)).read (drop at s)
+-- regions
+pub regions_pass : (lo hi : ℕ) (s : List ℕ) (at : ℕ) → at ≤ length s
+    → fields_answer region_size (length s) at (read_count 4 lo hi (drop at s))
+    ≡ section_answer (length s) ((listed 4 lo hi region_field).read (drop at s))
+regions_pass lo hi s at h = fields_law region_format region_size region_value wide_region lo hi s at h (omega arith)
 
-  pub passed_none : at ≤ length s → c ≡ Missing → Bad 20 at ≡ section_answer (length s) regions_at
-  passed_none = list_none region_format region_size region_value wide_region lo hi s at c read
-
-  module _ (n : ℕ) (b : Bool) (e : c ≡ Is n) (t : b ≡ within lo hi n) where
-    pub passed_out : at ≤ length s → not b ≡ true → Bad 21 at ≡ section_answer (length s) regions_at
-    passed_out = list_out region_format region_size region_value wide_region lo hi s at c read n b e t
-
-    module _ (h : not b ≡ false) where
-      pub passed_cut : length s - (at + 4) < n * region_size
-          → Bad 20 (at + 4 + (length s - (at + 4)) / region_size * region_size) ≡ section_answer (length s) regions_at
-      passed_cut g =
-          let l : at + 4 ≤ length s = number_within s at c read n e in
-          list_cut region_format region_size region_value wide_region lo hi s at c read n b e t h
-          ((length s - (at + 4)) / region_size) (omega arith) (omega arith) (omega arith)
-
-      pub passed_end : n * region_size ≤ length s - (at + 4)
-          → End (at + 4 + n * region_size) ≡ section_answer (length s) regions_at
-      passed_end g =
-          let l : at + 4 ≤ length s = number_within s at c read n e in
-          list_end region_format region_size region_value wide_region lo hi s at c read n b e t h (omega arith)
+-- requests
+pub requests_pass : (s : List ℕ) (at : ℕ) → at ≤ length s
+    → fields_answer request_size (length s) at (read_count 4 0 most_requests (drop at s))
+    ≡ section_answer (length s) ((requests_section limits).read (drop at s))
+requests_pass s at h = fields_law asked_format request_size asked_in wide_asked 0 most_requests s at h (omega arith)

@@ -29,6 +29,7 @@ use Rattle.zones.specs.Words.{words_of, Within}
 use Rattle.zones.proofs.Stepping.{sound_within, stands_same, stands_ready}
 use Rattle.plan.specs.Held.{table_held}
 use Rattle.plan.specs.Steps.{away_with, base_number, kept_in, own_by, done_by, AppliedBy, RanOrUndoneBy, FoundBy}
+use Rattle.plan.specs.Steps.{Stood}
 
 -- ---- 23 to 26 as numbers, and as answers
 judged_by_law : (u v w x : Bool) (o : Outcome)
@@ -43,21 +44,11 @@ judged_by_law false false false true o = refl
 judged_by_law false false false false o = refl
 
 module _ (m : StepRule) where
-  -- ---- what is asked of a state that stands: readers find the zones that its words hold, words of the right length are
-  -- those of the zones, and what requests leave is within limits and is read back as it was stored
-  pub record Stood (c : m.Config) (t : List ℕ) : Type 0 where
-    pub zones : zones_in t ≡ table_of (stored_table t)
-    pub words : length t ≡ table_words → t ≡ words_of (zones_in t)
-    pub within : (qs : List Request) → Within (m.run c (table_of (stored_table t)) qs).table
-    pub back : (qs : List Request)
-        → table_of (store m.limits (m.run c (table_of (stored_table t)) qs).table)
-        ≡ (m.run c (table_of (stored_table t)) qs).table
-
-  -- so it is where document 01's terminal with the configuration w stands, and runs leave tables that are sound there
+  -- a state stands where document 01's terminal with the configuration w stands, and runs leave tables that are sound there
   pub stood_by : m.limits ≡ limits → (c : m.Config) (t w : List ℕ)
       → standing limits (stored_config w) (stored_table t) ≡ 0
       → ((qs : List Request) → SoundTable limits (config_in w) (m.run c (table_of (stored_table t)) qs).table)
-      → Stood c t
+      → Stood m c t
   stood_by at c t w z sound = record {
     zones = stands_same w t 0 (sym z) refl;
     words = λ l. (stands_ready w t 0 (sym z) refl l).words.words;
@@ -113,7 +104,7 @@ module _ (m : StepRule) where
     module _ (p : m.Said) (l : List ℕ) (e : m.read b ≡ got p l) (same : Bool) (base : ℕ) (zs stretch : List ℕ)
         (base-is : base ≡ m.edition p) (config_same : own ≡ 0 → same ≡ m.same c p)
         (zones_same : own ≡ 0 → table_held zs t ≡ same_list same_zone (table_of (stored_table t)) (m.zones p))
-        (requests_same : requests_in stretch ≡ requests_from (m.asked p)) (stood : own ≡ 0 → Stood c t) where
+        (requests_same : requests_in stretch ≡ requests_from (m.asked p)) (stood : own ≡ 0 → Stood m c t) where
       abbrev number : ℕ
       number = base_number same t ed base zs
 

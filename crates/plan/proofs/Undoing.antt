@@ -1,6 +1,6 @@
 -- After a refused request the table is read back from the base zones that the plan gives: they are the table's own, so
 -- every word is what it was.
-use Prim.Native.Nat.{ℕ, ◌-◌, ◌*◌}
+use Prim.Native.Nat.{ℕ, ◌-◌, ◌*◌, ◌≤◌}
 use native.Mathlib.Omega.{arith}
 use mathlib.Core.Bool.{Bool, true, false, cond, not}
 use mathlib.Core.List.{List, [], ◌∷◌, flat_map}
@@ -29,31 +29,31 @@ use Rattle.zones.specs.Words.{words_of_zone, words_of, emptied, Within}
 use Rattle.zones.proofs.Focus.{zero_zone_law}
 use Rattle.zones.proofs.Free.{emptied_words}
 use Rattle.plan.specs.Applying.{RanOrUndone, Refilled}
-use Rattle.plan.specs.Held.{held_answer, is_held, table_held}
+use Rattle.plan.specs.Held.{held_answer, table_held}
 use Rattle.plan.specs.Into.{zones_into, Reads}
-use Rattle.plan.specs.Steps.{own_by, done_by, RanBy, RanOrUndoneBy}
-use Rattle.plan.specs.Sections.{section_answer, table_answer}
-use Rattle.plan.specs.declared.comparing.Held.TheVariants.{Same, Other}
-use Rattle.plan.specs.declared.words.Section.{Section}
-use Rattle.plan.specs.declared.words.Section.TheVariants.{End, Bad}
+use Rattle.plan.specs.Machines.{StandsBy}
+use Rattle.plan.specs.Steps.{own_by, done_by, RanBy, RanOrUndoneBy, Stood}
+use Rattle.plan.specs.Sections.{table_answer}
+use Rattle.std.proofs.Common.{Result, Ok, Err, Some, None, is_some}
+use Rattle.plan.specs.declared.refused.Refused.{Refused}
 use Rattle.plan.proofs.Agreeing.{zones_agree}
 use Rattle.plan.proofs.Answers.{reads_bad, zones_read_law}
-use Rattle.plan.proofs.Steps.{stood_by, Stood}
+use Rattle.plan.proofs.Steps.{stood_by}
 
 -- zones that are held are what the section reads to
 held_zones : (s w : List ℕ) → table_held s w ≡ true → (t : List ℕ) × ((zones_section limits).read s ≡ got (zones_in w) t)
-unfolding table_held held_answer is_held
+unfolding table_held held_answer
 held_zones s w h = by ((zones_section limits).read s) refl h
   where
     told : (zs : List Zone) (t : List ℕ) (b : Bool) → same_list same_zone (zones_in w) zs ≡ b
-        → (zones_section limits).read s ≡ got zs t → is_held (cond b (Same (length s - length t)) Other) ≡ true
+        → (zones_section limits).read s ≡ got zs t → is_some (cond b (Some (length s - length t)) None) ≡ true
         → (t : List ℕ) × ((zones_section limits).read s ≡ got (zones_in w) t)
     told zs t true f e g =
         (t, e ∙ ap (λ (x : List Zone). got x t) (sym (same_list_law same_zone same_zone_law (zones_in w) zs f)))
     told zs t false f e g = absurd (let z : ◌≡◌ {A = ℕ} 0 1 = cc in omega arith)
 
     by : (o : Out (List Zone)) → (zones_section limits).read s ≡ o
-        → is_held (held_answer (length s) (same_list same_zone (zones_in w)) o) ≡ true
+        → is_some (held_answer (length s) (same_list same_zone (zones_in w)) o) ≡ true
         → (t : List ℕ) × ((zones_section limits).read s ≡ got (zones_in w) t)
     by (got zs t) e g = told zs t (same_list same_zone (zones_in w) zs) refl e g
     by (bad k t) e g = absurd (let z : ◌≡◌ {A = ℕ} 0 1 = cc in omega arith)
@@ -66,29 +66,28 @@ no_zones_law =
     ∙ (let h : (most_zones - length {A = Zone} []) * zone_words ≡ most_zones * zone_words = omega arith in
     ap (λ (n : ℕ). 0 ∷ replicate n 0) h)
 
-pub refill_by : (s w x v : List ℕ) (r : Section) → x ≡ emptied w → Reads s v r (zones_into x s) → Refilled s w v
+pub refill_by : (s w x v : List ℕ) (r : Result ℕ Refused) → x ≡ emptied w → Reads s v r (zones_into x s) → Refilled s w v
 refill_by s w x v r e q = (r, subst (λ (l : List ℕ). Reads s v r (zones_into l s)) e q)
 
 refilled : (s v : List ℕ) (zs ys : List Zone) (u : List ℕ) → Refilled s (words_of zs) v → Within zs
     → (zones_section limits).read s ≡ got ys u → v ≡ words_of ys
-unfolding section_answer table_answer
+unfolding table_answer
 refilled s v zs ys u (r, read) fits e =
     by r (subst (λ (w : List ℕ). Reads s v r (zones_into w s)) (emptied_words zs fits ∙ no_zones_law) read)
   where
-    by : (r : Section) → Reads s v r (zones_into (replicate table_words 0) s) → v ≡ words_of ys
-    by (End a) q = (zones_read_law s v (End a) q a refl).words ∙ ap (λ (o : Out (List Zone)). (table_answer o).words) e
-    by (Bad k a) q =
-        absurd (let (o, l) = reads_bad _ _ s v (Bad k a) _ (zones_agree (replicate table_words 0) s) q k a refl in
-        let f : bad k (drop a s) ≡ got ys u = sym o ∙ e in
-        let z : ◌≡◌ {A = ℕ} 0 1 = cc in
-        omega arith)
+    by : (r : Result ℕ Refused) → Reads s v r (zones_into (replicate table_words 0) s) → v ≡ words_of ys
+    by (Ok a) q = (zones_read_law s v a q).words ∙ ap (λ (o : Out (List Zone)). (table_answer o).words) e
+    by (Err r) q =
+        absurd (let (o, l) = reads_bad _ _ s v _ (zones_agree (replicate table_words 0) s) r q in
+        let f : bad _ (drop r.at s) ≡ got ys u = sym o ∙ e in
+        cc)
 
 -- ---- the numbers of a run: 1 or 2 of a state that does not stand, else 0 or 27
-pub one_or_two : (x y : Bool) → ◌≡◌ {A = ℕ} (first_rule (1 when x ∷ 2 when y ∷ []) 0) 27 → ⊥
+pub own_small : (x y : Bool) → first_rule (1 when x ∷ 2 when y ∷ []) 0 ≤ 2
 unfolding first_rule
-one_or_two true y h = omega arith
-one_or_two false true h = omega arith
-one_or_two false false h = omega arith
+own_small true y = omega arith
+own_small false true = omega arith
+own_small false false = omega arith
 
 ended_else : (r : Run) → ((ended r).number ≡ 27 → ⊥) → (ended r).number ≡ 0
 unfolding ended
@@ -155,13 +154,11 @@ module _ (m : StepRule) (c : m.Config) (t b : List ℕ) (o : Outcome) (u : List 
             (subst (λ (w : List ℕ). Refilled s w v) (left true stands) f) (ok.within (requests_in b)) read
             ∙ sym (ok.words l)
 
+pub own_below : (m : StepRule) (c : m.Config) (t : List ℕ) → StandsBy m c t → own_by m c t ≡ 27 → ⊥
+own_below m c t stands z = omega (arith, stands.own, z)
+
 -- ---- and by document 01's
 module _ (c t : List ℕ) where
-  stands_below : standing limits (stored_config c) (stored_table t) ≡ 27 → ⊥
-  unfolding standing_rules
-  stands_below =
-      one_or_two (not (is_sound (check limits (stored_config c)))) (not (check_table limits (stored_config c) (stored_table t)))
-
   pub plainly_stood : standing limits (stored_config c) (stored_table t) ≡ 0
       → Stood (plain_steps limits) (stored_config c) t
   plainly_stood z =
@@ -169,14 +166,20 @@ module _ (c t : List ℕ) where
       stood_by (plain_steps limits) refl (stored_config c) t c z
       (λ qs. run_from_keeps limits (config_in c) 0 (table_of (stored_table t)) qs sound)
 
-  module _ (b : List ℕ) (o : Outcome) (u : List ℕ) (ran : RanIn c t b o u) where
-    plainly_ran : RanBy (plain_steps limits) (stored_config c) t b o u
-    unfolding run_answer run_words
-    plainly_ran = record { answer = ran.answer; table = ran.table }
+  pub plainly_stands : StandsBy (plain_steps limits) (stored_config c) t
+  unfolding standing_rules
+  plainly_stands = record {
+    own = own_small (not (is_sound (check limits (stored_config c)))) (not (check_table limits (stored_config c) (stored_table t)));
+    stood = plainly_stood;
+  }
 
-    pub run_kept : (o.number ≡ 27 → ⊥) → RanOrUndone c t b o u
-    run_kept = run_kept_by (plain_steps limits) (stored_config c) t b o u plainly_ran plainly_stood stands_below
+  pub plainly_ran : (b : List ℕ) (o : Outcome) (u : List ℕ) → RanIn c t b o u
+      → RanBy (plain_steps limits) (stored_config c) t b o u
+  unfolding run_answer run_words
+  plainly_ran b o u ran = record { answer = ran.answer; table = ran.table }
 
-    pub run_undone : o.number ≡ 27 → (s : List ℕ) → table_held s t ≡ true → length t ≡ table_words
-        → (v : List ℕ) → Refilled s u v → RanOrUndone c t b o v
-    run_undone = run_undone_by (plain_steps limits) (stored_config c) t b o u plainly_ran plainly_stood stands_below
+  pub run_undone : (b : List ℕ) (o : Outcome) (u : List ℕ) → RanIn c t b o u → o.number ≡ 27 → (s : List ℕ)
+      → table_held s t ≡ true → length t ≡ table_words → (v : List ℕ) → Refilled s u v → RanOrUndone c t b o v
+  run_undone b o u ran =
+      run_undone_by (plain_steps limits) (stored_config c) t b o u (plainly_ran b o u ran) plainly_stood
+      (own_below (plain_steps limits) (stored_config c) t plainly_stands)

@@ -1,5 +1,5 @@
 -- Applying a plan where the state is words: what the code answers, and the next state.
-use Rattle.std.specs.Prelude.{ℕ, cond, List, ◌≡◌, eqb}
+use Rattle.std.specs.Prelude.{ℕ, Result, cond, List, ◌≡◌, eqb}
 use Rattle.rules.specs.Limits.{limits}
 use Rattle.rules.specs.Applying as rules
 use Rattle.rules.specs.Applying.{plain_steps, apply, Terminal}
@@ -10,10 +10,11 @@ use Rattle.zones.specs.View.{stored_config, stored_table}
 use Rattle.zones.specs.Words.{words_of, emptied}
 use Rattle.plan.specs.declared.applying.Applied.{Applied}
 use Rattle.plan.specs.declared.applying.State.{State}
+use Rattle.plan.specs.declared.finding.Parts.{Parts}
 use Rattle.plan.specs.Held.{config_held}
 use Rattle.plan.specs.Into.{zones_into, Reads}
 use Rattle.plan.specs.Steps.{away_with, base_number, RanOrUndoneBy, FoundBy}
-use Rattle.plan.specs.declared.words.Section.{Section}
+use Rattle.plan.specs.declared.refused.Refused.{Refused}
 
 -- the terminal whose state the words are
 abbrev pub terminal_in : State → Terminal
@@ -55,9 +56,10 @@ RanOrUndone c t b r u = RanOrUndoneBy (plain_steps limits) (stored_config c) t b
 
 -- the zones that the bytes give, read into the words of a table without zones
 abbrev pub Refilled : List ℕ → List ℕ → List ℕ → Type 0
-Refilled s w v = (r : Section) × Reads s v r (zones_into (emptied w) s)
+Refilled s w v = (r : Result ℕ Refused) × Reads s v r (zones_into (emptied w) s)
 
--- a plan that reads whole: its marks, and its bytes from the regions on, from the zones on and from the first request on
-abbrev pub FoundIn : List ℕ → List ℕ → ℕ → ℕ → ℕ → List ℕ → List ℕ → List ℕ → Outcome → List ℕ → Type 0
-FoundIn c t e gic base rs zs b r u =
-    FoundBy (plain_steps limits) (stored_config c) t (base_number (config_held rs gic c) t e base zs) b r u
+-- a plan that reads whole, of which these are the parts
+abbrev pub FoundIn : List ℕ → List ℕ → ℕ → Parts → Outcome → List ℕ → Type 0
+FoundIn c t e p r u =
+    FoundBy (plain_steps limits) (stored_config c) t
+    (base_number (config_held p.regions.now p.gic c) t e p.edition p.zones.now) p.requests.now r u

@@ -1,5 +1,5 @@
 -- Bytes held against words: what the format reads there passes a test, or it does not.
-use Rattle.std.specs.Prelude.{ℕ, ◌+◌, ◌-◌, ◌*◌, Bool, true, false, cond, List, [], ◌∷◌, eqb, length, get_or}
+use Rattle.std.specs.Prelude.{ℕ, Option, ◌+◌, ◌-◌, ◌*◌, Bool, cond, List, [], ◌∷◌, eqb, Some, None, is_some, length, get_or}
 use Rattle.lists.specs.Tests.{all_of}
 use Rattle.formats.specs.Formats.{Out, got, bad, Format, both}
 use Rattle.rules.specs.Applying.{same_list, same_zone}
@@ -12,17 +12,11 @@ use Rattle.rules.specs.declared.Region.{Region}
 use Rattle.zones.specs.Layout.{set_words, config_count, config_gic, config_records}
 use Rattle.zones.specs.Records.{record_at, records_at}
 use Rattle.zones.specs.View.{zones_in}
-use Rattle.plan.specs.declared.comparing.Held.{Held}
-use Rattle.plan.specs.declared.comparing.Held.TheVariants.{Same, Other}
 
 -- where what was read ends, if it passes the test: n is the number of lent bytes
-unfoldable pub held_answer : {A : Type 0} → ℕ → (A → Bool) → Out A → Held
-held_answer n p (got x left) = cond (p x) (Same (n - length left)) Other
-held_answer n p (bad k left) = Other
-
-unfoldable pub is_held : Held → Bool
-is_held (Same e) = true
-is_held Other = false
+unfoldable pub held_answer : {A : Type 0} → ℕ → (A → Bool) → Out A → Option ℕ
+held_answer n p (got x left) = cond (p x) (Some (n - length left)) None
+held_answer n p (bad k left) = None
 
 -- record i of those from word a on is region i of those from byte `at` on
 unfoldable pub same_record : List ℕ → ℕ → List ℕ → ℕ → ℕ → Bool
@@ -42,9 +36,9 @@ holds_sets w k y = all_of (holds_regions w k (k + 1) y.0 ∷ holds_regions w (k 
 -- the bytes from the regions' count on, and the GIC's position, are those of the configuration in the words w
 unfoldable pub config_held : List ℕ → ℕ → List ℕ → Bool
 config_held s gic w =
-    all_of (is_held (held_answer (length s) (holds_regions w config_count config_records) ((regions_section limits).read s))
+    all_of (is_some (held_answer (length s) (holds_regions w config_count config_records) ((regions_section limits).read s))
     ∷ eqb (get_or w config_gic 0) gic ∷ [])
 
 -- the bytes from the zones' count on are those of the zones in the words w
 unfoldable pub table_held : List ℕ → List ℕ → Bool
-table_held s w = is_held (held_answer (length s) (same_list same_zone (zones_in w)) ((zones_section limits).read s))
+table_held s w = is_some (held_answer (length s) (same_list same_zone (zones_in w)) ((zones_section limits).read s))

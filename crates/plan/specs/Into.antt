@@ -1,14 +1,14 @@
 -- Reading into words: what a reader leaves in the lent words as it goes, also where it stops.
-use Rattle.std.specs.Prelude.{ℕ, zero, suc, ◌+◌, ◌*◌, ◌≤◌, List, ◌≡◌, length, drop, set}
+use Rattle.std.specs.Prelude.{ℕ, Result, zero, suc, ◌+◌, ◌*◌, ◌≤◌, List, ◌≡◌, Ok, Err, length, drop, set}
 use Rattle.std.proofs.lemmas.List.Edits.{sets}
 use Rattle.formats.specs.Formats.{Out, got, bad, read_number, read_count}
 use Rattle.rules.specs.Limits.{most_in_set, most_zones}
+use Rattle.rules.specs.Numbers.{number}
 use Rattle.rules.specs.Plan.{region_field}
 use Rattle.rules.specs.declared.Region.{Region}
 use Rattle.zones.specs.Layout.{region_words, set_words, zone_base}
 use Rattle.zones.specs.Records.{words_of_region}
-use Rattle.plan.specs.declared.words.Section.{Section}
-use Rattle.plan.specs.declared.words.Section.TheVariants.{End, Bad}
+use Rattle.plan.specs.declared.refused.Refused.{Refused}
 
 -- the words and what is left; or the words, a refusal and what is left from the field that it speaks of
 pub data Step : Type 0 where
@@ -65,14 +65,14 @@ unfoldable pub zones_into : List ℕ → List ℕ → Step
 zones_into w b = given w (read_count 4 0 most_zones b) (put_zones w)
 
 -- ---- what the code answers of a step on the bytes s: v is what it leaves in the words
-unfoldable pub step_of : List ℕ → List ℕ → Section → Step
-step_of s v (End e) = on v (drop e s)
-step_of s v (Bad k at) = stop v k (drop at s)
+unfoldable pub step_of : List ℕ → List ℕ → Result ℕ Refused → Step
+step_of s v (Ok e) = on v (drop e s)
+step_of s v (Err r) = stop v (number r.why) (drop r.at s)
 
-unfoldable pub section_place : Section → ℕ
-section_place (End e) = e
-section_place (Bad k at) = at
+unfoldable pub section_place : Result ℕ Refused → ℕ
+section_place (Ok e) = e
+section_place (Err r) = r.at
 
-pub record Reads (s v : List ℕ) (r : Section) (S : Step) : Type 0 where
+pub record Reads (s v : List ℕ) (r : Result ℕ Refused) (S : Step) : Type 0 where
   pub step : S ≡ step_of s v r
   pub within : section_place r ≤ length s

@@ -1,4 +1,5 @@
 -- What the readers of plans answer.
+pub mod Told
 pub mod Fields
 pub mod Into
 pub mod Sections
@@ -6,5 +7,6 @@ pub mod Found
 pub mod Held
 pub mod Read
 pub mod Steps
+pub mod Machines
 pub mod Applying
 pub mod Deliveries

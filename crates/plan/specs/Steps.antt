@@ -1,13 +1,15 @@
 -- Applying a plan by any step rule, where the table is lent as words: what is answered, and the words afterwards.
-use Rattle.std.specs.Prelude.{ℕ, Bool, cond, not, List, [], ◌∷◌, ◌≡◌, eqb}
+use Rattle.std.specs.Prelude.{ℕ, Bool, cond, not, List, [], ◌∷◌, ◌≡◌, eqb, length}
 use Rattle.lists.specs.Rules.{◌when◌, first_rule}
-use Rattle.rules.specs.Applying.{last_edition, plain, Kept, apply_by}
+use Rattle.rules.specs.Applying.{last_edition, store, plain, Kept, apply_by}
 use Rattle.rules.specs.Run.{requests_in, ended_after, Run}
 use Rattle.rules.specs.Steps.{StepRule}
 use Rattle.rules.specs.Tables.{table_of}
 use Rattle.rules.specs.declared.Outcome.{Outcome}
-use Rattle.zones.specs.View.{stored_table}
-use Rattle.zones.specs.Words.{words_of}
+use Rattle.rules.specs.declared.Request.{Request}
+use Rattle.zones.specs.Layout.{table_words}
+use Rattle.zones.specs.View.{stored_table, zones_in}
+use Rattle.zones.specs.Words.{words_of, Within}
 use Rattle.plan.specs.Held.{table_held}
 
 -- a number that the plan has earned, unless the state's own number is 1 or 2
@@ -54,3 +56,13 @@ module _ (m : StepRule) where
   pub record FoundBy (c : m.Config) (t : List ℕ) (n : ℕ) (b : List ℕ) (r : Outcome) (u : List ℕ) : Type 0 where
     pub base_other : (n ≡ 0 → ⊥) → (r ≡ away_with (own_by c t) n 0) × (u ≡ t)
     pub base_same : n ≡ 0 → RanOrUndoneBy c t b r u
+
+  -- what is asked of a state that stands: readers find the zones that its words hold, words of the right length are
+  -- those of the zones, and what requests leave is within limits and is read back as it was stored
+  pub record Stood (c : m.Config) (t : List ℕ) : Type 0 where
+    pub zones : zones_in t ≡ table_of (stored_table t)
+    pub words : length t ≡ table_words → t ≡ words_of (zones_in t)
+    pub within : (qs : List Request) → Within (m.run c (table_of (stored_table t)) qs).table
+    pub back : (qs : List Request)
+        → table_of (store m.limits (m.run c (table_of (stored_table t)) qs).table)
+        ≡ (m.run c (table_of (stored_table t)) qs).table

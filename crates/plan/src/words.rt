@@ -4,47 +4,32 @@ ghost use Rattle.rules.specs.Limits.{most_zones};
 ghost use Rattle.zones.specs.Layout.{region_words, set_words, table_words, zone_base};
 ghost use Rattle.plan.specs.Into.{Reads, record_into, set_into, sets_into, zone_into, zones_into, times};
 
-use crate::field::{Number, RegionField, is_within, number_at, region_field_at};
+use crate::field::{count_at, number_at, region_field_at};
+use crate::refused::Refused;
 use rules::limits::{MOST_IN_SET, MOST_ZONES};
-use rules::numbers::{COUNT, CUT};
 use rules::widths::{REGION_BYTES, SHORT_BYTES};
 use zones::{REGION_WORDS, SET_WORDS, put_region, zone_start};
 
-// Where a section ends; or a refusal and its offset.
-#[derive(Clone, Copy)]
-pub enum Section {
-    End(usize),
-    Bad { number: u32, at: usize },
-}
-
 // The region at byte `at`, into record i of those from word a on.
-fn read_record(s: &[u8], at: usize, w: &mut [u64], a: usize, i: usize) -> Section
+fn read_record(s: &[u8], at: usize, w: &mut [u64], a: usize, i: usize) -> Result<usize, Refused>
     requires { (at ≤ length s.now) × (a + (i + 1) * region_words ≤ length w.old) }
     ensures { Reads s.now w.new result (record_into a i w.old (drop at s.now)) }
 {
-    let RegionField::Is(r) = region_field_at(s, at) else {
-        return Section::Bad { number: CUT, at };
-    };
+    let r = region_field_at(s, at)?;
     put_region(w, a + i * REGION_WORDS, r);
-    Section::End(at + REGION_BYTES)
+    Ok(at + REGION_BYTES)
 }
 
 // The n regions from byte `start` on, into the records from word a on.
-fn read_records(s: &[u8], start: usize, n: usize, w: &mut [u64], a: usize) -> Section
+fn read_records(s: &[u8], start: usize, n: usize, w: &mut [u64], a: usize) -> Result<usize, Refused>
     requires { (start ≤ length s.now) × (a + n * region_words ≤ length w.old) }
     ensures { Reads s.now w.new result (times (record_into a) n 0 w.old (drop start s.now)) }
 {
     let mut at = start;
-    let mut i = 0;
-    while i < n {
-        let r = read_record(s, at, w, a, i);
-        let Section::End(next) = r else {
-            return r;
-        };
-        at = next;
-        i += 1;
+    for i in 0..n {
+        at = read_record(s, at, w, a, i)?;
     }
-    Section::End(at)
+    Ok(at)
 }
 
 // A count from lo to hi at byte `start`, and as many regions: the count into word k, the records from word a on.
@@ -56,87 +41,55 @@ pub fn read_set(
     w: &mut [u64],
     k: usize,
     a: usize,
-) -> Section
+) -> Result<usize, Refused>
     requires { ((start ≤ length s.now) × (k < length w.old)) × (a + hi * region_words ≤ length w.old) }
     ensures { Reads s.now w.new result (set_into lo hi k a w.old (drop start s.now)) }
 {
-    let Number::Is(n) = number_at(s, start) else {
-        return Section::Bad {
-            number: CUT,
-            at: start,
-        };
-    };
-    if !is_within(lo, hi, n) {
-        return Section::Bad {
-            number: COUNT,
-            at: start,
-        };
-    }
+    let n = count_at(s, start, lo, hi)?;
     w[k] = n as u64;
     read_records(s, start + SHORT_BYTES, n as usize, w, a)
 }
 
 // The two sets of a zone from byte `start` on, into the words from k on.
-fn read_sets(s: &[u8], start: usize, w: &mut [u64], k: usize) -> Section
+fn read_sets(s: &[u8], start: usize, w: &mut [u64], k: usize) -> Result<usize, Refused>
     requires { (start ≤ length s.now) × (k + 2 * set_words ≤ length w.old) }
     ensures { Reads s.now w.new result (sets_into k w.old (drop start s.now)) }
 {
-    let cpu = read_set(s, start, 0, MOST_IN_SET as u32, w, k, k + 1);
-    let Section::End(at) = cpu else {
-        return cpu;
-    };
+    let at = read_set(s, start, 0, MOST_IN_SET as u32, w, k, k + 1)?;
     let j = k + SET_WORDS;
     read_set(s, at, 0, MOST_IN_SET as u32, w, j, j + 1)
 }
 
 // The zone at byte `start`, into the words of zone i.
-fn read_zone(s: &[u8], start: usize, w: &mut [u64], i: usize) -> Section
+fn read_zone(s: &[u8], start: usize, w: &mut [u64], i: usize) -> Result<usize, Refused>
     requires { ((start ≤ length s.now) × (i < most_zones)) × (zone_base (i + 1) ≤ length w.old) }
     ensures { Reads s.now w.new result (zone_into i w.old (drop start s.now)) }
 {
-    let Number::Is(id) = number_at(s, start) else {
-        return Section::Bad {
-            number: CUT,
-            at: start,
-        };
-    };
+    let id = number_at(s, start)?;
     let z = zone_start(i);
     w[z] = id as u64;
     read_sets(s, start + SHORT_BYTES, w, z + 1)
 }
 
-// The n zones from byte `start` on, into those of a table's words.
-fn read_zone_list(s: &[u8], start: usize, n: usize, w: &mut [u64]) -> Section
+// The n zones from byte `start` on, into those of a table's words. (The same loop as that of the records: as a function that takes the
+// step as a closure, which would have to be lent the words, it is no plainer.)
+fn read_zone_list(s: &[u8], start: usize, n: usize, w: &mut [u64]) -> Result<usize, Refused>
     requires { ((start ≤ length s.now) × (n ≤ most_zones)) × (zone_base n ≤ length w.old) }
     ensures { Reads s.now w.new result (times zone_into n 0 w.old (drop start s.now)) }
 {
     let mut at = start;
-    let mut i = 0;
-    while i < n {
-        let r = read_zone(s, at, w, i);
-        let Section::End(next) = r else {
-            return r;
-        };
-        at = next;
-        i += 1;
+    for i in 0..n {
+        at = read_zone(s, at, w, i)?;
     }
-    Section::End(at)
+    Ok(at)
 }
 
 // The zones' section from its count on, into a table's words.
-pub fn read_table(s: &[u8], w: &mut [u64]) -> Section
+pub fn read_table(s: &[u8], w: &mut [u64]) -> Result<usize, Refused>
     requires { table_words ≤ length w.old }
     ensures { Reads s.now w.new result (zones_into w.old s.now) }
 {
-    let Number::Is(n) = number_at(s, 0) else {
-        return Section::Bad { number: CUT, at: 0 };
-    };
-    if !is_within(0, MOST_ZONES as u32, n) {
-        return Section::Bad {
-            number: COUNT,
-            at: 0,
-        };
-    }
+    let n = count_at(s, 0, 0, MOST_ZONES as u32)?;
     w[0] = n as u64;
     read_zone_list(s, SHORT_BYTES, n as usize, w)
 }

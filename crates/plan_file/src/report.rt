@@ -4,8 +4,19 @@ use rules::Outcome;
 use std::fmt::InlineText;
 use std::{fmt, io};
 
+// An outcome as the programs write it: the number, the place and the inner number.
+#[derive(Clone, Copy)]
+pub struct Line(pub Outcome);
+
+impl fmt::Display for Line {
+    fn fmt<W: fmt::Write>(&self, f: &mut fmt::Formatter<W>) -> fmt::Result {
+        let Line(outcome) = self;
+        write!(f, "{} {} {}", outcome.number, outcome.place, outcome.inner)
+    }
+}
+
 pub fn print(rt: &impl Print, outcome: Outcome) -> io::Result<()> {
-    println!(rt; "{} {} {}", outcome.number, outcome.place, outcome.inner)
+    println!(rt; "{}", Line(outcome))
 }
 
 // Bytes as text: what is no text in them shows as the sign that stands for it.
@@ -44,10 +55,9 @@ pub fn cannot_open(rt: &impl Eprint, program: &[u8], name: &str, error: io::Erro
 
 // std writes the error's number behind the system's text.
 fn without_number(reason: &str) -> &str {
-    match reason.split_once(" (os error ") {
-        Some((words, _)) => words,
-        None => reason,
-    }
+    reason
+        .split_once(" (os error ")
+        .map_or(reason, |(words, _)| words)
 }
 
 pub fn cannot_open_bytes(rt: &impl Eprint, program: &[u8], name: &[u8]) {

@@ -1,55 +1,47 @@
 // Numbers and bytes put into lent bytes, the lowest byte first: the other way of `fields`, for all who write. Bytes past the end go nowhere,
-// so each answers at any place; whether all of them fit is for the caller to ask.
+// so each answers at any place; whether all of them fit is for the caller to ask, or for `fill`.
 #![tactic(auto)]
+
+mod filling;
+mod pen;
 
 ghost use Rattle.std.specs.Prelude.{◌≡◌};
 ghost use Rattle.lists.specs.Bytes.{bytes_of};
 ghost use Rattle.puts.specs.Puts.{put_at};
 
+pub use filling::{fill, fill_measured};
+pub use pen::Pen;
+
 // The number's 4 bytes.
 pub fn put_u32(s: &mut [u8], at: usize, x: u32)
     ensures { s.new ≡ put_at at (bytes_of 4 x) s.old }
 {
-    put_low(s, at, 4, x as u64);
+    put(s, at, u32::to_le_bytes(x));
 }
 
 // The number's 8 bytes.
 pub fn put_u64(s: &mut [u8], at: usize, x: u64)
     ensures { s.new ≡ put_at at (bytes_of 8 x) s.old }
 {
-    put_low(s, at, 8, x);
+    put(s, at, u64::to_le_bytes(x));
 }
 
-// The lowest n bytes of a number.
-fn put_low(s: &mut [u8], at: usize, n: usize, x: u64)
-    ensures { s.new ≡ put_at at (bytes_of n x) s.old }
+// These bytes: stored at once where all of them fit, as they mostly do.
+fn put<const N: usize>(s: &mut [u8], at: usize, these: [u8; N])
+    ensures { s.new ≡ put_at at these.entry s.old }
 {
-    let mut k = at;
-    let mut left = n;
-    let mut y = x;
-    while 0 < left {
-        if s.len() <= k {
-            return;
-        }
-        s[k] = (y % 256) as u8;
-        y = y / 256;
-        k += 1;
-        left -= 1;
+    match s.len().checked_sub(at) {
+        Some(room) if N <= room => s[at..at + N].copy_from_slice(&these),
+        _ => put_bytes(s, at, &these),
     }
 }
 
 // All bytes of another stretch.
+#[inline(never)]
 pub fn put_bytes(s: &mut [u8], at: usize, from: &[u8])
     ensures { s.new ≡ put_at at from.now s.old }
 {
-    let mut k = at;
-    let mut i = 0;
-    while i < from.len() {
-        if s.len() <= k {
-            return;
-        }
-        s[k] = from[i];
-        k += 1;
-        i += 1;
+    for (to, byte) in (at..s.len()).zip(from) {
+        s[to] = *byte;
     }
 }

@@ -6,26 +6,31 @@ use mathlib.Core.List.{List, [], ◌∷◌, ◌++◌, append-nil}
 use mathlib.Core.Logic.{◌⊎◌, inl, inr}
 use mathlib.Core.Path.{◌≡◌, refl, sym, ap, subst, ◌∙◌}
 use borrow.Author.Tests.{lt-ltb, le-ltb, eq-eqb, ne_eqb}
-use lib.Dec.{ltb, eqb}
-use lib.ListN.{length, get_or, take, drop, set, length-set}
-use lib.Seq.{paste, paste-zero, paste-suc, length-take-le}
+use lib.Dec.{ltb}
+use Rattle.std.proofs.Common.{Ok, Err}
+use lib.ListN.{length, get_or, take, drop, set}
+use lib.Seq.{paste, paste-suc, length-take-le, take-take}
 use Rattle.lists.specs.Rules.{first_rule}
 use Rattle.formats.specs.Formats.{Out, got, bad}
-use Rattle.rules.specs.Applying.{plain}
+use Rattle.rules.specs.Applying.{plain, plain_steps}
+use Rattle.plan.specs.Steps.{AppliedBy}
 use Rattle.rules.specs.Limits.{limits}
+use Rattle.rules.specs.Numbers.{number}
 use Rattle.rules.specs.Plan.{read_plan, Plan}
 use Rattle.rules.specs.Requests.{standing}
 use Rattle.rules.specs.declared.Outcome.{Outcome}
+use Rattle.rules.specs.declared.refusal.Refusal.{Refusal}
 use Rattle.rules.proofs.Receiving.{stored_most, fitting_room, fitting_part}
 use Rattle.zones.specs.View.{stored_config, stored_table}
 use Rattle.plan.specs.Applying.{applied, state_in, turned_away, AppliedIn}
 use Rattle.plan.specs.Found.{found_in}
 use Rattle.plan.specs.declared.applying.State.{State}
 use Rattle.plan.specs.declared.finding.Found.{Found}
-use Rattle.plan.specs.declared.finding.Found.TheVariants.{At, Bad}
+use Rattle.plan.specs.Told.{answer_by}
 use Rattle.plan.proofs.Deliveries.{apply_is_faithful}
+use Rattle.zones.proofs.Ruling.{number_some}
 use Rattle.plan.proofs.Judging.{away_own, away_plan}
-use Rattle.plan.proofs.Outcomes.{apply_away}
+use Rattle.plan.proofs.Outcomes.{applied_in, turned_by}
 use Rattle.rules.specs.Receiving.{full, no_bytes, is_over, stored_in, is_short, fitting, grown, take_piece, received}
 use Rattle.rules.specs.Receiving.{Taken}
 use Rattle.rules.specs.Sizes.{longest_size}
@@ -63,14 +68,9 @@ module _ (r : Receiver) where
     pub stored_there : (w : List ℕ) → longest ≤ length w → n ≤ length w
     stored_there w h = omega (arith, stored_room)
 
-    module _ (m : ℕ) where
-      pub fits_room : longest - n < m → longest - n ≡ fitting limits r m
-      unfolding fitting
-      fits_room h = let e : longest - n ≡ min m (longest - n) = omega arith in e ∙ ap (λ (k : ℕ). min m (longest - k)) en
-
-      pub fits_all : m ≤ longest - n → m ≡ fitting limits r m
-      unfolding fitting
-      fits_all h = let e : m ≡ min m (longest - n) = omega arith in e ∙ ap (λ (k : ℕ). min m (longest - k)) en
+    pub fits : (m : ℕ) → min m (longest - n) ≡ fitting limits r m
+    unfolding fitting
+    fits m = ap (λ (k : ℕ). min m (longest - k)) en
 
 -- the receiver after m bytes
 module _ (r : Receiver) (m : ℕ) (b : Bool) (eb : b ≡ is_over limits r) where
@@ -97,30 +97,30 @@ module _ (r : Receiver) (m : ℕ) (b : Bool) (eb : b ≡ is_over limits r) where
 
 -- ---- the buffer
 -- the loop of `put_bytes`: its store takes the copy of i bytes to the copy of i + 1
-pub put_start : (d : List ℕ) (at : ℕ) (s : List ℕ) → d ≡ paste d at s 0
-put_start d at s = paste-zero d at s
+pub put_step : (d t : List ℕ) (at : ℕ) (s : List ℕ) (i : ℕ) → t ≡ paste d at s i → i < length s → at + length s ≤ length d
+    → set t (at + i) (get_or s i 0) ≡ paste d at s (i + 1)
+put_step d t at s i inv h b =
+    ap (λ (l : List ℕ). set l (at + i) (get_or s i 0)) inv
+    ∙ paste-suc d at s i 0 (omega arith) (omega arith)
+    ∙ ap (paste d at s) (let e : suc i ≡ i + 1 = omega arith in e)
 
-module _ (d t : List ℕ) (at : ℕ) (s : List ℕ) (i : ℕ) where
-  pub put_step : (m : ℕ) → t ≡ paste d at s i → i < m → at + m ≤ length d → m ≤ length s
-      → set t (at + i) (get_or s i 0) ≡ paste d at s (i + 1)
-  put_step m inv h b q =
-      ap (λ (l : List ℕ). set l (at + i) (get_or s i 0)) inv
-      ∙ paste-suc d at s i 0 (omega arith) (omega arith)
-      ∙ ap (paste d at s) (let e : suc i ≡ i + 1 = omega arith in e)
-
-  pub put_end : (m : ℕ) → t ≡ paste d at s i → i ≤ m → m ≤ i → t ≡ paste d at s m
-  put_end m inv h b = inv ∙ ap (paste d at s) (let e : i ≡ m = omega arith in e)
-
-pub put_kept : (d t : List ℕ) (k x : ℕ) → length t ≡ length d → length (set t k x) ≡ length d
-put_kept d t k x e = length-set t k x ∙ e
+-- of a piece as many bytes are put as there are
+pub pasted : (w : List ℕ) (n : ℕ) (p : List ℕ) (m : ℕ) → m ≤ length p
+    → paste w n (take m p) (length (take m p)) ≡ paste w n p m
+pasted w n p m h =
+    let e : length (take m p) ≡ m = length-take-le m p h in
+    let q : take m (take m p) ≡ take m p = take-take m m p (omega arith) in
+    let f : paste w n (take m p) m ≡ paste w n p m = ap (λ (s : List ℕ). take n w ++ s ++ drop (n + m) w) q in
+    ap (λ (k : ℕ). paste w n (take m p) k) e ∙ f
 
 -- a piece fits into what is left of the buffer
 module _ (r : Receiver) (n m : ℕ) (en : n ≡ stored_in limits r) (k : ℕ) (em : m ≡ fitting limits r k) where
-  pub piece_room : (w : List ℕ) → longest ≤ length w → n + m ≤ length w
-  piece_room w h = omega (arith, en, em, fitting_room limits r k)
-
   pub piece_part : m ≤ k
   piece_part = omega (arith, em, fitting_part limits r k)
+
+  pub piece_room : (w p : List ℕ) → k ≡ length p → longest ≤ length w → n + length (take m p) ≤ length w
+  piece_room w p ek h =
+      omega (arith, en, em, fitting_room limits r k, ek, length-take-le m p (omega (arith, ek, piece_part)))
 
 -- ---- a piece call
 module _ (r : Receiver) (w p : List ℕ) where
@@ -133,7 +133,7 @@ module _ (r : Receiver) (w p : List ℕ) where
         buffer = paste w (stored_in limits r) p (fitting limits r (length p));
       })
 
-  pub takes_short : length w < longest → TakesIn r w p (record { number = 28; receiver = r }) w
+  pub takes_short : length w < longest → TakesIn r w p 28 r w
   unfolding take_piece is_short
   takes_short h =
       let e : true ≡ ltb (length w) longest = sym (lt-ltb _ longest h) in
@@ -144,64 +144,71 @@ module _ (r : Receiver) (w p : List ℕ) where
       }
 
   pub takes_piece : (n m : ℕ) (g : Receiver) (v : List ℕ) → longest ≤ length w → n ≡ stored_in limits r
-      → m ≡ fitting limits r (length p) → g ≡ grown limits r (length p) → v ≡ paste w n p m
-      → TakesIn r w p (record { number = 0; receiver = g }) v
+      → m ≡ fitting limits r (length p) → g ≡ grown limits r (length p)
+      → v ≡ paste w n (take m p) (length (take m p))
+      → TakesIn r w p 0 g v
   unfolding take_piece is_short
   takes_piece n m g v h en em eg ev =
       let e : false ≡ ltb (length w) longest = sym (le-ltb _ longest h) in
       record {
         number = ap (λ (s : Bool). (takes s).number) e;
         receiver = eg ∙ ap (λ (s : Bool). (takes s).receiver) e;
-        buffer = ev ∙ (λ i. paste w (en i) p (em i)) ∙ ap (λ (s : Bool). (takes s).buffer) e;
+        buffer =
+            ev ∙ pasted w n p m (omega (arith, em, fitting_part limits r (length p)))
+            ∙ (λ i. paste w (en i) p (em i)) ∙ ap (λ (s : Bool). (takes s).buffer) e;
       }
 
 -- ---- bytes after which more came
-module _ (c t b : List ℕ) (n : ℕ) (en : n ≡ standing limits (stored_config c) (stored_table t)) where
-  pub over_own : (n ≡ 0 → ⊥) → ◌≡◌ {A = Outcome} (record { number = n; place = 0; inner = 0 }) (over_away c t b)
+module _ (c t b : List ℕ) where
+  pub over_own : (r : Refusal) → number r ≡ standing limits (stored_config c) (stored_table t)
+      → plain (number r) 0 ≡ over_away c t b
   unfolding over_away
-  over_own ne = away_own c t (over_number (read_plan limits b)) (over_place (length b) (read_plan limits b)) n en ne
+  over_own r en =
+      away_own c t (over_number (read_plan limits b)) (over_place (length b) (read_plan limits b)) (number r) en
+      (number_some r)
 
-  module _ (z : n ≡ 0) (f : Found) (ef : f ≡ found_in (length b) (read_plan limits b)) where
+  module _ (z : 0 ≡ standing limits (stored_config c) (stored_table t)) where
     away : (k a : ℕ) → (over_number (read_plan limits b) ≡ k) → (over_place (length b) (read_plan limits b) ≡ a)
-        → ◌≡◌ {A = Outcome} (record { number = k; place = a; inner = 0 }) (over_away c t b)
+        → plain k a ≡ over_away c t b
     unfolding over_away
-    away k a ek ea = away_plan c t k a n en z ∙ (λ i. turned_away c t (sym ek i) (sym ea i))
+    away k a ek ea = away_plan c t k a 0 z refl ∙ (λ i. turned_away c t (sym ek i) (sym ea i))
 
-    pub over_bad : (k a : ℕ) → f ≡ Bad k a
-        → ◌≡◌ {A = Outcome} (record { number = k; place = a; inner = 0 }) (over_away c t b)
-    unfolding found_in over_number over_place
-    over_bad k a h = by (read_plan limits b) (sym ef ∙ h) (away k a)
+    pub over_bad : (k a : ℕ) → Err (k, a) ≡ found_in (length b) (read_plan limits b) → plain k a ≡ over_away c t b
+    unfolding answer_by over_number over_place
+    over_bad k a f = by (read_plan limits b) f (away k a)
       where
-        by : (o : Out Plan) → found_in (length b) o ≡ Bad k a
-            → ((over_number o ≡ k) → (over_place (length b) o ≡ a)
-            → ◌≡◌ {A = Outcome} (record { number = k; place = a; inner = 0 }) (over_away c t b))
-            → ◌≡◌ {A = Outcome} (record { number = k; place = a; inner = 0 }) (over_away c t b)
-        by (got p s) q g = absurd (let y : ◌≡◌ {A = ℕ} 0 1 = cc in omega arith)
-        by (bad j s) q g = let x : j ≡ k = cc in let y : length b - length s ≡ a = cc in g x y
+        by : (o : Out Plan) → Err (k, a) ≡ found_in (length b) o
+            → ((over_number o ≡ k) → (over_place (length b) o ≡ a) → plain k a ≡ over_away c t b)
+            → plain k a ≡ over_away c t b
+        by (got p s) q g = absurd (cc)
+        by (bad j s) q g =
+            let m : ◌≡◌ {A = ℕ × ℕ} (k, a) (j, length b - length s) = cc in
+            g (sym (ap (λ (x : ℕ × ℕ). x.0) m)) (sym (ap (λ (x : ℕ × ℕ). x.1) m))
 
-    pub over_whole : (gic e zs rs : ℕ) → f ≡ At gic e zs rs
-        → ◌≡◌ {A = Outcome} (record { number = 22; place = length b; inner = 0 }) (over_away c t b)
-    unfolding found_in over_number over_place
-    over_whole gic e zs rs h = by (read_plan limits b) (sym ef ∙ h) (away 22 (length b))
+    pub over_whole : (r : Found) → Ok r ≡ found_in (length b) (read_plan limits b)
+        → plain 22 (length b) ≡ over_away c t b
+    unfolding answer_by over_number over_place
+    over_whole r f = by (read_plan limits b) f (away 22 (length b))
       where
-        by : (o : Out Plan) → found_in (length b) o ≡ At gic e zs rs
-            → ((over_number o ≡ 22) → (over_place (length b) o ≡ length b)
-            → ◌≡◌ {A = Outcome} (record { number = 22; place = length b; inner = 0 }) (over_away c t b))
-            → ◌≡◌ {A = Outcome} (record { number = 22; place = length b; inner = 0 }) (over_away c t b)
+        by : (o : Out Plan) → Ok r ≡ found_in (length b) o
+            → ((over_number o ≡ 22) → (over_place (length b) o ≡ length b) → plain 22 (length b) ≡ over_away c t b)
+            → plain 22 (length b) ≡ over_away c t b
         by (got p s) q g = g refl refl
-        by (bad j s) q g = absurd (let y : ◌≡◌ {A = ℕ} 0 1 = cc in omega arith)
+        by (bad j s) q g = absurd (cc)
 
 -- so they are answered as with one byte more
 over_in : (c t : List ℕ) (e : ℕ) (b : List ℕ) (x : ℕ) (o : Outcome) → longest ≤ length b → o ≡ over_away c t b
     → AppliedIn c t e (b ++ (x ∷ [])) o t
-unfolding over_away found_in
+unfolding over_away answer_by turned_away
 over_in c t e b x o h eo =
     let (s, er, es) = over_read limits b x [] h in
     let k : ℕ = over_number (read_plan limits b) in
     let a : ℕ = over_place (length b) (read_plan limits b) in
-    let f : Bad k a ≡ found_in (length (b ++ (x ∷ []))) (read_plan limits (b ++ (x ∷ []))) =
-    sym (ap (found_in (length (b ++ (x ∷ [])))) er ∙ ap (Bad k) es) in
-    apply_away (b ++ (x ∷ [])) (Bad k a) f k a refl c t e o eo
+    let f : Err (k, a) ≡ found_in (length (b ++ (x ∷ []))) (read_plan limits (b ++ (x ∷ []))) =
+    sym (ap (found_in (length (b ++ (x ∷ [])))) er ∙ ap (λ (p : ℕ). Err (k, p)) es) in
+    applied_in c t e (b ++ (x ∷ [])) o t
+    (subst (λ (v : Outcome). AppliedBy (plain_steps limits) (stored_config c) t e (b ++ (x ∷ [])) v t) (sym eo)
+    (turned_by (b ++ (x ∷ [])) k a f c t e))
 
 -- ---- the end call
 module _ (c t : List ℕ) (e : ℕ) (r : Receiver) (w : List ℕ) where
@@ -245,21 +252,16 @@ module _ (c t : List ℕ) (e : ℕ) (r : Receiver) (w : List ℕ) where
       unfolding received
       came v ev = (λ i. take (en i) w ++ cond ((sym ev ∙ eb) i) (0 ∷ []) [])
 
-      pub ends_over : b ≡ true → (o : Outcome) → o ≡ over_away c t (take (n - 0) (drop 0 w))
+      pub ends_over : b ≡ true → (o : Outcome) → o ≡ over_away c t (take n w)
           → EndsIn c t e r w (record { outcome = o; receiver = no_bytes }) t
       ends_over v o eo =
-          let m : n - 0 ≡ n = omega arith in
           let l : longest ≡ n = stored_over r b eb v ∙ sym en in
           applied_ends (take n w ++ (0 ∷ [])) o t (came true v)
-          (over_in c t e (take n w) 0 o (omega (arith, l, length-take-le n w (omega (arith, l))))
-          (eo ∙ ap (λ (k : ℕ). over_away c t (take k w)) m))
+          (over_in c t e (take n w) 0 o (omega (arith, l, length-take-le n w (omega (arith, l)))) eo)
 
-      pub ends_whole : b ≡ false → (o : Outcome) (u : List ℕ) → AppliedIn c t e (take (n - 0) (drop 0 w)) o u
+      pub ends_whole : b ≡ false → (o : Outcome) (u : List ℕ) → AppliedIn c t e (take n w) o u
           → EndsIn c t e r w (record { outcome = o; receiver = no_bytes }) u
-      ends_whole v o u done =
-          let m : n - 0 ≡ n = omega arith in
-          applied_ends (take (n - 0) w) o u
-          (ap (λ (k : ℕ). take k w) m ∙ sym (append-nil (take n w)) ∙ came false v) done
+      ends_whole v o u done = applied_ends (take n w) o u (sym (append-nil (take n w)) ∙ came false v) done
 
 -- ---- what an end call leaves, by the buffer
 abbrev pub EndedCases : State → Receiver → List ℕ → Type 0

@@ -10,12 +10,12 @@ use Rattle.plan.specs.declared.applying.State.{State}
 use Rattle.rules.specs.Receiving.{no_bytes, is_short, take_piece, received}
 use Rattle.receiver.specs.declared.Ending.{Ending}
 use Rattle.rules.specs.declared.Receiver.{Receiver}
-use Rattle.receiver.specs.declared.Taking.{Taking}
 
--- ---- a piece call with the receiver r, the buffer w and the piece p: a is answered, and v is what the buffer then is
-pub record TakesIn (r : Receiver) (w p : List ℕ) (a : Taking) (v : List ℕ) : Type 0 where
-  pub number : a.number ≡ (take_piece limits r w p).number
-  pub receiver : a.receiver ≡ (take_piece limits r w p).receiver
+-- ---- a piece call with the receiver r, the buffer w and the piece p: the number n is answered, s is the receiver
+-- afterwards, and v is what the buffer then is
+pub record TakesIn (r : Receiver) (w p : List ℕ) (n : ℕ) (s : Receiver) (v : List ℕ) : Type 0 where
+  pub number : n ≡ (take_piece limits r w p).number
+  pub receiver : s ≡ (take_piece limits r w p).receiver
   pub buffer : v ≡ (take_piece limits r w p).buffer
 
 -- ---- the end call at a state of words: the rules' answer, and the words of the next state

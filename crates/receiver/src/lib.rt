@@ -3,21 +3,15 @@
 
 ghost use Rattle.std.specs.Prelude.{◌+◌, ◌≤◌, ◌≡◌, length};
 ghost use Rattle.std.proofs.Math.Seq.{paste};
+ghost use Rattle.std.specs.Result.{result_unwrap_or};
 ghost use Rattle.rules.specs.Limits.{limits};
+ghost use Rattle.rules.specs.Numbers.{code};
 ghost use Rattle.rules.specs.Receiving.{is_over, stored_in, fitting, grown};
 ghost use Rattle.receiver.specs.Words.{TakesIn, EndsIn, over_away};
 
-use plan::{Found, LONGEST_PLAN, apply_words, find_sections};
-use rules::numbers::{BUFFER_SHORT, TRAILING};
-use rules::{Outcome, Receiver};
+use plan::{LONGEST_PLAN, apply_words, find_sections};
+use rules::{Outcome, Receiver, Refusal};
 use zones::{CONFIG_WORDS, TABLE_WORDS, standing};
-
-// What a piece call answers, and the next receiver.
-#[derive(Clone, Copy)]
-pub struct Taking {
-    pub number: u32,
-    pub receiver: Receiver,
-}
 
 // What an end call answers, and the next receiver.
 #[derive(Clone, Copy)]
@@ -26,24 +20,26 @@ pub struct Ending {
     pub receiver: Receiver,
 }
 
-// Those of the piece's bytes that the longest plan leaves room for go into the buffer, after the stored ones. Nothing is applied.
-pub fn take_piece(receiver: Receiver, buffer: &mut [u8], piece: &[u8]) -> Taking
-    ensures { TakesIn receiver buffer.old piece.now result buffer.new }
+const EMPTY: Receiver = Receiver { stored: 0, more: 0 };
+
+// The longest plan is stored, and more came.
+const FULL: Receiver = Receiver {
+    stored: LONGEST_PLAN,
+    more: 1,
+};
+
+// Those of the piece's bytes that the longest plan leaves room for go into the buffer, after the stored ones, and the next receiver is answered.
+// Nothing is applied.
+pub fn take_piece(receiver: Receiver, buffer: &mut [u8], piece: &[u8]) -> Result<Receiver, Refusal>
+    ensures { TakesIn receiver buffer.old piece.now (code result) (result_unwrap_or result receiver) buffer.new }
 {
     if buffer.len() < LONGEST_PLAN {
-        return Taking {
-            number: BUFFER_SHORT,
-            receiver,
-        };
+        return Err(Refusal::BufferShort);
     }
     let at = stored_in(receiver);
     let many = fitting(receiver, piece.len());
-    put_bytes(buffer, at, piece, many);
-    let next = grown(receiver, piece.len());
-    Taking {
-        number: 0,
-        receiver: next,
-    }
+    put_bytes(buffer, at, &piece[..many]);
+    Ok(grown(receiver, piece.len()))
 }
 
 // Applies what came to the state whose words are lent, as `plan::apply_words` applies a whole plan.
@@ -58,72 +54,50 @@ pub fn end_words(
 {
     if buffer.len() < LONGEST_PLAN {
         return Ending {
-            outcome: Outcome {
-                number: BUFFER_SHORT,
-                place: 0,
-                inner: 0,
-            },
+            outcome: Outcome::refused(Refusal::BufferShort, 0),
             receiver,
         };
     }
-    let at = stored_in(receiver);
-    if is_over(receiver) {
-        let outcome = refuse_over(config, table, &buffer[0..at]);
-        return Ending {
-            outcome,
-            receiver: Receiver { stored: 0, more: 0 },
-        };
-    }
-    let outcome = apply_words(config, table, edition, &buffer[0..at]);
+    let came = &buffer[..stored_in(receiver)];
+    let outcome = if is_over(receiver) {
+        refuse_over(config, table, came)
+    } else {
+        apply_words(config, table, edition, came)
+    };
     Ending {
         outcome,
-        receiver: Receiver { stored: 0, more: 0 },
+        receiver: EMPTY,
     }
 }
+
+// ---- a receiver, which is a word of the rules and so has no methods here
 
 // More came than the longest plan has; words that no call leaves count so too.
 fn is_over(r: Receiver) -> bool
     ensures { result ≡ is_over limits r }
 {
-    if r.more != 0 {
-        return true;
-    }
-    r.stored > LONGEST_PLAN
+    r.more != 0 || r.stored > LONGEST_PLAN
 }
 
 fn stored_in(r: Receiver) -> usize
     ensures { result ≡ stored_in limits r }
 {
-    if is_over(r) {
-        return LONGEST_PLAN;
-    }
-    r.stored
+    if is_over(r) { LONGEST_PLAN } else { r.stored }
 }
 
 // How many of the bytes there is room for.
 fn fitting(r: Receiver, bytes: usize) -> usize
     ensures { result ≡ fitting limits r bytes }
 {
-    let room = LONGEST_PLAN - stored_in(r);
-    if bytes > room {
-        return room;
-    }
-    bytes
+    bytes.min(LONGEST_PLAN - stored_in(r))
 }
 
 fn grown(r: Receiver, bytes: usize) -> Receiver
     ensures { result ≡ grown limits r bytes }
 {
-    let over = Receiver {
-        stored: LONGEST_PLAN,
-        more: 1,
-    };
-    if is_over(r) {
-        return over;
-    }
     let at = stored_in(r);
-    if bytes > LONGEST_PLAN - at {
-        return over;
+    if is_over(r) || bytes > LONGEST_PLAN - at {
+        return FULL;
     }
     Receiver {
         stored: at + bytes,
@@ -131,15 +105,13 @@ fn grown(r: Receiver, bytes: usize) -> Receiver
     }
 }
 
-// The first `many` bytes of a piece, from byte `at` of the buffer on.
-fn put_bytes(buffer: &mut [u8], at: usize, piece: &[u8], many: usize)
-    requires { (at + many ≤ length buffer.old) × (many ≤ length piece.now) }
-    ensures { buffer.new ≡ paste buffer.old at piece.now many }
+// The bytes of a piece, from byte `at` of the buffer on: one by one, as `copy_from_slice` would have the library import memcpy.
+fn put_bytes(buffer: &mut [u8], at: usize, piece: &[u8])
+    requires { at + length piece.now ≤ length buffer.old }
+    ensures { buffer.new ≡ paste buffer.old at piece.now (length piece.now) }
 {
-    let mut i = 0;
-    while i < many {
-        buffer[at + i] = piece[i];
-        i += 1;
+    for (i, byte) in piece.iter().enumerate() {
+        buffer[at + i] = *byte;
     }
 }
 
@@ -147,25 +119,11 @@ fn put_bytes(buffer: &mut [u8], at: usize, piece: &[u8], many: usize)
 fn refuse_over(config: &[u64; CONFIG_WORDS], table: &[u64; TABLE_WORDS], stored: &[u8]) -> Outcome
     ensures { result ≡ over_away config.now table.now stored.now }
 {
-    let own = standing(config, table);
-    if own != 0 {
-        return Outcome {
-            number: own,
-            place: 0,
-            inner: 0,
-        };
+    if let Err(why) = standing(config, table) {
+        return Outcome::refused(why, 0);
     }
-    let found = find_sections(stored);
-    match found {
-        Found::Bad { number, at } => Outcome {
-            number,
-            place: at,
-            inner: 0,
-        },
-        Found::At { .. } => Outcome {
-            number: TRAILING,
-            place: stored.len(),
-            inner: 0,
-        },
+    match find_sections(stored) {
+        Ok(_) => Outcome::refused(Refusal::Trailing, stored.len()),
+        Err(refused) => Outcome::refused(refused.why, refused.at),
     }
 }

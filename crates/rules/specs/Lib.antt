@@ -1,5 +1,6 @@
 -- The rules, in the order of the document: what must be believed.
 pub mod Limits
+pub mod Numbers
 pub mod Addresses
 pub mod Fields
 pub mod Regions

@@ -1,24 +1,30 @@
-// The vocabulary of the rules as plain data. There is no code: specs/ has every definition, proofs/ the laws about them.
+// The vocabulary of the rules as plain data: specs/ has every definition, proofs/ the laws about them. The only code says the number of a refusal.
 #![tactic(auto)]
+
+ghost use Rattle.std.specs.Prelude.{◌≡◌};
+ghost use Rattle.rules.specs.Numbers.{number};
 
 pub mod limits;
 pub mod numbers;
+mod refusal;
 pub mod widths;
 
+pub use refusal::Refusal;
+
 // An address that a zone uses.
-#[derive(Clone, Copy)]
+#[derive(Clone, Copy, PartialEq, Eq)]
 pub struct Guest(pub u64);
 
 // An address of the machine's memory.
-#[derive(Clone, Copy)]
+#[derive(Clone, Copy, PartialEq, Eq)]
 pub struct Phys(pub u64);
 
 // What may be done with a region: read 1, write 2, execute 4.
-#[derive(Clone, Copy)]
+#[derive(Clone, Copy, PartialEq, Eq)]
 pub struct Rights(pub u64);
 
 // `size` bytes: the guest addresses from `v` on stand for the physical ones from `p` on.
-#[derive(Clone, Copy)]
+#[derive(Clone, Copy, PartialEq, Eq)]
 pub struct Region {
     pub v: Guest,
     pub p: Phys,
@@ -69,6 +75,29 @@ pub struct Outcome {
     pub number: u32,
     pub place: usize,
     pub inner: u32,
+}
+
+impl Outcome {
+    // Nothing is refused.
+    pub fn done(place: usize) -> Outcome
+        ensures { result ≡ record { number = 0; place = place; inner = 0 } }
+    {
+        Outcome {
+            number: 0,
+            place,
+            inner: 0,
+        }
+    }
+
+    pub fn refused(why: Refusal, place: usize) -> Outcome
+        ensures { result ≡ record { number = number why; place = place; inner = 0 } }
+    {
+        Outcome {
+            number: u32::from(why),
+            place,
+            inner: 0,
+        }
+    }
 }
 
 // What the check of a log answers: the outcome, whose inner number at a false claim is what the rules answer; and what was claimed there, or

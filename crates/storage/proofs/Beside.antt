@@ -1,12 +1,13 @@
 -- A plan applied beside the current table, by any step rule: what is current afterwards is what the laws of plan say of a
 -- table that is changed where it lies, since after a refusal the current table is still there.
-use Prim.Native.Nat.{ℕ, ◌+◌, ◌^◌, ◌<◌}
-use mathlib.Core.Bool.{Bool, true, false, cond}
+use Prim.Native.Nat.{ℕ, ◌+◌, ◌^◌, ◌≤◌, ◌<◌}
+use native.Mathlib.Omega.{arith}
+use mathlib.Core.Bool.{Bool, true, false, cond, ◌&&◌}
 use mathlib.Core.List.{List, [], ◌∷◌}
 use mathlib.Core.Path.{◌≡◌, refl, sym, ap, subst, ◌∙◌}
-use borrow.Author.Tests.{eqb-true, eqb-false, ne_eqb}
-use lib.Dec.{eqb, T}
-use Rattle.lists.specs.Rules.{◌when◌, first_rule}
+use borrow.Author.Tests.{eqb-true, eqb-false, ne_eqb, lt-leb}
+use lib.Dec.{eqb, leb, T}
+use Rattle.std.proofs.Common.{Ok}
 use Rattle.lists.specs.Tests.{all_of}
 use Rattle.formats.specs.Formats.{bad}
 use Rattle.rules.specs.Applying.{plain}
@@ -14,19 +15,22 @@ use Rattle.rules.specs.Run.{ended, Run}
 use Rattle.rules.specs.Steps.{StepRule}
 use Rattle.rules.specs.declared.Outcome.{Outcome}
 use Rattle.zones.specs.Words.{words_of}
-use Rattle.plan.specs.Steps.{away_with, base_number, own_by, done_by, AppliedBy, RanBy, RanOrUndoneBy, FoundBy}
-use Rattle.plan.proofs.Judging.{found_away, found_run}
+use Rattle.plan.specs.Machines.{JudgedBy, StandsBy}
+use Rattle.plan.specs.Steps.{own_by, done_by, AppliedBy, RanBy, RanOrUndoneBy}
+use Rattle.plan.specs.declared.finding.Parts.{Parts}
+use Rattle.plan.proofs.Judging.{own_applied}
 use Rattle.plan.proofs.Steps.{edition_kept, edition_raised, edition_next}
-use Rattle.storage.specs.Beside.{judged_before, prepared_in, BesideBy, PreparedBy, FoundBesideBy}
+use Rattle.storage.specs.Beside.{judged_before, prepared_in, BesideBy, PreparedBy}
 use Rattle.storage.specs.declared.Prepared.{Prepared}
 
 -- ---- numbers
 -- 1 and 2 come after the copy, of a plan for this base
-pub own_is_late : (x y : Bool) → judged_before (first_rule (1 when x ∷ 2 when y ∷ []) 0) ≡ false
-unfolding first_rule judged_before all_of
-own_is_late true y = refl
-own_is_late false true = refl
-own_is_late false false = refl
+own_is_late : (n : ℕ) → n ≤ 2 → judged_before n ≡ false
+unfolding judged_before all_of
+own_is_late n h = ap (λ (x : Bool). x && all_of (leb n 26 ∷ [])) (lt-leb _ _ (below n h))
+  where
+    below : (n : ℕ) → n ≤ 2 → n < 20
+    below n h = omega arith
 
 -- and so do 0 and 27
 ended_is_late : (r : Run) → judged_before (ended r).number ≡ false
@@ -36,18 +40,6 @@ ended_is_late r = by (eqb r.inner 0)
     by : (x : Bool) → judged_before (cond x 0 27) ≡ false
     by true = refl
     by false = refl
-
--- who is turned away has a number
-pub away_number : (own k place : ℕ) (v : Outcome) → v ≡ away_with own k place → (k ≡ 0 → ⊥) → v.number ≡ 0 → ⊥
-unfolding away_with
-away_number own k place v e ne z = by (eqb own 0) refl
-  where
-    by : (x : Bool) → eqb own 0 ≡ x → ⊥
-    by true h =
-        ne (sym (ap (λ (o : Outcome). o.number) (e ∙ ap (λ (x : Bool). cond x (plain k place) (plain own 0)) h)) ∙ z)
-    by false h =
-        eqb-false _ _ h
-        (sym (ap (λ (o : Outcome). o.number) (e ∙ ap (λ (x : Bool). cond x (plain k place) (plain own 0)) h)) ∙ z)
 
 module _ (m : StepRule) (c : m.Config) (t y : List ℕ) where
   -- after a refusal the current table is
@@ -62,55 +54,46 @@ module _ (m : StepRule) (c : m.Config) (t y : List ℕ) where
     untouched = λ j. refl;
   }
 
-  -- ---- a plan that reads whole: a is what comparing the configuration answered, and n the base's number
-  module _ (e base : ℕ) (zs : List ℕ) (same a : Bool) (ea : a ≡ same) (n : ℕ) (en : n ≡ base_number a t e base zs)
-      (b : List ℕ) (v : Outcome) where
-    pub beside_other : (own : ℕ) → own ≡ own_by m c t → (n ≡ 0 → ⊥) → v ≡ away_with own n 0
-        → FoundBesideBy m c t y (base_number same t e base zs) b v y
-    beside_other own eo ne h = record {
-      found =
-          subst (λ (w : List ℕ). FoundBy m c t (base_number same t e base zs) b v w)
-          (sym (here v y (away_number own n 0 v h ne)))
-          (found_away m c t e base zs same a ea n en b v own eo ne h);
-      untouched = λ j. refl;
-    }
+  -- ---- a plan for this base: the run of the requests in the bytes q left u in the other slot
+  module _ (q : List ℕ) (v : Outcome) (u : List ℕ) (ran : RanBy m c t q v u) where
+    answered : (x : Bool) → eqb (own_by m c t) 0 ≡ x → v ≡ cond x (ended (done_by m c t q)) (plain (own_by m c t) 0)
+    answered x h = ran.answer ∙ ap (λ (x : Bool). cond x (ended (done_by m c t q)) (plain (own_by m c t) 0)) h
 
-    -- the run left u in the other slot
-    module _ (u : List ℕ) (ran : RanBy m c t b v u) where
-      answered : (x : Bool) → eqb (own_by m c t) 0 ≡ x → v ≡ cond x (ended (done_by m c t b)) (plain (own_by m c t) 0)
-      answered x h = ran.answer ∙ ap (λ (x : Bool). cond x (ended (done_by m c t b)) (plain (own_by m c t) 0)) h
+    ran_beside : RanOrUndoneBy m c t q v (cond (eqb v.number 0) u t)
+    ran_beside = record { answer = ran.answer; table = by (eqb v.number 0) refl (eqb (own_by m c t) 0) refl }
+      where
+        by : (z : Bool) → eqb v.number 0 ≡ z → (x : Bool) → eqb (own_by m c t) 0 ≡ x
+            → cond (eqb v.number 0) u t ≡ cond (eqb v.number 0) (words_of (done_by m c t q).table) t
+        by false g x h =
+            ap (λ (z : Bool). cond z u t) g ∙ sym (ap (λ (z : Bool). cond z (words_of (done_by m c t q).table) t) g)
+        by true g true h =
+            ap (λ (z : Bool). cond z u t) g
+            ∙ ran.table
+            ∙ ap (λ (x : Bool). cond x (words_of (done_by m c t q).table) t) h
+            ∙ sym (ap (λ (z : Bool). cond z (words_of (done_by m c t q).table) t) g)
+        by true g false h =
+            absurd (eqb-false _ _ h (sym (ap (λ (o : Outcome). o.number) (answered false h)) ∙ eqb-true _ _ g))
 
-      ran_beside : RanOrUndoneBy m c t b v (cond (eqb v.number 0) u t)
-      ran_beside = record { answer = ran.answer; table = by (eqb v.number 0) refl (eqb (own_by m c t) 0) refl }
-        where
-          by : (z : Bool) → eqb v.number 0 ≡ z → (x : Bool) → eqb (own_by m c t) 0 ≡ x
-              → cond (eqb v.number 0) u t ≡ cond (eqb v.number 0) (words_of (done_by m c t b).table) t
-          by false g x h =
-              ap (λ (z : Bool). cond z u t) g ∙ sym (ap (λ (z : Bool). cond z (words_of (done_by m c t b).table) t) g)
-          by true g true h =
-              ap (λ (z : Bool). cond z u t) g
-              ∙ ran.table
-              ∙ ap (λ (x : Bool). cond x (words_of (done_by m c t b).table) t) h
-              ∙ sym (ap (λ (z : Bool). cond z (words_of (done_by m c t b).table) t) g)
-          by true g false h =
-              absurd (eqb-false _ _ h (sym (ap (λ (o : Outcome). o.number) (answered false h)) ∙ eqb-true _ _ g))
+    late : own_by m c t ≤ 2 → judged_before v.number ≡ true → ⊥
+    late small j = by (eqb (own_by m c t) 0) refl
+      where
+        by : (x : Bool) → eqb (own_by m c t) 0 ≡ x → ⊥
+        by true h =
+            subst T (sym j ∙ ap (λ (o : Outcome). judged_before o.number) (answered true h)
+            ∙ ended_is_late (done_by m c t q)) tt
+        by false h =
+            subst T (sym j ∙ ap (λ (o : Outcome). judged_before o.number) (answered false h) ∙ own_is_late _ small) tt
 
-      late : judged_before (own_by m c t) ≡ false → judged_before v.number ≡ true → ⊥
-      late own j = by (eqb (own_by m c t) 0) refl
-        where
-          by : (x : Bool) → eqb (own_by m c t) 0 ≡ x → ⊥
-          by true h =
-              subst T (sym j ∙ ap (λ (o : Outcome). judged_before o.number) (answered true h)
-              ∙ ended_is_late (done_by m c t b)) tt
-          by false h =
-              subst T (sym j ∙ ap (λ (o : Outcome). judged_before o.number) (answered false h) ∙ own) tt
-
-      pub beside_ran : n ≡ 0 → judged_before (own_by m c t) ≡ false
-          → FoundBesideBy m c t y (base_number same t e base zs) b v u
-      beside_ran z own = record {
-        found = found_run m c t e base zs same a ea n en b v (cond (eqb v.number 0) u t) z ran_beside;
-        untouched = λ j. absurd (late own j);
-      }
+  -- it began with the words w, which were copied
+  pub beside_own : (e : ℕ) (b : List ℕ) (p : Parts) → JudgedBy m c t e b (Ok p) → (w : List ℕ) → w ≡ t → (v : Outcome)
+      (u : List ℕ) → RanBy m c w p.requests.now v u → StandsBy m c w → BesideBy m c t y e b v u
+  beside_own e b p judged w copied v u ran stands = record {
+    applied = own_applied m c t e b p judged v (cond (eqb v.number 0) u t) (ran_beside p.requests.now v u here_ran);
+    untouched = λ j. absurd (late p.requests.now v u here_ran (subst (λ (l : List ℕ). StandsBy m c l) copied stands).own j);
+  }
+    where
+      here_ran : RanBy m c t p.requests.now v u
+      here_ran = subst (λ (l : List ℕ). RanBy m c l p.requests.now v u) copied ran
 
   -- ---- the mark
   module _ (e : ℕ) (b : List ℕ) (o : Outcome) (u : List ℕ) (done : BesideBy m c t y e b o u) where

@@ -6,6 +6,7 @@ use mathlib.Core.List.{List}
 use mathlib.Core.Path.{◌≡◌, refl, sym, ap, subst, ◌∙◌}
 use borrow.Author.Tests.{eqb-true, eqb-false, eq-eqb}
 use lib.Dec.{eqb}
+use Rattle.std.proofs.Common.{Ok, Err}
 use lib.ListN.{length, take, drop}
 use Rattle.rules.specs.Applying.{plain_steps, apply, AppliedOf}
 use Rattle.rules.specs.Configuration.{StoredConfig}
@@ -22,90 +23,15 @@ use Rattle.zones.specs.Run.{run_words, RanIn}
 use Rattle.zones.specs.View.{stored_config, stored_table}
 use Rattle.zones.specs.Words.{words_of}
 use Rattle.plan.specs.Applying.{state_for, in_words, applied, state_in, AppliedIn}
-use Rattle.plan.specs.Found.{found_in}
+use Rattle.plan.specs.Found.{found_in, PartsOf}
 use Rattle.plan.specs.Steps.{away_with, base_number, kept_in, AppliedBy}
 use Rattle.plan.specs.declared.finding.Found.{Found}
-use Rattle.plan.specs.declared.finding.Found.TheVariants.{At, Bad}
-use Rattle.plan.proofs.Locating.{refusal_by}
-use Rattle.plan.proofs.Outcomes.{apply_turned, apply_found}
+use Rattle.plan.specs.declared.finding.Parts.{Parts}
 use Rattle.plan.proofs.Steps.{edition_kept}
-use Rattle.storage.specs.Beside.{judged_before, FoundBesideBy}
-use Rattle.storage.specs.Storage.{slot_number, slots_of, CallIsTheAct, BesideIn, FoundBesideIn, PreparedIn, StoredIn}
+use Rattle.storage.specs.Beside.{judged_before}
+use Rattle.storage.specs.Storage.{slot_number, slots_of, CallIsTheAct, PreparedIn, StoredIn}
 use Rattle.storage.specs.declared.Prepared.{Prepared}
-use Rattle.storage.proofs.Beside.{own_is_late, away_number, beside_away, beside_ran}
-use Rattle.storage.proofs.Beside as beside
-
--- ---- what plan says of a table that is changed where it lies, by the step rule
-applied_by : (c t : List ℕ) (e : ℕ) (b : List ℕ) (v : Outcome) (u : List ℕ) → AppliedIn c t e b v u
-    → AppliedBy (plain_steps limits) (stored_config c) t e b v u
-unfolding applied in_words apply
-applied_by c t e b v u h = record {
-  answer = h.answer;
-  table =
-      h.table
-      ∙ by (eqb told.outcome.number 0)
-      ∙ sym (ap (λ (o : Outcome). cond (eqb o.number 0) (words_of (table_of told.state.table)) t) h.answer);
-}
-  where
-    told : AppliedOf StoredConfig
-    told = apply limits (kept_in (plain_steps limits) (stored_config c) t e) b
-
-    by : (x : Bool)
-        → (cond x (state_for (state_in c t e) told.state) (state_in c t e)).table.words
-        ≡ cond x (words_of (table_of told.state.table)) t
-    by true = refl
-    by false = refl
-
--- ---- by what was found: r is that
-module _ (b : List ℕ) (r : Found) (er : r ≡ found_in (length b) (read_plan limits b)) where
-  pub turned_beside : (k a : ℕ) → r ≡ Bad k a → (c t y : List ℕ) (e own : ℕ) (v : Outcome)
-      → own ≡ standing limits (stored_config c) (stored_table t) → v ≡ away_with own k a → BesideIn c t y e b v y
-  unfolding found_in
-  turned_beside k a f c t y e own v eo h =
-      let (l, q, n) = refusal_by (λ (p : Plan). p) (zones_at limits) (length b) (read_plan limits b) r er k a f in
-      beside_away (plain_steps limits) (stored_config c) t y e b v
-      (applied_by c t e b v t (apply_turned b r er k a f c t e own v eo h))
-      (away_number own k a v h (plan_refuses limits b k l q))
-
-  pub found_is_beside : (gic edition zones requests : ℕ) → r ≡ At gic edition zones requests
-      → (c t y : List ℕ) (e : ℕ) (v : Outcome) (u : List ℕ)
-      → FoundBesideIn c t y e gic edition (take (length b - 16) (drop 16 b)) (take (length b - zones) (drop zones b))
-      (take (length b - requests) (drop requests b)) v u
-      → BesideIn c t y e b v u
-  found_is_beside gic edition zones requests f c t y e v u h = record {
-    applied =
-        applied_by c t e b v _ (apply_found b r er gic edition zones requests f c t e v _ h.found);
-    untouched = h.untouched;
-  }
-
--- ---- after a run in the other slot, where the words t were copied
-pub ran_on_copy : (c t w b : List ℕ) (v : Outcome) (u : List ℕ) → w ≡ t → RanIn c w b v u → RanIn c t b v u
-ran_on_copy c t w b v u e ran = subst (λ (l : List ℕ). RanIn c l b v u) e ran
-
-pub ran_is_beside : (c t y : List ℕ) (e base : ℕ) (zs : List ℕ) (same a : Bool) → a ≡ same → (n : ℕ)
-    → n ≡ base_number a t e base zs → (b : List ℕ) (v : Outcome) (u : List ℕ) → RanIn c t b v u → n ≡ 0
-    → FoundBesideBy (plain_steps limits) (stored_config c) t y (base_number same t e base zs) b v u
-unfolding run_answer run_words standing_rules
-ran_is_beside c t y e base zs same a ea n en b v u ran z =
-    beside_ran (plain_steps limits) (stored_config c) t y e base zs same a ea n en b v u
-    (record { answer = ran.answer; table = ran.table }) z (own_is_late _ _)
-
--- ---- the mark
-module _ (c t y : List ℕ) (e : ℕ) (b : List ℕ) (o : Outcome) (u : List ℕ) (done : BesideIn c t y e b o u) where
-  pub prepared_away : (o.number ≡ 0 → ⊥) → (x : Bool) → x ≡ judged_before o.number → x ≡ true
-      → PreparedIn c t y e b (record { outcome = o; mark = e }) u
-  prepared_away = beside.prepared_away (plain_steps limits) (stored_config c) t y e b o u done
-
-  pub prepared_refused : (o.number ≡ 0 → ⊥) → (x : Bool) → x ≡ judged_before o.number → x ≡ false → (w : List ℕ)
-      → w ≡ t → PreparedIn c t y e b (record { outcome = o; mark = e }) w
-  prepared_refused = beside.prepared_refused (plain_steps limits) (stored_config c) t y e b o u done
-
-  pub prepared_accepted : o.number ≡ 0 → PreparedIn c t y e b (record { outcome = o; mark = e + 1 }) u
-  prepared_accepted =
-      beside.prepared_accepted (plain_steps limits) (stored_config c) t y e b o u done (plan_refuses limits)
-
-  pub mark_room : o.number ≡ 0 → e < 2 ^ 32 → e + 1 < 2 ^ 32
-  mark_room = beside.mark_room (plain_steps limits) (stored_config c) t y e b o u done (plan_refuses limits)
+use Rattle.storage.proofs.Beside.{prepared_accepted}
 
 -- ---- which slot
 twice : (h : Bool) → not (not h) ≡ h
@@ -179,7 +105,8 @@ module _ (c t y : List ℕ) (e : ℕ) (b : List ℕ) (r : Prepared) (u : List �
       by : (h : Bool) → eqb r.outcome.number 0 ≡ h → r.mark ≡ cond h (suc e) e
       by true q =
           let up : e + 1 ≡ suc e = omega arith in
-          p.mark ∙ sym (prepared_accepted c t y e b r.outcome u p.beside (eqb-true _ _ q)).mark ∙ up
+          p.mark ∙ sym (prepared_accepted (plain_steps limits) (stored_config c) t y e b r.outcome u p.beside (plan_refuses limits)
+          (eqb-true _ _ q)).mark ∙ up
       by false q =
           p.mark ∙ sym (edition_kept (plain_steps limits) (stored_config c) t e b r.outcome _ p.beside.applied (eqb-false _ _ q))
 

@@ -10,6 +10,7 @@ use Rattle.zones.specs.View.{stored_config}
 use Rattle.zones.specs.Words.{words_of}
 use Rattle.plan.specs.Held.{config_held}
 use Rattle.plan.specs.Steps.{base_number, kept_in}
+use Rattle.plan.specs.declared.finding.Parts.{Parts}
 use Rattle.storage.specs.Beside.{judged_before, BesideBy, PreparedBy, FoundBesideBy}
 use Rattle.storage.specs.declared.Prepared.{Prepared}
 
@@ -19,10 +20,11 @@ BesideIn c t y e b r u = BesideBy (plain_steps limits) (stored_config c) t y e b
 abbrev pub PreparedIn : List ℕ → List ℕ → List ℕ → ℕ → List ℕ → Prepared → List ℕ → Type 0
 PreparedIn c t y e b r u = PreparedBy (plain_steps limits) (stored_config c) t y e b r u
 
--- a plan that reads whole: its marks, and its bytes from the regions on, from the zones on and from the first request on
-abbrev pub FoundBesideIn : List ℕ → List ℕ → List ℕ → ℕ → ℕ → ℕ → List ℕ → List ℕ → List ℕ → Outcome → List ℕ → Type 0
-FoundBesideIn c t y e gic base rs zs b r u =
-    FoundBesideBy (plain_steps limits) (stored_config c) t y (base_number (config_held rs gic c) t e base zs) b r u
+-- a plan that reads whole, by its parts
+abbrev pub FoundBesideIn : List ℕ → List ℕ → List ℕ → ℕ → Parts → Outcome → List ℕ → Type 0
+FoundBesideIn c t y e p r u =
+    FoundBesideBy (plain_steps limits) (stored_config c) t y
+    (base_number (config_held p.regions.now p.gic c) t e p.edition p.zones.now) p.requests.now r u
 
 -- ---- two slots
 -- the slot of an edition, as a number

@@ -1,14 +1,12 @@
 // A copy of words.
 ghost use Rattle.std.specs.Prelude.{◌≡◌, length};
 
-// By a loop, and not `*to = *from`, for which the library would import memmove.
+// Word by word, and not `*to = *from` or `copy_from_slice`, for which the library would import memmove or memcpy.
 pub fn copy_words(from: &[u64], to: &mut [u64])
     requires { length to.old ≡ length from.now }
     ensures { to.new ≡ from.now }
 {
-    let mut i = 0;
-    while i < from.len() {
-        to[i] = from[i];
-        i += 1;
+    for (i, word) in from.iter().enumerate() {
+        to[i] = *word;
     }
 }

@@ -4,14 +4,14 @@
 mod copying;
 
 ghost use Rattle.std.specs.Prelude.{◌≡◌};
-ghost use Rattle.zones.specs.Run.{RanIn};
-ghost use Rattle.storage.specs.Beside.{judged_before};
-ghost use Rattle.storage.specs.Storage.{slot_number, BesideIn, FoundBesideIn, PreparedIn, StoredIn};
+ghost use Rattle.storage.specs.Beside.{judged_before, BesideBy, PreparedBy};
+ghost use Rattle.storage.specs.Storage.{slot_number, PreparedIn, StoredIn};
 
 use copying::copy_words;
-use plan::{Found, MARKS_BYTES, base_number, find_sections, same_config, turned_away};
+use plan::{Machine, Plain, judge};
 use rules::Outcome;
-use zones::{CONFIG_WORDS, TABLE_WORDS, run_in, standing};
+use rules::numbers::{CUT, OTHER_ZONES};
+use zones::{CONFIG_WORDS, TABLE_WORDS};
 
 // What a plan is answered, and the mark that is to be written then: where the number is not 0, the one that stands.
 #[derive(Clone, Copy)]
@@ -38,10 +38,7 @@ pub fn copy_table(current: &[u64; TABLE_WORDS], other: &mut [u64; TABLE_WORDS])
 pub fn judged_before(number: u32) -> bool
     ensures { result ≡ judged_before number }
 {
-    if 20 <= number {
-        return number <= 26;
-    }
-    false
+    (CUT..=OTHER_ZONES).contains(&number)
 }
 
 // Applies a plan beside the current table: a plan for this base is run on a copy in the other slot. 20 to 26 come before the copy is made, and
@@ -55,84 +52,49 @@ pub fn apply_beside(
 ) -> Prepared
     ensures { PreparedIn config.now current.now other.old mark plan.now result other.new }
 {
-    let outcome = answer_beside(config, current, other, mark, plan);
+    apply_beside_by(&Plain { config }, current, other, mark, plan)
+}
+
+// The same of a terminal of any kind.
+pub fn apply_beside_by<M: Machine>(
+    machine: &M,
+    current: &[u64; TABLE_WORDS],
+    other: &mut [u64; TABLE_WORDS],
+    mark: u32,
+    plan: &[u8],
+) -> Prepared
+    ensures { PreparedBy M.rule (M.config machine.now) current.now other.old mark plan.now result other.new }
+{
+    let outcome = answer_beside(machine, current, other, mark, plan);
     if outcome.number == 0 {
         return Prepared {
             outcome,
             mark: mark + 1,
         };
     }
-    if judged_before(outcome.number) {
-        return Prepared { outcome, mark };
+    if !judged_before(outcome.number) {
+        copy_table(current, other);
     }
-    copy_table(current, other);
     Prepared { outcome, mark }
 }
 
-fn answer_beside(
-    config: &[u64; CONFIG_WORDS],
+// The requests run on a copy. The table that they began with is still there, so nothing is undone.
+fn answer_beside<M: Machine>(
+    machine: &M,
     current: &[u64; TABLE_WORDS],
     other: &mut [u64; TABLE_WORDS],
     edition: u32,
     plan: &[u8],
 ) -> Outcome
-    ensures { BesideIn config.now current.now other.old edition plan.now result other.new }
+    ensures { BesideBy M.rule (M.config machine.now) current.now other.old edition plan.now result other.new }
 {
-    let found = find_sections(plan);
-    match found {
-        Found::Bad { number, at } => turned_away(standing(config, current), number, at),
-        Found::At {
-            gic,
-            edition: base,
-            zones,
-            requests,
-        } => found_beside(
-            config,
-            current,
-            other,
-            edition,
-            gic,
-            base,
-            &plan[MARKS_BYTES..],
-            &plan[zones..],
-            &plan[requests..],
-        ),
+    match judge(machine, current, edition, plan) {
+        Ok(own) => {
+            copy_table(current, other);
+            machine.run_in(other, own.requests)
+        }
+        Err(away) => away,
     }
-}
-
-// A plan that reads whole: its marks, and its bytes from the regions' count, from the zones' count and from the first request on.
-fn found_beside(
-    config: &[u64; CONFIG_WORDS],
-    current: &[u64; TABLE_WORDS],
-    other: &mut [u64; TABLE_WORDS],
-    edition: u32,
-    gic: u32,
-    base: u32,
-    regions: &[u8],
-    zones: &[u8],
-    requests: &[u8],
-) -> Outcome
-    ensures { FoundBesideIn config.now current.now other.old edition gic base regions.now zones.now requests.now result other.new }
-{
-    let same = same_config(regions, gic, config);
-    let number = base_number(same, current, edition, base, zones);
-    if number != 0 {
-        return turned_away(standing(config, current), number, 0);
-    }
-    run_beside(config, current, other, requests)
-}
-
-// The requests in turn, on a copy. The table that they began with is still there, so nothing is undone.
-fn run_beside(
-    config: &[u64; CONFIG_WORDS],
-    current: &[u64; TABLE_WORDS],
-    other: &mut [u64; TABLE_WORDS],
-    requests: &[u8],
-) -> Outcome
-    ensures { RanIn config.now current.now requests.now result other.new }
-{
-    copy_table(current, other);
-    run_in(config, other, requests)
 }
 
 // The same of two slots. The mark is the caller's to write, after the slot that is not current lasts; and so is the answer to give, after the

@@ -1,6 +1,7 @@
 -- A walker's step is a number read at its place: there where four bytes are left, missing where not, also past the end.
 use Prim.Native.Nat.{ℕ, ◌+◌, ◌-◌, ◌≤◌, ◌<◌}
 use native.Mathlib.Omega.{arith}
+use Rattle.std.specs.Prelude.{Option, Some, None}
 use mathlib.Core.List.{List}
 use mathlib.Core.Path.{◌≡◌, sym, ap, ◌∙◌}
 use lib.ListN.{length, take, drop, length-drop}
@@ -9,13 +10,15 @@ use Rattle.lists.specs.Bytes.{little}
 use Rattle.lists.specs.Words.{part}
 use Rattle.formats.specs.Formats.{Out, got, bad, read_number}
 use Rattle.formats.proofs.Widths.{number_there, number_short}
-use Rattle.walker.specs.Walker.{found_of, place_behind, step_at}
-use Rattle.walker.specs.declared.Found.TheVariants.{Number, Missing}
-use Rattle.walker.specs.declared.Step.{Step}
+use Rattle.walker.specs.Walker.{found_of, place_behind, step_at, next_of}
+use Rattle.walker.specs.declared.Walker.{Walker}
+
+abbrev standing : Walker → ℕ → Walker
+standing w at = record { plan = w.plan; at = at }
 
 module _ (s : List ℕ) (at : ℕ) where
-  abbrev step_of : Out ℕ → Step
-  step_of o = record { found = found_of o; at = place_behind at o }
+  abbrev step_of : Out ℕ → Option ℕ × ℕ
+  step_of o = (found_of o, place_behind at o)
 
   -- also where the place is past the end
   pub no_number : length s < at + 4 → read_number 4 (drop at s) ≡ bad 20 (drop at s)
@@ -27,18 +30,29 @@ module _ (s : List ℕ) (at : ℕ) where
       number_there 4 (drop at s) (omega (arith, length-drop at s))
       ∙ ap (got (little (take 4 (drop at s)))) (drop-drop 4 at s)
 
-  missing : length s < at + 4 → ◌≡◌ {A = Step} (record { found = Missing; at = at }) (step_at s at)
+  step_short : length s < at + 4 → step_at s at ≡ (None, at)
   unfolding step_at found_of place_behind
-  missing l = sym (ap step_of (no_number l))
+  step_short l = ap step_of (no_number l)
 
-  pub step_past : length s < at → ◌≡◌ {A = Step} (record { found = Missing; at = at }) (step_at s at)
-  step_past l = missing (omega arith)
-
-  pub step_short : at ≤ length s → length s - at < 4
-      → ◌≡◌ {A = Step} (record { found = Missing; at = at }) (step_at s at)
-  step_short h l = missing (omega arith)
-
-  pub step_there : at ≤ length s → 4 ≤ length s - at → (n : ℕ) → n ≡ little (part at 4 s)
-      → ◌≡◌ {A = Step} (record { found = Number n; at = at + 4 }) (step_at s at)
+  step_there : at + 4 ≤ length s → step_at s at ≡ (Some (little (part at 4 s)), at + 4)
   unfolding step_at found_of place_behind
-  step_there h l n e = ap (λ (m : ℕ). step_of (got m (drop (at + 4) s))) e ∙ sym (ap step_of (a_number (omega arith)))
+  step_there l = ap step_of (a_number l)
+
+-- what a walker finds, and where it stands then
+module _ (w : Walker) where
+  pub next_past : (r : Option ℕ) → r ≡ None → (w.at ≤ length w.plan.now → ⊥) → (r ≡ (next_of w).0) × (w ≡ (next_of w).1)
+  next_past r e h =
+      let s = step_short w.plan.now w.at (omega arith) in
+      (e ∙ sym (ap (λ (x : Option ℕ × ℕ). x.0) s), ap (standing w) (sym (ap (λ (x : Option ℕ × ℕ). x.1) s)))
+
+  pub next_short : (left : ℕ) → (w.at ≤ length w.plan.now) × (left ≡ length w.plan.now - w.at) → left < 4
+      → (None ≡ (next_of w).0) × (w ≡ (next_of w).1)
+  next_short left i h =
+      let s = step_short w.plan.now w.at (omega (arith, i)) in
+      (sym (ap (λ (x : Option ℕ × ℕ). x.0) s), ap (standing w) (sym (ap (λ (x : Option ℕ × ℕ). x.1) s)))
+
+  pub next_there : (left n : ℕ) → (w.at ≤ length w.plan.now) × (left ≡ length w.plan.now - w.at) → 4 ≤ left
+      → n ≡ little (part w.at 4 w.plan.now) → (Some n ≡ (next_of w).0) × (standing w (w.at + 4) ≡ (next_of w).1)
+  next_there left n i h e =
+      let s = step_there w.plan.now w.at (omega (arith, i)) in
+      (ap (λ (x : ℕ). Some x) e ∙ sym (ap (λ (x : Option ℕ × ℕ). x.0) s), ap (standing w) (sym (ap (λ (x : Option ℕ × ℕ). x.1) s)))

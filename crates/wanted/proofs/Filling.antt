@@ -1,19 +1,19 @@
 -- The answer is the first of its numbers: 1 and 2 are those of the two tables, and 29 and 28 are left to the list's
 -- length.
-use Prim.Native.Nat.{ℕ, ◌+◌, ◌/◌, ◌≤◌, ◌<◌}
+use Prim.Native.Nat.{ℕ, ◌/◌, ◌≤◌, ◌<◌}
 use native.Mathlib.Omega.{arith}
 use mathlib.Core.Bool.{Bool, true, false, cond, not, ◌||◌}
 use mathlib.Core.List.{List, [], ◌++◌}
 use mathlib.Core.Path.{◌≡◌, refl, sym, ap, ap₂, subst, ◌∙◌}
 use borrow.Author.Tests.{leb-true, lt-ltb, le-ltb, eq-eqb, ne_eqb, eqb-true, eqb-false}
+use Rattle.std.specs.Prelude.{Some, None}
 use lib.Dec.{ltb, leb, eqb}
 use lib.ListN.{length, get_or, drop}
 use Rattle.lists.specs.Rules.{first_rule}
 use Rattle.lists.proofs.Every.{all_at}
 use Rattle.lists.proofs.Places.{length_tab, get_d_tab}
 use Rattle.lists.proofs.Tests.{parts}
-use Rattle.puts.specs.Puts.{Put}
-use Rattle.puts.proofs.Puts.{put_fits}
+use Rattle.puts.specs.Filling.{fill_in}
 use Rattle.rules.specs.Applying.{plain}
 use Rattle.rules.specs.Configuration.{check, is_sound}
 use Rattle.rules.specs.Filling.{fill_answer, fill_leaves}
@@ -30,8 +30,7 @@ use Rattle.rules.proofs.WantedBytes.{records_length}
 use Rattle.zones.specs.Kept.{standing_in, Stands}
 use Rattle.zones.specs.View.{stored_config, stored_table, config_in, zone_in, zones_in}
 use Rattle.zones.proofs.Stepping.{stands_same}
-use Rattle.wanted.specs.Wanted.{listed_in, own_number, listing, InLimits, FillsIn, ListsIn}
-use Rattle.wanted.specs.declared.Listing.{Listing}
+use Rattle.wanted.specs.Wanted.{listed_in, own_number, listing, Listing, InLimits, FillsIn, ListsIn}
 
 -- ---- 1 and 2
 module _ (c t w : List ℕ) where
@@ -101,7 +100,7 @@ pub second_limits : (c t w : List ℕ) (n : ℕ) → n ≡ own_number c t w → 
 second_limits c t w n e z = stands_limits c w (own_both c t w (sym e ∙ z)).1
 
 -- ---- 29 and 28
-module _ (qs : List Request) (b : List ℕ) (n : ℕ) (e : n ≡ 0 + length (records_of qs)) where
+module _ (qs : List Request) (b : List ℕ) (n : ℕ) (e : n ≡ length (records_of qs)) where
   count_is : n / request_size ≡ length qs
   count_is = omega (arith, records_length qs)
 
@@ -111,27 +110,23 @@ module _ (qs : List Request) (b : List ℕ) (n : ℕ) (e : n ≡ 0 + length (rec
       let m : ltb most_requests (length qs) ≡ true = lt-ltb _ _ l in
       record { answer = rw m; buffer = rw m }
 
-  pub fill_short : n / request_size ≤ most_requests → length b < n → FillsIn qs b (listing 28 0) b
-  fill_short h l =
+  pub fill_none : n / request_size ≤ most_requests → (v : List ℕ) → fill_in (records_of qs) b None v
+      → FillsIn qs b (listing 28 0) v
+  unfolding fill_in
+  fill_none h v f =
       let few : length qs ≤ most_requests = omega (arith, count_is) in
       let m : ltb most_requests (length qs) ≡ false = le-ltb _ _ few in
-      let short : length b < length (records_of qs) = omega arith in
-      let s : ltb (length b) (length (records_of qs)) ≡ true = lt-ltb _ _ short in
-      record { answer = rw (m, s); buffer = rw (m, s) }
+      let s : ltb (length b) (length (records_of qs)) ≡ true = lt-ltb _ _ f.0 in
+      record { answer = rw (m, s); buffer = rw (m, s) f.1 }
 
-  pub fill_done : n / request_size ≤ most_requests → n ≤ length b → (v : List ℕ) (k : ℕ) → Put b 0 (records_of qs) v k
+  pub fill_some : n / request_size ≤ most_requests → (k : ℕ) (v : List ℕ) → fill_in (records_of qs) b (Some k) v
       → FillsIn qs b (listing 0 (n / request_size)) v
-  fill_done h l v k p =
+  unfolding fill_in
+  fill_some h k v f =
       let few : length qs ≤ most_requests = omega (arith, count_is) in
       let m : ltb most_requests (length qs) ≡ false = le-ltb _ _ few in
-      let fits : length (records_of qs) ≤ length b = omega arith in
-      let s : ltb (length b) (length (records_of qs)) ≡ false = le-ltb _ _ fits in
-      let z : 0 + length (records_of qs) ≡ length (records_of qs) = omega arith in
-      record {
-        answer = rw (m, s) (ap (listing 0) count_is);
-        buffer =
-            rw (m, s) (p.bytes ∙ put_fits 0 (records_of qs) b (omega arith) ∙ ap (λ (j : ℕ). records_of qs ++ drop j b) z);
-      }
+      let s : ltb (length b) (length (records_of qs)) ≡ false = le-ltb _ _ f.0 in
+      record { answer = rw (m, s) (ap (listing 0) count_is); buffer = rw (m, s) f.2 }
 
 -- ---- the whole
 module _ (c t w b : List ℕ) where

@@ -1,7 +1,8 @@
-// The four stretches of the list, put into lent bytes: regions that go, zones that go, zones that come, regions that come. What goes is
-// what the first table has and the second has not; what comes is the same with the tables exchanged. Each answers where it ends.
+// The four stretches of the list, put by a pen: regions that go, zones that go, zones that come, regions that come. What goes is what the
+// first table has and the second has not; what comes is the same with the tables exchanged.
 ghost use Rattle.std.specs.Prelude.{◌+◌, ◌*◌, ◌^◌, ◌≤◌, ◌<◌, [], ◌∷◌, ◌≡◌, length, get_or};
 ghost use Rattle.formats.specs.Formats.{write_many};
+ghost use Rattle.puts.specs.Pens.{Wrote};
 ghost use Rattle.puts.specs.Puts.{Put};
 ghost use Rattle.rules.specs.Limits.{most_zones, most_in_set};
 ghost use Rattle.rules.specs.Plan.{asked_field};
@@ -9,173 +10,161 @@ ghost use Rattle.rules.specs.Run.{request_size};
 ghost use Rattle.rules.specs.Wanted.{requests_for, records_of};
 ghost use Rattle.zones.specs.View.{zone_in, zones_in};
 ghost use Rattle.wanted.specs.Wanted.{numbers, lacked, set_asked, sets_asked, zone_asked, regions_asked, missed, zones_asked, set_from, InLimits, ZoneAt};
+ghost use Rattle.wanted.specs.Wanted.{zone_kind as Wanted·zone_kind, region_kind as Wanted·region_kind};
 
-use crate::tables::{find_zone, id_at, is_held, region_from, word_at, zone_count};
-use puts::{put_u32, put_u64};
-use rules::widths::REQUEST_BYTES;
-use rules::{Guest, Phys, Region, Rights};
+use crate::tables::{Place, find_zone, id_at, is_held, region_from, word_at, zone_count};
+use puts::Pen;
+use rules::{Guest, Phys, Region, Rights, Side};
 use zones::{REGION_WORDS, SET_WORDS, TABLE_WORDS, zone_start};
 
-// The kinds of requests; of those with a region the CPU side's, and the IOMMU side's is two higher.
-const ADD_ZONE: u32 = 1;
+// What becomes of a zone, or of a region.
+#[derive(Clone, Copy)]
+pub enum Change {
+    Comes,
+    Goes,
+}
 
-const REMOVE_ZONE: u32 = 2;
+// The number of the request for a zone, and for a region of a side.
+fn zone_kind(change: Change) -> u32
+    ensures { result ≡ Wanted·zone_kind change }
+{
+    match change {
+        Change::Comes => 1,
+        Change::Goes => 2,
+    }
+}
 
-const CPU_INSERT: u32 = 3;
+fn region_kind(change: Change, side: Side) -> u32
+    ensures { result ≡ Wanted·region_kind change side }
+{
+    match (change, side) {
+        (Change::Comes, Side::Cpu) => 3,
+        (Change::Goes, Side::Cpu) => 4,
+        (Change::Comes, Side::Iommu) => 5,
+        (Change::Goes, Side::Iommu) => 6,
+    }
+}
 
-const CPU_REMOVE: u32 = 4;
+// What stands before the region of a request: its kind, and the zone's id.
+#[derive(Clone, Copy)]
+pub struct Heading {
+    kind: u32,
+    zone: u32,
+}
 
-const TO_IOMMU: u32 = 2;
-
-// The whole list.
+// The whole list; how many bytes it has.
 pub fn put_list(from: &[u64; TABLE_WORDS], to: &[u64; TABLE_WORDS], b: &mut [u8]) -> usize
     requires { InLimits from.now × InLimits to.now }
     ensures { Put b.old 0 (records_of (requests_for (zones_in from.now) (zones_in to.now))) b.new result }
 {
-    let gone = put_regions(b, 0, CPU_REMOVE, from, to);
-    let dropped = put_zones(b, gone, REMOVE_ZONE, from, to);
-    let added = put_zones(b, dropped, ADD_ZONE, to, from);
-    put_regions(b, added, CPU_INSERT, to, from)
+    let mut pen = Pen::new(b);
+    put_regions(&mut pen, Change::Goes, from, to);
+    put_zones(&mut pen, Change::Goes, from, to);
+    put_zones(&mut pen, Change::Comes, to, from);
+    put_regions(&mut pen, Change::Comes, to, from);
+    pen.at
 }
 
 // The regions of `from` that `to` has not in the same set, zone by zone.
-fn put_regions(
-    b: &mut [u8],
-    start: usize,
-    kind: u32,
-    from: &[u64; TABLE_WORDS],
-    to: &[u64; TABLE_WORDS],
-) -> usize
-    requires { ((start < 2 ^ 24) × (kind < 2 ^ 8)) × (InLimits from.now × InLimits to.now) }
-    ensures { Put b.old start (write_many asked_field (regions_asked kind (zones_in from.now) (zones_in to.now))) b.new result × (result ≤ start + 2 ^ 16) }
+fn put_regions(pen: &mut Pen, change: Change, from: &[u64; TABLE_WORDS], to: &[u64; TABLE_WORDS])
+    requires { (pen.old.at < 2 ^ 24) × (InLimits from.now × InLimits to.now) }
+    ensures wrote { Wrote pen.old pen.new (write_many asked_field (regions_asked change (zones_in from.now) (zones_in to.now))) }
+    ensures moved { pen.new.at ≤ pen.old.at + 2 ^ 16 }
 {
-    let n = zone_count(from);
-    let mut at = start;
-    let mut z = 0;
-    while z < n {
-        at = put_zone(b, at, kind, from, z, to);
-        z += 1;
+    for z in 0..zone_count(from) {
+        put_zone(pen, change, from, z, to);
     }
-    at
 }
 
 // Those of zone z.
 fn put_zone(
-    b: &mut [u8],
-    at: usize,
-    kind: u32,
+    pen: &mut Pen,
+    change: Change,
     from: &[u64; TABLE_WORDS],
     z: usize,
     to: &[u64; TABLE_WORDS],
-) -> usize
-    requires { ((at < 2 ^ 25) × (kind < 2 ^ 8)) × ((z < length (zones_in from.now)) × (InLimits from.now × InLimits to.now)) }
-    ensures { Put b.old at (write_many asked_field (zone_asked kind (zones_in to.now) (zone_in from.now z))) b.new result × (result ≤ at + 2 * most_in_set * request_size) }
+)
+    requires { (pen.old.at < 2 ^ 25) × ((z < length (zones_in from.now)) × (InLimits from.now × InLimits to.now)) }
+    ensures wrote { Wrote pen.old pen.new (write_many asked_field (zone_asked change (zones_in to.now) (zone_in from.now z))) }
+    ensures moved { pen.new.at ≤ pen.old.at + 2 * most_in_set * request_size }
 {
     let id = id_at(from, z);
-    put_sets(
-        b,
-        at,
-        kind,
-        id as u32,
-        from,
-        zone_start(z),
-        to,
-        find_zone(to, id),
-    )
+    let own = Place {
+        words: from,
+        at: zone_start(z),
+    };
+    let other = Place {
+        words: to,
+        at: find_zone(to, id),
+    };
+    put_sets(pen, change, id as u32, own, other);
 }
 
-// Those of the zone that begins at word k of `from`, whose like begins at word j of `to`: of its CPU set, and then of its IOMMU set.
-fn put_sets(
-    b: &mut [u8],
-    at: usize,
-    kind: u32,
-    id: u32,
-    from: &[u64],
-    k: usize,
-    to: &[u64],
-    j: usize,
-) -> usize
-    requires { ((at < 2 ^ 25) × (kind < 2 ^ 8)) × (ZoneAt from.now k × ZoneAt to.now j) }
-    ensures { Put b.old at (write_many asked_field (sets_asked kind id from.now k to.now j)) b.new result × (result ≤ at + 2 * most_in_set * request_size) }
+// Those of the zone that begins at `from`, whose like begins at `to`: of its CPU set, and then of its IOMMU set.
+fn put_sets(pen: &mut Pen, change: Change, zone: u32, from: Place, to: Place)
+    requires { (pen.old.at < 2 ^ 25) × (ZoneAt from.words.now from.at × ZoneAt to.words.now to.at) }
+    ensures wrote { Wrote pen.old pen.new (write_many asked_field (sets_asked change zone from.entry.words.now from.entry.at to.entry.words.now to.entry.at)) }
+    ensures moved { pen.new.at ≤ pen.old.at + 2 * most_in_set * request_size }
 {
-    let iommu = put_set(b, at, kind, id, from, k + 1, to, j + 1);
-    put_set(
-        b,
-        iommu,
-        kind + TO_IOMMU,
-        id,
-        from,
-        k + 1 + SET_WORDS,
-        to,
-        j + 1 + SET_WORDS,
-    )
+    let cpu = Heading {
+        kind: region_kind(change, Side::Cpu),
+        zone,
+    };
+    let iommu = Heading {
+        kind: region_kind(change, Side::Iommu),
+        zone,
+    };
+    put_set(pen, cpu, from.on(1), to.on(1));
+    put_set(pen, iommu, from.on(1).on(SET_WORDS), to.on(1).on(SET_WORDS));
 }
 
-// The regions of the set whose count stands in word k of `from` that the set whose count stands in word j of `to` has not.
-fn put_set(
-    b: &mut [u8],
-    start: usize,
-    kind: u32,
-    id: u32,
-    from: &[u64],
-    k: usize,
-    to: &[u64],
-    j: usize,
-) -> usize
-    requires { ((start < 2 ^ 26) × ((k < 2 ^ 31) × (j < 2 ^ 31))) × ((get_or from.now k 0 ≤ most_in_set) × (get_or to.now j 0 ≤ most_in_set)) }
-    ensures { Put b.old start (write_many asked_field (set_asked kind id (set_from from.now k) (set_from to.now j))) b.new result × (result ≤ start + most_in_set * request_size) }
+// The regions of the set whose count stands at `from` that the set whose count stands at `to` has not.
+fn put_set(pen: &mut Pen, heading: Heading, from: Place, to: Place)
+    requires { ((pen.old.at < 2 ^ 26) × ((from.at < 2 ^ 31) × (to.at < 2 ^ 31))) × ((get_or from.words.now from.at 0 ≤ most_in_set) × (get_or to.words.now to.at 0 ≤ most_in_set)) }
+    ensures wrote { Wrote pen.old pen.new (write_many asked_field (set_asked heading.kind heading.zone (set_from from.entry.words.now from.entry.at) (set_from to.entry.words.now to.entry.at))) }
+    ensures moved { pen.new.at ≤ pen.old.at + most_in_set * request_size }
 {
-    let n = word_at(from, k) as usize;
-    let mut at = start;
-    let mut i = 0;
-    while i < n {
-        let r = region_from(from, k + 1 + i * REGION_WORDS);
-        at = put_lacked(b, at, kind, id, r, to, j);
-        i += 1;
+    let n = word_at(from.words, from.at) as usize;
+    for i in 0..n {
+        let r = region_from(from.words, from.at + 1 + i * REGION_WORDS);
+        put_lacked(pen, heading, r, to);
     }
-    at
 }
 
-// The region, if the set whose count stands in word j of `to` has it not.
-fn put_lacked(b: &mut [u8], at: usize, kind: u32, id: u32, r: Region, to: &[u64], j: usize) -> usize
-    requires { (at < 2 ^ 27) × ((j < 2 ^ 31) × (get_or to.now j 0 ≤ most_in_set)) }
-    ensures { Put b.old at (write_many asked_field (lacked kind id (set_from to.now j) r)) b.new result × (result ≤ at + request_size) }
+// The region, if the set whose count stands at `to` has it not.
+fn put_lacked(pen: &mut Pen, heading: Heading, r: Region, to: Place)
+    requires { (pen.old.at < 2 ^ 27) × ((to.at < 2 ^ 31) × (get_or to.words.now to.at 0 ≤ most_in_set)) }
+    ensures wrote { Wrote pen.old pen.new (write_many asked_field (lacked heading.kind heading.zone (set_from to.entry.words.now to.entry.at) r)) }
+    ensures moved { pen.new.at ≤ pen.old.at + request_size }
 {
-    if is_held(to, j, r) {
-        return at;
+    if !is_held(to, r) {
+        put_request(pen, heading, r);
     }
-    put_request(b, at, kind, id, r)
 }
 
 // The zones of `from` that `to` has not.
-fn put_zones(
-    b: &mut [u8],
-    start: usize,
-    kind: u32,
-    from: &[u64; TABLE_WORDS],
-    to: &[u64; TABLE_WORDS],
-) -> usize
-    requires { (start < 2 ^ 24) × (InLimits from.now × InLimits to.now) }
-    ensures { Put b.old start (write_many asked_field (zones_asked kind (zones_in from.now) (zones_in to.now))) b.new result × (result ≤ start + most_zones * request_size) }
+fn put_zones(pen: &mut Pen, change: Change, from: &[u64; TABLE_WORDS], to: &[u64; TABLE_WORDS])
+    requires { (pen.old.at < 2 ^ 24) × (InLimits from.now × InLimits to.now) }
+    ensures wrote { Wrote pen.old pen.new (write_many asked_field (zones_asked change (zones_in from.now) (zones_in to.now))) }
+    ensures moved { pen.new.at ≤ pen.old.at + most_zones * request_size }
 {
-    let n = zone_count(from);
-    let mut at = start;
-    let mut z = 0;
-    while z < n {
-        let id = id_at(from, z);
-        at = put_missed(b, at, kind, id as u32, to);
-        z += 1;
+    for z in 0..zone_count(from) {
+        let heading = Heading {
+            kind: zone_kind(change),
+            zone: id_at(from, z) as u32,
+        };
+        put_missed(pen, heading, to);
     }
-    at
 }
 
-// The zone with that id, if `to` has it not.
-fn put_missed(b: &mut [u8], at: usize, kind: u32, id: u32, to: &[u64; TABLE_WORDS]) -> usize
-    requires { (at < 2 ^ 27) × (length (zones_in to.now) ≤ most_zones) }
-    ensures { Put b.old at (write_many asked_field (missed kind (zones_in to.now) id)) b.new result × (result ≤ at + request_size) }
+// The zone, if `to` has it not.
+fn put_missed(pen: &mut Pen, heading: Heading, to: &[u64; TABLE_WORDS])
+    requires { (pen.old.at < 2 ^ 27) × (length (zones_in to.now) ≤ most_zones) }
+    ensures wrote { Wrote pen.old pen.new (write_many asked_field (missed heading.kind (zones_in to.now) heading.zone)) }
+    ensures moved { pen.new.at ≤ pen.old.at + request_size }
 {
-    if find_zone(to, id as u64) < TABLE_WORDS {
-        return at;
+    if find_zone(to, heading.zone as u64) < TABLE_WORDS {
+        return;
     }
     let none = Region {
         v: Guest(0),
@@ -183,19 +172,19 @@ fn put_missed(b: &mut [u8], at: usize, kind: u32, id: u32, to: &[u64; TABLE_WORD
         size: 0,
         rights: Rights(0),
     };
-    put_request(b, at, kind, id, none)
+    put_request(pen, heading, none);
 }
 
-// One request: its kind, its zone id and its region.
-fn put_request(b: &mut [u8], at: usize, kind: u32, id: u32, r: Region) -> usize
-    requires { at < 2 ^ 27 }
-    ensures { Put b.old at (write_many asked_field (numbers kind id r ∷ [])) b.new result × (result ≡ at + request_size) }
+// One request: its heading and its region.
+fn put_request(pen: &mut Pen, heading: Heading, r: Region)
+    requires { pen.old.at < 2 ^ 27 }
+    ensures wrote { Wrote pen.old pen.new (write_many asked_field (numbers heading.kind heading.zone r ∷ [])) }
+    ensures moved { pen.new.at ≡ pen.old.at + request_size }
 {
-    put_u32(b, at, kind);
-    put_u32(b, at + 4, id);
-    put_u64(b, at + 8, r.v.0);
-    put_u64(b, at + 16, r.p.0);
-    put_u64(b, at + 24, r.size);
-    put_u64(b, at + 32, r.rights.0);
-    at + REQUEST_BYTES
+    pen.u32(heading.kind);
+    pen.u32(heading.zone);
+    pen.u64(r.v.0);
+    pen.u64(r.p.0);
+    pen.u64(r.size);
+    pen.u64(r.rights.0);
 }

@@ -11,14 +11,31 @@ use region::region_eq;
 use rules::{Guest, Phys, Region, Rights};
 use zones::{REGION_WORDS, TABLE_WORDS, zone_start};
 
+// A place among the words of a table.
+#[derive(Clone, Copy)]
+pub struct Place<'a> {
+    pub words: &'a [u64],
+    pub at: usize,
+}
+
+impl<'a> Place<'a> {
+    pub fn on(self, n: usize) -> Place<'a>
+        requires { self.at + n < 2 ^ 64 }
+        ensures words { result.words.now ≡ self.entry.words.now }
+        ensures at { result.at ≡ self.entry.at + n }
+    {
+        Place {
+            words: self.words,
+            at: self.at + n,
+        }
+    }
+}
+
 // The word at k.
 pub fn word_at(w: &[u64], k: usize) -> u64
     ensures { result ≡ get_or w.now k 0 }
 {
-    if w.len() <= k {
-        return 0;
-    }
-    w[k]
+    *w.get(k).unwrap_or(&0)
 }
 
 // The region whose record starts at word k.
@@ -26,15 +43,11 @@ pub fn region_from(w: &[u64], k: usize) -> Region
     requires { k < 2 ^ 32 }
     ensures { result ≡ region_at w.now k }
 {
-    let v = word_at(w, k);
-    let p = word_at(w, k + 1);
-    let size = word_at(w, k + 2);
-    let rights = word_at(w, k + 3);
     Region {
-        v: Guest(v),
-        p: Phys(p),
-        size,
-        rights: Rights(rights),
+        v: Guest(word_at(w, k)),
+        p: Phys(word_at(w, k + 1)),
+        size: word_at(w, k + 2),
+        rights: Rights(word_at(w, k + 3)),
     }
 }
 
@@ -53,34 +66,30 @@ pub fn id_at(t: &[u64; TABLE_WORDS], z: usize) -> u64
     word_at(t, zone_start(z))
 }
 
-// The word where the zone with that id begins; where the words end, if no zone has it.
+// The word where the zone with that id begins; where the words end, if no zone has it: a zone that is not there is read there, as one with
+// empty sets.
 pub fn find_zone(t: &[u64; TABLE_WORDS], id: u64) -> usize
     requires { length (zones_in t.now) ≤ most_zones }
     ensures { result ≡ start_of t.now id }
 {
-    let n = zone_count(t);
-    let mut z = 0;
-    while z < n {
+    for z in 0..zone_count(t) {
         if id_at(t, z) == id {
             return zone_start(z);
         }
-        z += 1;
     }
     TABLE_WORDS
 }
 
-// Whether the set whose count stands in word k has the region.
-pub fn is_held(w: &[u64], k: usize, r: Region) -> bool
-    requires { (k < 2 ^ 31) × (get_or w.now k 0 ≤ most_in_set) }
-    ensures { result ≡ held_in r (set_from w.now k) }
+// Whether the set whose count stands there has the region.
+pub fn is_held(set: Place, r: Region) -> bool
+    requires { (set.at < 2 ^ 31) × (get_or set.words.now set.at 0 ≤ most_in_set) }
+    ensures { result ≡ held_in r (set_from set.entry.words.now set.entry.at) }
 {
-    let n = word_at(w, k) as usize;
-    let mut i = 0;
-    while i < n {
-        if region_eq(r, region_from(w, k + 1 + i * REGION_WORDS)) {
+    let n = word_at(set.words, set.at) as usize;
+    for i in 0..n {
+        if region_eq(r, region_from(set.words, set.at + 1 + i * REGION_WORDS)) {
             return true;
         }
-        i += 1;
     }
     false
 }

@@ -1,16 +1,14 @@
--- Measure, then fill: how many bytes there are is known, so they are put at the buffer's start, or 28. And 1 or 2 before
--- that.
-use Prim.Native.Nat.{ℕ, ◌+◌, ◌≤◌, ◌<◌}
-use native.Mathlib.Omega.{arith}
+-- What is measured first is put at the buffer's start, or 28. And 1 or 2 before that.
+use Prim.Native.Nat.{ℕ}
 use mathlib.Core.Bool.{Bool, cond, not}
-use mathlib.Core.List.{List, [], ◌∷◌, ◌++◌}
+use mathlib.Core.List.{List, [], ◌∷◌}
 use mathlib.Core.Path.{◌≡◌, sym, ap, ap₂, ◌∙◌}
 use borrow.Author.Tests.{lt-ltb, le-ltb, eq-eqb, ne_eqb}
+use Rattle.std.specs.Prelude.{Some, None}
 use lib.Dec.{ltb}
-use lib.ListN.{length, drop}
+use lib.ListN.{length}
 use Rattle.lists.specs.Rules.{first_rule}
-use Rattle.puts.specs.Puts.{Put}
-use Rattle.puts.proofs.Puts.{put_fits}
+use Rattle.puts.specs.Filling.{fill_in}
 use Rattle.rules.specs.Applying.{plain}
 use Rattle.rules.specs.Filling.{standing_rule, fill_answer, fill_leaves, filling, Filled}
 use Rattle.rules.specs.declared.Outcome.{Outcome}
@@ -27,23 +25,19 @@ module _ (b w : List ℕ) where
   abbrev leaving : Outcome → Filled
   leaving o = filled_with o (fill_leaves o b w)
 
-  -- ---- n is how many bytes there are
-  module _ (n : ℕ) (e : n ≡ 0 + length b) where
-    same : n ≡ length b
-    same = omega arith
+  -- ---- by whether they were put
+  pub filled_none : (v : List ℕ) → fill_in b w None v → filled_with (record { number = 28; place = 0; inner = 0 }) v ≡ filling [] b w
+  unfolding fill_in fill_answer fill_leaves first_rule
+  filled_none v h =
+      ap (filled_with (plain 28 0)) h.1
+      ∙ sym (ap (λ (x : Bool). leaving (by_room x)) (lt-ltb (length w) (length b) h.0))
 
-    pub fill_short : length w < n → filled_with (record { number = 28; place = 0; inner = 0 }) w ≡ filling [] b w
-    unfolding fill_answer fill_leaves first_rule
-    fill_short h = sym (ap (λ (x : Bool). leaving (by_room x)) (lt-ltb (length w) (length b) (omega (arith, same))))
-
-    pub fill_done : n ≤ length w → (v : List ℕ) (k : ℕ) → Put w 0 b v k
-        → filled_with (record { number = 0; place = n; inner = 0 }) v ≡ filling [] b w
-    unfolding fill_answer fill_leaves first_rule
-    fill_done h v k p =
-        let z : 0 + length b ≡ length b = omega arith in
-        ap₂ filled_with (ap (plain 0) same)
-        (p.bytes ∙ put_fits 0 b w (omega arith) ∙ ap (λ (j : ℕ). b ++ drop j w) z)
-        ∙ sym (ap (λ (x : Bool). leaving (by_room x)) (le-ltb (length w) (length b) (omega (arith, same))))
+  pub filled_some : (n : ℕ) (v : List ℕ) → fill_in b w (Some n) v
+      → filled_with (record { number = 0; place = n; inner = 0 }) v ≡ filling [] b w
+  unfolding fill_in fill_answer fill_leaves first_rule
+  filled_some n v h =
+      ap₂ filled_with (ap (plain 0) h.1) h.2
+      ∙ sym (ap (λ (x : Bool). leaving (by_room x)) (le-ltb (length w) (length b) h.0))
 
   -- ---- n is what tells 1 and 2, or 0
   module _ (n : ℕ) where

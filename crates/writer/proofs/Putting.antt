@@ -1,11 +1,12 @@
 -- Each section is put part by part, one behind the other, and is then what the format writes.
-use Prim.Native.Nat.{ℕ, ◌+◌, ◌*◌, ◌/◌, ◌^◌, ◌≤◌, ◌<◌}
+use Prim.Native.Nat.{ℕ, ◌+◌, ◌-◌, ◌*◌, ◌/◌, ◌^◌, ◌≤◌, ◌<◌}
 use native.Mathlib.Omega.{arith}
 use mathlib.Core.Bool.{true}
 use mathlib.Core.List.{List, [], ◌∷◌, ◌++◌}
 use mathlib.Core.Path.{◌≡◌, refl, sym, ap, ap₂, subst, ◌∙◌}
 use borrow.Author.Tests.{leb-true}
-use lib.ListN.{length, get_or, take, length-take}
+use Rattle.std.proofs.lemmas.List.{take_all}
+use lib.ListN.{length, get_or, take, drop, length-take}
 use Rattle.lists.specs.Bytes.{bytes_of, Bytes}
 use Rattle.lists.specs.Places.{places, tab}
 use Rattle.lists.specs.Words.{part}
@@ -15,11 +16,13 @@ use Rattle.lists.proofs.Tests.{parts}
 use Rattle.lists.proofs.Words.{part_last}
 use Rattle.formats.specs.Formats.{write_many, write_both, write_headed}
 use Rattle.formats.proofs.Formats.{many_append, many_one}
-use Rattle.puts.specs.Puts.{put_at, Put}
-use Rattle.puts.proofs.Puts.{put_number, puts_both, puts_none}
+use Rattle.puts.specs.Pens.{Wrote}
+use Rattle.puts.specs.Puts.{Put}
+use Rattle.puts.specs.declared.pen.Pen.{Pen}
+use Rattle.puts.proofs.Pens.{wrote_as, wrote_both, wrote_none}
 use Rattle.rules.specs.Differing.{zones_bytes}
 use Rattle.rules.specs.Limits.{most_regions, most_zones, most_in_set, highest_id, limits}
-use Rattle.rules.specs.Plan.{long, region_field, asked_field, marks_section, regions_section, set_format, zone_format}
+use Rattle.rules.specs.Plan.{long, marks_section, regions_section, set_format, zone_format}
 use Rattle.rules.specs.Plan.{zones_section, requests_section, encode}
 use Rattle.rules.specs.Run.{request_size}
 use Rattle.rules.specs.Tables.{no_zone, sound_zone, table_of, Zone}
@@ -42,47 +45,45 @@ use Rattle.writer.specs.Writer.{plan_in, set_bytes, zone_bytes, SetFits, ZoneAt,
 use Rattle.writer.proofs.Bytes.{records_longs, set_written, asked_bytes, asked_many}
 
 -- ---- marks
-pub marks_put : (s u v x y : List ℕ) (gic e : ℕ) → u ≡ put_at 0 (bytes_of 4 3) s → v ≡ put_at 4 (bytes_of 4 gic) u
-    → x ≡ put_at 8 (bytes_of 4 e) v → y ≡ put_at 12 (bytes_of 4 2) x
-    → Put s 0 ((marks_section limits).write (record { gic = gic; edition = e })) y 16
+pub marks_put : (p q r x y : Pen) (gic e : ℕ) → Wrote p q (bytes_of 4 3) → Wrote q r (bytes_of 4 gic)
+    → Wrote r x (bytes_of 4 e) → Wrote x y (bytes_of 4 2)
+    → Wrote p y ((marks_section limits).write (record { gic = gic; edition = e }))
 unfolding write_headed write_both
-marks_put s u v x y gic e a b c d =
-    puts_both s u y 0 4 16 (bytes_of 4 3) (bytes_of 4 gic ++ (bytes_of 4 e ++ (bytes_of 4 2 ++ []))) (put_number s u 0 4 3 a)
-    (puts_both u v y 4 8 16 (bytes_of 4 gic) (bytes_of 4 e ++ (bytes_of 4 2 ++ [])) (put_number u v 4 4 gic b)
-    (puts_both v x y 8 12 16 (bytes_of 4 e) (bytes_of 4 2 ++ []) (put_number v x 8 4 e c)
-    (puts_both x y y 12 16 16 (bytes_of 4 2) [] (put_number x y 12 4 2 d) (puts_none y 16))))
+marks_put p q r x y gic e a b c d =
+    wrote_both p q y _ _ a (wrote_both q r y _ _ b (wrote_both r x y _ _ c (wrote_both x y y _ _ d (wrote_none y))))
 
 -- ---- words, 8 bytes each
-pub longs_none : (s w : List ℕ) (a at : ℕ) → Put s at (write_many long (part a 0 w)) s at
-unfolding write_many part
-longs_none s w a at = puts_none s at
+take_last : (i : ℕ) (l : List ℕ) (d : ℕ) → i < length l → take (i + 1) l ≡ take i l ++ get_or l i d ∷ []
+unfolding part
+take_last i l d h =
+    let e : 0 + i ≡ i = omega arith in part_last 0 i l d (omega arith) ∙ ap (λ (j : ℕ). take i l ++ get_or l j d ∷ []) e
 
-pub longs_on : (s u v w : List ℕ) (a i n start at : ℕ) → Put s start (write_many long (part a i w)) u at
-    → v ≡ put_at at (bytes_of 8 (get_or w (a + i) 0)) u → i < n → a + n ≤ length w
-    → Put s start (write_many long (part a (i + 1) w)) v (at + 8)
-longs_on s u v w a i n start at p e l m =
-    let h : a + i < length w = omega arith in
-    subst (λ (b : List ℕ). Put s start b v (at + 8))
-    (sym (ap (write_many long) (part_last a i w 0 h) ∙ many_append long (part a i w) (get_or w (a + i) 0 ∷ [])
-    ∙ ap (λ (l : List ℕ). write_many long (part a i w) ++ l) (many_one long (get_or w (a + i) 0))))
-    (puts_both s u v start at (at + 8) (write_many long (part a i w)) (bytes_of 8 (get_or w (a + i) 0)) p
-    (put_number u v at 8 (get_or w (a + i) 0) e))
+pub longs_none : (p : Pen) (w : List ℕ) → Wrote p p (write_many long (take 0 w))
+unfolding write_many
+longs_none p w = wrote_none p
 
-pub longs_end : (s u w : List ℕ) (a i n start at : ℕ) → Put s start (write_many long (part a i w)) u at → i ≤ n → n ≤ i
-    → Put s start (write_many long (part a n w)) u at
-longs_end s u w a i n start at p h k =
-    let e : i ≡ n = omega arith in subst (λ (j : ℕ). Put s start (write_many long (part a j w)) u at) e p
+pub longs_on : (p q r : Pen) (w : List ℕ) (i : ℕ) → Wrote p q (write_many long (take i w))
+    → Wrote q r (bytes_of 8 (get_or w i 0)) → i < length w → Wrote p r (write_many long (take (i + 1) w))
+longs_on p q r w i a b h =
+    wrote_as p r _ _
+    (sym (ap (write_many long) (take_last i w 0 h) ∙ many_append long (take i w) (get_or w i 0 ∷ [])
+    ∙ ap (λ (l : List ℕ). write_many long (take i w) ++ l) (many_one long (get_or w i 0))))
+    (wrote_both p q r _ _ a b)
+
+pub longs_end : (p q : Pen) (w : List ℕ) (i : ℕ) → Wrote p q (write_many long (take i w)) → length w ≤ i
+    → Wrote p q (write_many long w)
+longs_end p q w i a h = wrote_as p q _ _ (ap (write_many long) (take_all i w h)) a
 
 -- ---- a set
-pub set_put : (s u v w : List ℕ) (k a n at m e : ℕ) → n ≡ get_or w k 0 → u ≡ put_at at (bytes_of 4 n) s → m ≡ at + 4
-    → Put u m (write_many long (part a (n * region_words) w)) v e → a + n * region_words ≤ length w
-    → Put s at (set_bytes w k a) v e
-unfolding set_bytes
-set_put s u v w k a n at m e en eu em p h =
-    subst (λ (c : ℕ). Put s at (bytes_of 4 c ++ write_many region_field (records_at w a c)) v e) en
-    (subst (λ (b : List ℕ). Put s at (bytes_of 4 n ++ b) v e) (records_longs w a n h)
-    (puts_both s u v at (at + 4) e (bytes_of 4 n) (write_many long (part a (n * region_words) w)) (put_number s u at 4 n eu)
-    (subst (λ (j : ℕ). Put u j (write_many long (part a (n * region_words) w)) v e) em p)))
+pub set_put : (p q r : Pen) (w : List ℕ) (k a e : ℕ) → SetFits w k a → e ≡ a + get_or w k 0 * region_words
+    → Wrote p q (bytes_of 4 (get_or w k 0)) → Wrote q r (write_many long (take (e - a) (drop a w)))
+    → Wrote p r (set_bytes w k a)
+unfolding set_bytes part
+set_put p q r w k a e fits f x y =
+    let n : e - a ≡ get_or w k 0 * region_words = omega arith in
+    wrote_both p q r _ _ x
+    (wrote_as q r _ _
+    (ap (λ (j : ℕ). write_many long (take j (drop a w))) n ∙ records_longs w a (get_or w k 0) fits.inside) y)
 
 -- ---- a zone
 module _ (w : List ℕ) (z : ℕ) where
@@ -108,57 +109,48 @@ module _ (w : List ℕ) (z : ℕ) where
   pub zone_there : (k : ℕ) → k ≡ zone_start z → z < most_zones → ZoneAt w (zone_base z) → ZoneAt w k
   zone_there k e h = subst (ZoneAt w) (sym (base k e h))
 
-  pub zone_written : (s x : List ℕ) (at k f : ℕ) → k ≡ zone_start z → z < most_zones → Put s at (zone_bytes w k) x f
-      → Put s at ((zone_format limits).write (zone_in w z)) x f
+  pub zone_written : (p q : Pen) (k : ℕ) → k ≡ zone_start z → z < most_zones → Wrote p q (zone_bytes w k)
+      → Wrote p q ((zone_format limits).write (zone_in w z))
   unfolding zone_in write_both zone_bytes
-  zone_written s x at k f e h p =
-      subst (λ (l : List ℕ). Put s at (bytes_of 4 (get_or w (zone_base z) 0) ++ l) x f)
-      (ap₂ (λ (l m : List ℕ). l ++ m) (sym cpu_bytes) (sym iommu_bytes))
-      (subst (λ (j : ℕ). Put s at (bytes_of 4 (get_or w j 0)
-      ++ (set_bytes w (j + 1) (j + 2) ++ set_bytes w (j + 1 + set_words) (j + 2 + set_words))) x f) (base k e h) p)
+  zone_written p q k e h a =
+      wrote_as p q _ _
+      (ap (zone_bytes w) (base k e h)
+      ∙ ap₂ (λ (l m : List ℕ). bytes_of 4 (get_or w (zone_base z) 0) ++ (l ++ m)) (sym cpu_bytes) (sym iommu_bytes)) a
 
-pub zone_put : (s u v x w : List ℕ) (at k m e f : ℕ) → u ≡ put_at at (bytes_of 4 (get_or w k 0)) s → m ≡ at + 4
-    → Put u m (set_bytes w (k + 1) (k + 2)) v e → Put v e (set_bytes w (k + 1 + set_words) (k + 2 + set_words)) x f
-    → Put s at (zone_bytes w k) x f
+pub zone_put : (p q r x : Pen) (w : List ℕ) (k : ℕ) → Wrote p q (bytes_of 4 (get_or w k 0))
+    → Wrote q r (set_bytes w (k + 1) (k + 2)) → Wrote r x (set_bytes w (k + 1 + set_words) (k + 2 + set_words))
+    → Wrote p x (zone_bytes w k)
 unfolding zone_bytes
-zone_put s u v x w at k m e f eu em p q =
-    puts_both s u x at (at + 4) f (bytes_of 4 (get_or w k 0)) _ (put_number s u at 4 (get_or w k 0) eu)
-    (puts_both u v x (at + 4) e f (set_bytes w (k + 1) (k + 2)) (set_bytes w (k + 1 + set_words) (k + 2 + set_words))
-    (subst (λ (j : ℕ). Put u j (set_bytes w (k + 1) (k + 2)) v e) em p) q)
+zone_put p q r x w k a b c = wrote_both p q x _ _ a (wrote_both q r x _ _ b c)
 
 -- ---- zones
-pub zones_none : (s w : List ℕ) (at : ℕ) → Put s at (write_many (zone_format limits) (tab 0 (zone_in w))) s at
+pub zones_none : (p : Pen) (w : List ℕ) → Wrote p p (write_many (zone_format limits) (tab 0 (zone_in w)))
 unfolding write_many tab places
-zones_none s w at = puts_none s at
+zones_none p w = wrote_none p
 
-pub zones_on : (s u v w : List ℕ) (z start at e : ℕ) → Put s start (write_many (zone_format limits) (tab z (zone_in w))) u at
-    → Put u at ((zone_format limits).write (zone_in w z)) v e
-    → Put s start (write_many (zone_format limits) (tab (z + 1) (zone_in w))) v e
-zones_on s u v w z start at e p q =
-    subst (λ (b : List ℕ). Put s start b v e)
+pub zones_on : (p q r : Pen) (w : List ℕ) (z : ℕ) → Wrote p q (write_many (zone_format limits) (tab z (zone_in w)))
+    → Wrote q r ((zone_format limits).write (zone_in w z))
+    → Wrote p r (write_many (zone_format limits) (tab (z + 1) (zone_in w)))
+zones_on p q r w z a b =
+    wrote_as p r _ _
     (sym (ap (write_many (zone_format limits)) (tab_last z (zone_in w))
     ∙ many_append (zone_format limits) (tab z (zone_in w)) (zone_in w z ∷ [])
     ∙ ap (λ (l : List ℕ). write_many (zone_format limits) (tab z (zone_in w)) ++ l) (many_one (zone_format limits) (zone_in w z))))
-    (puts_both s u v start at e (write_many (zone_format limits) (tab z (zone_in w))) ((zone_format limits).write (zone_in w z)) p
-    q)
+    (wrote_both p q r _ _ a b)
 
-pub zones_end_law : (s u w : List ℕ) (z n start at : ℕ) → Put s start (write_many (zone_format limits) (tab z (zone_in w))) u at
-    → z ≤ n → n ≤ z → Put s start (write_many (zone_format limits) (tab n (zone_in w))) u at
-zones_end_law s u w z n start at p h k =
+pub zones_end_law : (p q : Pen) (w : List ℕ) (z n : ℕ) → Wrote p q (write_many (zone_format limits) (tab z (zone_in w)))
+    → z ≤ n → n ≤ z → Wrote p q (write_many (zone_format limits) (tab n (zone_in w)))
+zones_end_law p q w z n a h k =
     let e : z ≡ n = omega arith in
-    subst (λ (j : ℕ). Put s start (write_many (zone_format limits) (tab j (zone_in w))) u at) e p
+    wrote_as p q _ _ (ap (λ (j : ℕ). write_many (zone_format limits) (tab j (zone_in w))) e) a
 
-pub zones_put : (s u v w : List ℕ) (n at m e : ℕ) → n ≡ get_or w 0 0 → u ≡ put_at at (bytes_of 4 n) s → m ≡ at + 4
-    → Put u m (write_many (zone_format limits) (tab n (zone_in w))) v e
-    → Put s at ((zones_section limits).write (zones_in w)) v e
+pub zones_put : (p q r : Pen) (w : List ℕ) → Wrote p q (bytes_of 4 (get_or w 0 0))
+    → Wrote q r (write_many (zone_format limits) (tab (get_or w 0 0) (zone_in w)))
+    → Wrote p r ((zones_section limits).write (zones_in w))
 unfolding zones_in write_headed
-zones_put s u v w n at m e en eu em p =
-    subst (λ (c : ℕ). Put s at (bytes_of 4 c ++ write_many (zone_format limits) (tab (get_or w 0 0) (zone_in w))) v e)
-    (sym (length_tab (get_or w 0 0) (zone_in w)))
-    (subst (λ (c : ℕ). Put s at (bytes_of 4 c ++ write_many (zone_format limits) (tab c (zone_in w))) v e) en
-    (puts_both s u v at (at + 4) e (bytes_of 4 n) (write_many (zone_format limits) (tab n (zone_in w)))
-    (put_number s u at 4 n eu)
-    (subst (λ (j : ℕ). Put u j (write_many (zone_format limits) (tab n (zone_in w))) v e) em p)))
+zones_put p q r w a b =
+    wrote_both p q r _ _
+    (wrote_as p q _ _ (ap (bytes_of 4) (sym (length_tab (get_or w 0 0) (zone_in w)))) a) b
 
 -- ---- requests
 -- (the bytes of all that are wholly there)
@@ -166,19 +158,12 @@ pub whole_long : (r : List ℕ)
     → length r / request_size * request_size ≡ length (take (length r / request_size * request_size) r)
 whole_long r = omega (arith, length-take (length r / request_size * request_size) r)
 
-pub requests_put : (s u v r : List ℕ) (at n k : ℕ) → Bytes r → n ≡ length r / request_size → k ≡ n * request_size
-    → u ≡ put_at at (bytes_of 4 n) s → v ≡ put_at (at + 4) (take k r) u
-    → Put s at ((requests_section limits).write (asked_of r)) v (at + 4 + k)
+pub requests_put : (p q r : Pen) (b : List ℕ) (n : ℕ) → Bytes b → n ≡ length b / request_size → Wrote p q (bytes_of 4 n)
+    → Wrote q r (take (n * request_size) b) → Wrote p r ((requests_section limits).write (asked_of b))
 unfolding write_headed
-requests_put s u v r at n k bytes en ek eu ev =
-    let l : length (take k r) ≡ k = omega (arith, length-take k r) in
-    let c : n ≡ length (asked_of r) = en ∙ sym (asked_many r) in
-    let b : take k r ≡ write_many asked_field (asked_of r) =
-    ap (λ (j : ℕ). take j r) (ek ∙ ap (λ (j : ℕ). j * request_size) en) ∙ sym (asked_bytes r bytes) in
-    subst (λ (j : ℕ). Put s at (bytes_of 4 j ++ write_many asked_field (asked_of r)) v (at + 4 + k)) c
-    (subst (λ (x : List ℕ). Put s at (bytes_of 4 n ++ x) v (at + 4 + k)) b
-    (puts_both s u v at (at + 4) (at + 4 + k) (bytes_of 4 n) (take k r) (put_number s u at 4 n eu)
-    (record { bytes = ev; end = omega arith })))
+requests_put p q r b n bytes e x y =
+    wrote_both p q r _ _ (wrote_as p q _ _ (ap (bytes_of 4) (e ∙ sym (asked_many b))) x)
+    (wrote_as q r _ _ (ap (λ (j : ℕ). take (j * request_size) b) e ∙ sym (asked_bytes b bytes)) y)
 
 -- ---- a state that stands can be written
 module _ (c t : List ℕ) (ok : Stands c t) where
@@ -243,12 +228,12 @@ module _ (c t : List ℕ) (ok : Stands c t) where
       subst (λ (l : List Zone). Put s at ((zones_section limits).write l) v f) (stands_same c t _ refl ok) p
 
   -- ---- the whole plan
-  pub plan_put : (e : ℕ) (r s u v x y : List ℕ) (a b d f : ℕ)
-      → Put s 0 ((marks_section limits).write (record { gic = get_or c config_gic 0; edition = e })) u a
-      → Put u a (set_bytes c config_count config_records) v b → Put v b ((zones_section limits).write (zones_in t)) x d
-      → Put x d ((requests_section limits).write (asked_of r)) y f → Put s 0 (plan_in c t e r) y f
+  pub plan_put : (e : ℕ) (r : List ℕ) (p u v x y : Pen)
+      → Wrote p u ((marks_section limits).write (record { gic = get_or c config_gic 0; edition = e }))
+      → Wrote u v (set_bytes c config_count config_records) → Wrote v x ((zones_section limits).write (zones_in t))
+      → Wrote x y ((requests_section limits).write (asked_of r)) → Wrote p y (plan_in c t e r)
   unfolding encode write_both
-  plan_put e r s u v x y a b d f m g z q =
+  plan_put e r p u v x y m g z q =
       let gic : get_or c config_gic 0 ≡ (config_in c).gic = (gic_is c passed).0 in
       let count : get_or c config_count 0 ≡ length (config_in c).regions = (count_is c passed).0 in
       let regions : set_bytes c config_count config_records ≡ (regions_section limits).write (config_in c).regions =
@@ -256,8 +241,7 @@ module _ (c t : List ℕ) (ok : Stands c t) where
       ∙ ap (λ (n : ℕ). (regions_section limits).write (records_at c config_records n)) count
       ∙ ap (λ (l : List Region). (regions_section limits).write l) (sym (regions_in c passed)) in
       let zones : zones_in t ≡ table_of (stored_table t) = stands_same c t _ refl ok in
-      let whole =
-      puts_both s u y 0 a f _ _ m (puts_both u v y a b f _ _ g (puts_both v x y b d f _ _ z q)) in
-      subst (λ (l : List ℕ). Put s 0 l y f)
+      wrote_as p y _ _
       (λ i. (marks_section limits).write (record { gic = gic i; edition = e })
-      ++ (regions i ++ ((zones_section limits).write (zones i) ++ (requests_section limits).write (asked_of r)))) whole
+      ++ (regions i ++ ((zones_section limits).write (zones i) ++ (requests_section limits).write (asked_of r))))
+      (wrote_both p u y _ _ m (wrote_both u v y _ _ g (wrote_both v x y _ _ z q)))

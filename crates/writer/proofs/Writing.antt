@@ -1,6 +1,6 @@
 -- The writer's answer is the first of its numbers: 25 is asked of the edition alone, a run that is tried gives the others
 -- but 28, and that is left to the plan's length.
-use Prim.Native.Nat.{ℕ, ◌/◌, ◌≤◌, ◌<◌}
+use Prim.Native.Nat.{ℕ, ◌/◌, ◌≤◌}
 use native.Mathlib.Omega.{arith}
 use mathlib.Core.Bool.{Bool, true, false, cond, not, true≢false}
 use mathlib.Core.List.{List, [], ◌∷◌}
@@ -10,12 +10,11 @@ use lib.Dec.{ltb, eqb}
 use lib.ListN.{length, length-map}
 use Rattle.lists.specs.Rules.{first_rule}
 use Rattle.lists.proofs.Tests.{not_holds}
-use Rattle.puts.specs.Puts.{Put}
 use Rattle.rules.specs.Applying.{last_edition, plain}
 use Rattle.rules.specs.Differing.{zones_bytes, write_zones}
 use Rattle.rules.specs.Filling.{standing_rule, fill_answer, fill_leaves, filling, Filled}
 use Rattle.rules.specs.Limits.{most_requests, limits}
-use Rattle.rules.specs.Plan.{requests_from, zones_section}
+use Rattle.rules.specs.Plan.{requests_from}
 use Rattle.rules.specs.Planner.{ran_at}
 use Rattle.rules.specs.Requests.{standing}
 use Rattle.rules.specs.Run.{request_size, requests_in, run, ended, Run}
@@ -25,11 +24,10 @@ use Rattle.rules.specs.declared.Outcome.{Outcome}
 use Rattle.rules.proofs.Filling.{leaves_all}
 use Rattle.zones.specs.Kept.{Stands}
 use Rattle.zones.specs.Trial.{trial_answer}
-use Rattle.zones.specs.View.{stored_config, stored_table, config_in, zones_in}
+use Rattle.zones.specs.View.{stored_config, stored_table, config_in}
 use Rattle.writer.specs.Writer.{lent_in, plan_in, no_next, WritesIn, WritesZonesIn}
-use Rattle.writer.proofs.Filling.{filled_with, fill_short, fill_done, own_refused, own_passed}
+use Rattle.writer.proofs.Filling.{filled_with, own_refused, own_passed}
 use Rattle.writer.proofs.Bytes.{asked_many, asked_requests}
-use Rattle.writer.proofs.Putting.{zones_whole}
 
 -- ---- 25
 module _ (c t : List ℕ) (n : ℕ) (e : n ≡ standing limits (stored_config c) (stored_table t)) where
@@ -46,21 +44,11 @@ module _ (c t : List ℕ) (n : ℕ) (e : n ≡ standing limits (stored_config c)
       sym (ap (λ (b : Bool). cond b (plain 25 0) (plain (standing limits (stored_config c) (stored_table t)) 0))
       (eq-eqb _ 0 (sym e ∙ z)))
 
--- ---- the zones alone
--- measured, and put: s and v are the bytes that they were measured in, and n is where they ended there
-module _ (c t : List ℕ) (ok : Stands c t) (s v : List ℕ) (n : ℕ) (p : Put s 0 ((zones_section limits).write (zones_in t)) v n)
-    (w : List ℕ) where
-  abbrev bytes : List ℕ
-  bytes = zones_bytes limits (stored_table t)
+-- ---- the zones alone, and 1 or 2 before them
+module _ (c t : List ℕ) (n : ℕ) (e : n ≡ standing limits (stored_config c) (stored_table t)) where
+  pub zones_stand : n ≡ 0 → Stands c t
+  zones_stand z = sym e ∙ z
 
-  pub zones_short : length w < n → filled_with (record { number = 28; place = 0; inner = 0 }) w ≡ filling [] bytes w
-  zones_short h = fill_short bytes w n (zones_whole c t ok s v 0 n p).end h
-
-  pub zones_done : n ≤ length w → (x : List ℕ) (k : ℕ) → Put w 0 ((zones_section limits).write (zones_in t)) x k
-      → filled_with (record { number = 0; place = n; inner = 0 }) x ≡ filling [] bytes w
-  zones_done h x k q = fill_done bytes w n (zones_whole c t ok s v 0 n p).end h x k (zones_whole c t ok w x 0 k q)
-
--- 1 or 2 before that
 module _ (c t w : List ℕ) (n : ℕ) (e : n ≡ standing limits (stored_config c) (stored_table t)) where
   abbrev own : ℕ
   own = standing limits (stored_config c) (stored_table t)

@@ -9,26 +9,29 @@ use mathlib.Core.Logic.{◌⊎◌, inl, inr}
 use mathlib.Core.Path.{◌≡◌, sym, ap, ap₂, ◌∙◌}
 use borrow.Author.Tests.{eq-eqb, ne_eqb}
 use lib.ListN.{length}
+use Rattle.std.specs.Prelude.{Result, Ok, Err}
 use Rattle.lists.specs.Places.{places, tab}
 use Rattle.lists.proofs.Places.{places_step, places_end}
 use Rattle.rules.specs.Applying.{plain}
 use Rattle.rules.specs.Fields.{short_size}
 use Rattle.rules.specs.Limits.{limits}
 use Rattle.rules.specs.Logs.{claimless, false_claim, audit_from, claims_in, Audit}
+use Rattle.rules.specs.Numbers.{code}
 use Rattle.rules.specs.Requests.{refusal, next, standing}
 use Rattle.rules.specs.Run.{request_size, requests_in}
 use Rattle.rules.specs.Tables.{Zone}
 use Rattle.rules.specs.declared.LogAnswer.{LogAnswer}
 use Rattle.rules.specs.declared.Request.{Request}
+use Rattle.rules.specs.declared.refusal.Refusal.{Refusal}
 use Rattle.rules.proofs.Logs.{claim_holds, claim_fails, claims_end, audit_inside, audit_away}
 use Rattle.zones.specs.Audit.{claims, audit_in, audit_words, AuditedIn}
-use Rattle.zones.specs.Decide.{decided, changed, change_number, Ready}
+use Rattle.zones.specs.Decide.{in_numbers, decided, changed, Ready}
 use Rattle.zones.specs.Trial.{asks}
 use Rattle.zones.specs.View.{stored_config, config_in, stored_table, zones_in}
 use Rattle.zones.specs.Words.{words_of}
 use Rattle.zones.specs.declared.decide.Change.{Change}
 use Rattle.zones.proofs.Running.{after_view, ready_on}
-use Rattle.zones.proofs.Stepping.{decided_number, decided_table, stands_same}
+use Rattle.zones.proofs.Stepping.{decided_number, decided_table, refused_table, stands_same}
 
 -- ---- m requests in b and k claims in a, of which i are judged
 module _ (c b a : List ℕ) (m k : ℕ) (R : Audit) where
@@ -36,8 +39,8 @@ module _ (c b a : List ℕ) (m k : ℕ) (R : Audit) where
   Due w i =
       audit_from limits (config_in c) i (zones_in w) (map (asks b) (places i (m - i))) (map (claims a) (places i (k - i))) ≡ R
 
-  module _ (w : List ℕ) (i n right x : ℕ) (q : Request) (d : Change) (ready : Ready c w) (h : i < n) (en : n ≡ min m k)
-      (eq : q ≡ asks b i) (ed : d ≡ decided (config_in c) (zones_in w) q) (er : right ≡ change_number d)
+  module _ (w : List ℕ) (i n right x : ℕ) (q : Request) (d : Result Change Refusal) (ready : Ready c w) (h : i < n) (en : n ≡ min m k)
+      (eq : q ≡ asks b i) (ed : in_numbers d ≡ decided (config_in c) (zones_in w) q) (er : right ≡ code d)
       (ex : x ≡ claims a i) (due : Due w i) where
     abbrev asked : List Request
     asked = map (asks b) (places (i + 1) (m - (i + 1)))
@@ -53,7 +56,7 @@ module _ (c b a : List ℕ) (m k : ℕ) (R : Audit) where
         ∙ due)
 
     by_rules : right ≡ refusal limits (config_in c) (zones_in w) q
-    by_rules = decided_number (config_in c) (zones_in w) q d ed right er
+    by_rules = er ∙ decided_number (config_in c) (zones_in w) q d ed
 
     module _ (ne : right ≡ x → ⊥) where
       wrong : R ≡ record { answer = false_claim i x right; table = zones_in w }
@@ -68,19 +71,23 @@ module _ (c b a : List ℕ) (m k : ℕ) (R : Audit) where
         ready.words.words ∙ ap (λ (y : Audit). words_of y.table) (sym wrong),
       )
 
-    module _ (e : right ≡ x) (u : List ℕ) (eu : u ≡ words_of (changed d (zones_in w))) where
-      left_words : u ≡ words_of (next limits (config_in c) (zones_in w) q)
-      left_words = decided_table (config_in c) (zones_in w) q d ed u eu
-
-      pub claim_on : Ready c u × Due u (i + 1)
-      claim_on =
+    module _ (e : right ≡ x) where
+      claim_next : (u : List ℕ) → u ≡ words_of (next limits (config_in c) (zones_in w) q) → Ready c u × Due u (i + 1)
+      claim_next u eu =
           let s : i + 1 ≡ suc i = omega arith in (
-            ready_on c w u q ready left_words,
-            ap₂ (λ (n : ℕ) (y : List Zone). audit_from limits (config_in c) n y asked told) s
-                (after_view c w u q ready left_words)
+            ready_on c w u q ready eu,
+            ap₂ (λ (n : ℕ) (y : List Zone). audit_from limits (config_in c) n y asked told) s (after_view c w u q ready eu)
                 ∙ sym (claim_holds limits (config_in c) i (zones_in w) q asked x told (sym by_rules ∙ e))
                 ∙ turn,
           )
+
+      pub claim_on : (ch : Change) → d ≡ Ok ch → (u : List ℕ) → u ≡ words_of (changed ch (zones_in w))
+          → Ready c u × Due u (i + 1)
+      claim_on ch g u eu = claim_next u (eu ∙ ap words_of (decided_table (config_in c) (zones_in w) q d ed ch g))
+
+      pub claim_stays : (r : Refusal) → d ≡ Err r → Ready c w × Due w (i + 1)
+      claim_stays r g =
+          claim_next w (ready.words.words ∙ ap words_of (refused_table (config_in c) (zones_in w) q d ed r g))
 
   module _ (w : List ℕ) (i n : ℕ) (ready : Ready c w) (due : Due w i) (h : n ≤ i) (l : i ≤ n) (en : n ≡ min m k) where
     over : (map (asks b) (places i (m - i)) ≡ []) ⊎ (map (claims a) (places i (k - i)) ≡ [])

@@ -10,9 +10,9 @@ use Rattle.rules.specs.declared.Region.{Region}
 use Rattle.rules.specs.declared.Side.{Side}
 use Rattle.zones.specs.Decide.{changed, Allowed}
 use Rattle.zones.specs.View.{set_in, zones_in}
-use Rattle.zones.specs.Words.{words_of, Packed}
+use Rattle.zones.specs.Words.{words_of}
 use Rattle.zones.specs.declared.decide.Change.{Change}
-use Rattle.zones.specs.declared.decide.Change.TheVariants.{Refuse, Add, Drop, Push, Cut}
+use Rattle.zones.specs.declared.decide.Change.TheVariants.{Add, Drop, Push, Cut}
 use Rattle.zones.proofs.Writers.{set_in_law}
 
 module _ (w : List ℕ) (ch : Change) where
@@ -46,10 +46,6 @@ module _ (w : List ℕ) (ch : Change) where
 
     pub cut_within : (z : ℕ) (s : Side) (i : ℕ) → ch ≡ Cut z s i → i < length (set_in w z s)
     cut_within z s i e = rw (set_in_law w z s (cut_place z s i e)) at (cut_both z s i e).1
-
-  pub refuse_done : (n : ℕ) → ch ≡ Refuse n → Packed w → w ≡ words_of (changed ch (zones_in w))
-  unfolding changed
-  refuse_done n e p = rw e p.words
 
   module _ (u : List ℕ) where
     pub add_done : (id : ℕ) → ch ≡ Add id → u ≡ words_of (added id (zones_in w)) → u ≡ words_of (changed ch (zones_in w))

@@ -3,16 +3,16 @@
 use Prim.Native.Nat.{ℕ, ◌+◌, ◌-◌, ◌*◌, ◌≤◌, ◌<◌}
 use native.Mathlib.Omega.{arith}
 use mathlib.Core.Bool.{Bool, true, false, not, not-not}
-use mathlib.Core.List.{List, [], ◌∷◌}
+use mathlib.Core.List.{List, [], ◌∷◌, flat_map}
 use mathlib.Core.Path.{◌≡◌, refl, sym, ap, subst, ◌∙◌}
 use types.Run.{OneOf, miss}
 use denote.Enum.Declared.{tag_of}
 use borrow.Author.Tests.{eqb-false, lt-ltb, le-ltb}
-use lib.ListN.{length, get_or, take, drop}
+use lib.ListN.{length, get_or, take, drop, length-take}
 use Rattle.lists.specs.First.{first_index, any}
+use Rattle.lists.specs.Places.{places}
 use Rattle.lists.specs.Rules.{◌when◌, first_rule}
-use Rattle.lists.proofs.First.{any_first}
-use Rattle.lists.proofs.Places.{length_tab, get_d_tab, take_tab}
+use Rattle.lists.proofs.Places.{get_d_tab, take_tab}
 use Rattle.rules.specs.Configuration.{position_rules, check}
 use Rattle.rules.specs.Limits.{most_regions, limits}
 use Rattle.rules.specs.Regions.{well_formed, in_reach, phys_overlap, no_region, used}
@@ -25,20 +25,22 @@ use Rattle.zones.specs.Packing.{zeros}
 use Rattle.zones.specs.Records.{record_at, records_at}
 use Rattle.zones.specs.View.{all_records, stored_config, ConfigPassed}
 use Rattle.zones.proofs.Blocks.{free_zero}
+use Rattle.zones.proofs.Finding.{some_any, found_first, found_none}
+use Rattle.std.specs.Prelude.{position, is_some}
+use Rattle.std.specs.declared.option.Option.{Option}
+use Rattle.std.specs.declared.option.Option.TheVariants.{Some, None}
 
--- ---- whether some record passes, by the first that does
-module _ (w : List ℕ) (b n k : ℕ) (p : Region → Bool) (found : k ≡ first_index p (records_at w b n)) where
-  pub some_record : k < n → any p (records_at w b n) ≡ true
-  unfolding records_at
-  some_record h =
-      any_first p (records_at w b n)
-      ∙ lt-ltb (first_index p (records_at w b n)) (length (records_at w b n)) (omega (arith, length_tab n (record_at w b)))
+-- ---- what is found among the records before a position
+module _ (w : List ℕ) (b n : ℕ) (p : Region → Bool) where
+  pub some_record : (k : ℕ) → ◌≡◌ {A = Option ℕ} (Some k) (position p (records_at w b n)) → any p (records_at w b n) ≡ true
+  some_record k e = sym (ap is_some e ∙ some_any p (records_at w b n))
 
-  pub no_record : n ≤ k → any p (records_at w b n) ≡ false
-  unfolding records_at
-  no_record h =
-      any_first p (records_at w b n)
-      ∙ le-ltb (first_index p (records_at w b n)) (length (records_at w b n)) (omega (arith, length_tab n (record_at w b)))
+  pub no_record : ◌≡◌ {A = Option ℕ} None (position p (records_at w b n)) → any p (records_at w b n) ≡ false
+  no_record e = found_none p (records_at w b n) e
+
+  pub overlap_at : (i k : ℕ) → ◌≡◌ {A = Option ℕ} (Some k) (position p (records_at w b n))
+      → Overlap i k ≡ Overlap i (first_index p (records_at w b n))
+  overlap_at i k e = ap (Overlap i) (found_first p (records_at w b n) k e).0
 
 -- ---- whether some record past the count is used, by whether the words of those records are zero
 module _ (w : List ℕ) (n : ℕ) (t : Bool) (h : n ≤ most_regions)
@@ -49,11 +51,8 @@ module _ (w : List ℕ) (n : ℕ) (t : Bool) (h : n ≤ most_regions)
       sym (not-not (any used (drop n (all_records w))))
       ∙ ap not (free_zero w config_records most_regions n h ∙ ap (zeros w (config_records + n * region_words)) f ∙ sym e)
 
-  pub some_used : not t ≡ true → any used (drop n (all_records w)) ≡ true
-  some_used f = used_told ∙ f
-
-  pub none_used : not t ≡ false → any used (drop n (all_records w)) ≡ false
-  none_used f = used_told ∙ f
+  pub none_used : t ≡ true → any used (drop n (all_records w)) ≡ false
+  none_used f = used_told ∙ ap not f
 
 -- ---- the rules at a position, where r is the record that was read there
 pub rules_at : (w : List ℕ) (i : ℕ) (r : Region) (f : Checked) → r ≡ record_at w config_records i → i < most_regions
@@ -68,6 +67,14 @@ rules_at w i r f er h e =
     let earlier : take i (all_records w) ≡ records_at w config_records i =
     take_tab most_regions i (record_at w config_records) (omega arith) in
     rw (here, earlier) e
+
+-- for so many positions there are keys
+pub keyed_rules : (w keys : List ℕ) (n : ℕ) (v : Checked) → n ≤ length keys
+    → v ≡ first_rule (flat_map (position_rules limits (all_records w)) (places 0 (length (take n keys)))) Sound
+    → v ≡ first_rule (flat_map (position_rules limits (all_records w)) (places 0 n)) Sound
+keyed_rules w keys n v h e =
+    let q : length (take n keys) ≡ n = omega (arith, length-take n keys) in
+    e ∙ ap (λ (m : ℕ). first_rule (flat_map (position_rules limits (all_records w)) (places 0 m)) Sound) q
 
 -- ---- what a `let .. else` tells of a verdict, by its tag
 pub is_sound_law : (v : Checked) → OneOf (0 ∷ []) (tag_of the_type v) → v ≡ Sound

@@ -2,14 +2,17 @@
 -- is what the configuration says.
 use Prim.Native.Nat.{ℕ, ◌≤◌, ◌<◌}
 use native.Mathlib.Omega.{arith}
-use mathlib.Core.Bool.{true}
+use mathlib.Core.Bool.{true, true≢false}
 use mathlib.Core.List.{List}
-use mathlib.Core.Path.{◌≡◌, refl, sym, ap, ap₂, ◌∙◌}
-use lib.Dec.{ltb}
+use mathlib.Core.Path.{◌≡◌, refl, sym, ap, ◌∙◌}
 use lib.ListN.{length, get_or}
-use Rattle.lists.specs.First.{first_index}
+use Rattle.std.specs.declared.option.Option.{Option}
+use Rattle.std.specs.declared.option.Option.TheVariants.{None, Some}
+use Rattle.std.specs.Option.{IfSome, is_some}
+use Rattle.std.specs.Prelude.{Bool, position}
+use Rattle.lists.specs.First.{any}
+use Rattle.zones.proofs.Finding.{some_any}
 use Rattle.lists.specs.Places.{tab}
-use Rattle.lists.proofs.First.{any_first}
 use Rattle.lists.proofs.Places.{length_tab, get_d_tab, take_tab}
 use Rattle.lists.proofs.Room.{length_room, room_take}
 use Rattle.rules.specs.Configuration.{gic_of, config_of}
@@ -79,17 +82,18 @@ module _ (w : List ℕ) (ok : ConfigPassed w) where
       let g : (config_in w).gic < length (config_in w).regions = config_sound.gic in
       region_is i r (omega arith) f ∙ ap (λ (j : ℕ). get_or (config_in w).regions j no_region) e
 
-  pub configured_is : (r : Region) (n k : ℕ) → n ≡ length (config_in w).regions
-      → k ≡ first_index (region_eq r) (records_at w config_records n) → ltb k n ≡ configured (config_in w) r
+  pub configured_is : (r : Region) (n : ℕ) (o : Option ℕ) (b : Bool) → n ≡ length (config_in w).regions
+      → o ≡ position (region_eq r) (records_at w config_records n) → b ≡ is_some o → b ≡ configured (config_in w) r
   unfolding configured
-  configured_is r n k en ek =
-      let rs : List Region = (config_in w).regions in
-      let same : records_at w config_records n ≡ rs = ap (records_at w config_records) en ∙ sym regions_in in
-      sym (any_first (region_eq r) rs ∙ ap₂ ltb (ap (first_index (region_eq r)) (sym same) ∙ sym ek) (sym en))
+  configured_is r n o b en eo eb =
+      let same : records_at w config_records n ≡ (config_in w).regions =
+      ap (records_at w config_records) en ∙ sym regions_in in
+      eb ∙ ap is_some eo ∙ some_any (region_eq r) (records_at w config_records n) ∙ ap (any (region_eq r)) same
 
-  pub configured_there : (r : Region) (n k : ℕ) → n ≡ length (config_in w).regions
-      → (k < n → r ≡ record_at w config_records k) → k < n → true ≡ configured (config_in w) r
-  configured_there r n k en there h =
-      let l : k < length (config_in w).regions = omega arith in
-      sym (ap (configured (config_in w)) (region_is k r l (there h))
-      ∙ position_configured limits (config_in w) config_sound k l)
+  -- a position of it tells that a region is configured
+  pub configured_there : (r : Region) (o : Option ℕ)
+      → IfSome o (λ k. (k < length (config_in w).regions) × (r ≡ get_or (config_in w).regions k no_region))
+      → is_some o ≡ true → true ≡ configured (config_in w) r
+  configured_there r None there h = absurd (true≢false (sym h))
+  configured_there r (Some k) there h =
+      sym (ap (configured (config_in w)) there.1 ∙ position_configured limits (config_in w) config_sound k there.0)

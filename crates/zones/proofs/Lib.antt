@@ -1,10 +1,11 @@
 -- Laws that the proofs of the functions cite.
+pub mod Finding
 pub mod Records
 pub mod Blocks
 pub mod ConfigCheck
 pub mod Spans
 pub mod QuickCheck
-pub mod Merging
+pub mod Ranges
 pub mod Moves
 pub mod Opening
 pub mod Readers
@@ -18,6 +19,7 @@ pub mod Checking
 pub mod Owning
 pub mod Stored
 pub mod Forbidden
+pub mod Ruling
 pub mod Deciding
 pub mod Committing
 pub mod Stepping

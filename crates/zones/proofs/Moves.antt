@@ -1,15 +1,15 @@
--- The loops that move words down and clear them: up to a place the work is done, and from there on the words are as
+-- The loop that moves words down, and clearing: up to a place the work is done, and from there on the words are as
 -- they were.
 use Prim.Native.Nat.{ℕ, ◌+◌, ◌-◌, ◌≤◌, ◌<◌}
 use native.Mathlib.Omega.{arith}
 use mathlib.Core.List.{List, ◌++◌, append-nil}
 use mathlib.Core.Path.{◌≡◌, ap, ap₂, ◌∙◌}
-use lib.ListN.{length, get_or, drop, set, length-set, replicate, drop_of_length-le}
-use lib.Seq.{paste}
+use lib.ListN.{length, get_or, take, drop, set, length-set, length-take, length-drop, replicate, drop_of_length-le}
+use lib.Seq.{paste, drop-drop}
 use Rattle.lists.specs.Words.{closed, cleared}
-use Rattle.lists.proofs.Words.{move_on, clear_on, move_clear}
+use Rattle.lists.proofs.Words.{move_on, move_clear}
 
--- ---- the loops of `move_down` and `clear`; the moved words are as many
+-- ---- the loop of `move_down`; the moved words are as many
 module _ (d t : List ℕ) (at m e k : ℕ) where
   pub move_step : t ≡ paste d at (drop (at + m) d) (k - at) → at ≤ k → k < e - m → e ≤ length d
       → set t k (get_or t (k + m) 0) ≡ paste d at (drop (at + m) d) (k + 1 - at)
@@ -19,11 +19,16 @@ module _ (d t : List ℕ) (at m e k : ℕ) where
       → t ≡ paste d at (drop (at + m) d) (e - m - at)
   move_end inv h b = let f : k - at ≡ e - m - at = omega arith in inv ∙ ap (paste d at (drop (at + m) d)) f
 
-  pub clear_step : t ≡ cleared d at k → at ≤ k → k < e → e ≤ length d → set t k 0 ≡ cleared d at (k + 1)
-  clear_step inv h b q = clear_on d t at k inv h (omega arith)
-
-  pub clear_end : t ≡ cleared d at k → k ≤ e → e ≤ k → t ≡ cleared d at e
-  clear_end inv h b = let f : k ≡ e = omega arith in inv ∙ ap (cleared d at) f
+-- a part that is filled with zeros
+pub part_cleared : (d v : List ℕ) (at e : ℕ) → at ≤ e → e ≤ length d
+    → v ≡ replicate (length (take (e - at) (drop at d))) 0
+    → take at d ++ (v ++ drop (e - at) (drop at d)) ≡ cleared d at e
+unfolding cleared
+part_cleared d v at e h b q =
+    let m : length (take (e - at) (drop at d)) ≡ e - at = omega (arith, length-take (e - at) (drop at d), length-drop at d) in
+    let f : at + (e - at) ≡ e = omega arith in
+    ap₂ (λ (x y : List ℕ). take at d ++ (x ++ y)) (q ∙ ap (λ (n : ℕ). replicate n 0) m)
+    (drop-drop (e - at) at d ∙ ap (λ (n : ℕ). drop n d) f)
 
 pub gap_closed : (w u v : List ℕ) (at m e : ℕ) → at + m ≤ e → e ≤ length w
     → u ≡ paste w at (drop (at + m) w) (e - m - at) → v ≡ cleared u (e - m) e → v ≡ closed w at m e

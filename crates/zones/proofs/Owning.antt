@@ -6,11 +6,13 @@ use native.Mathlib.Omega.{arith}
 use mathlib.Core.Bool.{Bool, true, false, not, ◌&&◌, ◌||◌}
 use mathlib.Core.List.{List}
 use mathlib.Core.Logic.{◌⊎◌, inl, inr}
-use mathlib.Core.Path.{◌≡◌, refl, sym, ap, subst, ◌∙◌}
+use mathlib.Core.Path.{◌≡◌, sym, ap, subst, ◌∙◌}
 use borrow.Author.Tests.{eq-eqb, not-false}
 use lib.Dec.{eqb}
 use lib.ListN.{length, get_or, set}
 use lib.Seq.{get_or-set_same, get_or-set_other}
+use Rattle.std.specs.declared.option.Option.{Option}
+use Rattle.std.specs.declared.option.Option.TheVariants.{None, Some}
 use Rattle.lists.specs.First.{any}
 use Rattle.lists.proofs.Every.{any_at}
 use Rattle.lists.proofs.Pairs.{pairs_make}
@@ -26,90 +28,81 @@ use Rattle.rules.specs.declared.Side.TheVariants.{Cpu, Iommu}
 use Rattle.rules.proofs.Regions.{equal_same}
 use Rattle.rules.proofs.Tables.{one_position}
 use Rattle.zones.specs.Holding.{holds, held_once, held_at, held_apart}
-use Rattle.zones.specs.Layout.{config_records}
 use Rattle.zones.specs.Owners.{Owns, Has, Keeps, HasSet, HasZones}
-use Rattle.zones.specs.Records.{record_at}
 use Rattle.zones.specs.View.{config_in, ConfigPassed, record_in, set_in, zone_in, zones_in}
 use Rattle.zones.specs.Words.{Within}
 use Rattle.zones.proofs.Checking.{holds_sides, record_at_law, zone_at_law, zone_within, side_within}
-use Rattle.zones.proofs.ConfigReaders.{config_sound, region_is}
+use Rattle.zones.proofs.ConfigReaders.{config_sound}
 
 -- ---- what is somebody's stays so
-pub keeps_same : (o : List ℕ) → Keeps o o
+pub keeps_same : (o : List (Option ℕ)) → Keeps o o
 unfolding Keeps
-keeps_same o k h = refl
+keeps_same o k z h = h
 
-pub keeps_set : (o : List ℕ) (k x : ℕ) → get_or o k 0 ≡ 0 → Keeps o (set o k x)
+pub keeps_set : (o : List (Option ℕ)) (k : ℕ) (x : Option ℕ) → get_or o k None ≡ None → Keeps o (set o k x)
 unfolding Keeps
-keeps_set o k x e j h =
+keeps_set o k x e j z h =
     elim (ℕ_discrete j k) [
-      | yes q ↦ absurd (omega (arith, ap (λ (i : ℕ). get_or o i 0) q))
-      | no ne ↦ get_or-set_other o k j x 0 ne
+      | yes q ↦ (let no : None ≡ Some z = sym e ∙ ap (λ (i : ℕ). get_or o i None) (sym q) ∙ h in cc)
+      | no ne ↦ get_or-set_other o k j x None ne ∙ h
     ]
 
-pub keeps_on : (o p q : List ℕ) → Keeps o p → Keeps p q → Keeps o q
+pub keeps_on : (o p q : List (Option ℕ)) → Keeps o p → Keeps p q → Keeps o q
 unfolding Keeps
-keeps_on o p q a b k h = let l : get_or p k 0 ≡ get_or o k 0 = a k h in b k (omega arith) ∙ l
+keeps_on o p q a b k z h = b k z (a k z h)
 
 -- ---- one position
 module _ (c : Configuration) (z k : ℕ) where
-  pub owns_gic : (o : List ℕ) (g : ℕ) → g ≡ c.gic → k ≡ g → Owns c o z k
+  pub owns_gic : (o : List (Option ℕ)) (g : ℕ) → g ≡ c.gic → k ≡ g → Owns c o z k
   unfolding Owns
   owns_gic o g e q ne = absurd (ne (q ∙ e))
 
-  pub owns_mine : (o : List ℕ) (x : ℕ) → x ≡ z + 1 → get_or o k 0 ≡ x → Owns c o z k
+  pub owns_mine : (o : List (Option ℕ)) (x : ℕ) → get_or o k None ≡ Some x → x ≡ z → Owns c o z k
   unfolding Owns
-  owns_mine o x e q ne = q ∙ e
+  owns_mine o x q e ne = q ∙ ap Some e
 
-  pub owns_set : (o : List ℕ) (n : ℕ) → k < n → n ≤ most_regions → most_regions ≤ length o → Owns c (set o k (z + 1)) z k
+  pub owns_set : (o : List (Option ℕ)) → k < most_regions → most_regions ≤ length o → Owns c (set o k (Some z)) z k
   unfolding Owns
-  owns_set o n h l m ne = get_or-set_same o k (z + 1) 0 (omega arith)
+  owns_set o h l ne = get_or-set_same o k (Some z) None (omega arith)
 
-  owns_kept : (o p : List ℕ) → Keeps o p → Owns c o z k → Owns c p z k
+  owns_kept : (o p : List (Option ℕ)) → Keeps o p → Owns c o z k → Owns c p z k
   unfolding Owns Keeps
-  owns_kept o p a b ne = let e : get_or o k 0 ≡ z + 1 = b ne in a k (omega arith) ∙ e
+  owns_kept o p a b ne = a k z (b ne)
 
 -- ---- a set, record by record
 module _ (c : Configuration) (w : List ℕ) (z : ℕ) (s : Side) where
-  pub set_none : (o : List ℕ) → HasSet c w o z s 0
+  pub set_none : (o : List (Option ℕ)) → HasSet c w o z s 0
   unfolding HasSet
   set_none o i h = absurd (omega arith)
 
-  pub set_all : (o : List ℕ) (i n : ℕ) → HasSet c w o z s i → n ≡ length (set_in w z s) → n ≤ i
+  pub set_all : (o : List (Option ℕ)) (i n : ℕ) → HasSet c w o z s i → n ≡ length (set_in w z s) → n ≤ i
       → HasSet c w o z s (length (set_in w z s))
   unfolding HasSet
   set_all o i n has e h j l = has j (omega arith)
 
-  set_kept_owned : (o p : List ℕ) (n : ℕ) → Keeps o p → HasSet c w o z s n → HasSet c w p z s n
+  set_kept_owned : (o p : List (Option ℕ)) (n : ℕ) → Keeps o p → HasSet c w o z s n → HasSet c w p z s n
   unfolding HasSet Has
   set_kept_owned o p n a b i h = let (k, l, q, e) = b i h in (k, l, q, owns_kept c z k o p a e)
 
-module _ (v : List ℕ) (ok : ConfigPassed v) (w : List ℕ) (z : ℕ) (s : Side) where
-  pub set_more : (o p : List ℕ) (i k n : ℕ) (r : Region) (t : Bool) → HasSet (config_in v) w o z s i → Keeps o p
-      → n ≡ length (config_in v).regions → r ≡ record_in w z s i → k ≤ n → (k < n → r ≡ record_at v config_records k)
-      → (t ≡ true → (k < length (config_in v).regions) × Owns (config_in v) p z k) → not t ≡ false
-      → HasSet (config_in v) w p z s (i + 1)
+module _ (v w : List ℕ) (z : ℕ) (s : Side) where
+  pub set_more : (o p : List (Option ℕ)) (i k : ℕ) (r : Region) (t : Bool) → HasSet (config_in v) w o z s i → Keeps o p
+      → r ≡ record_in w z s i → k < length (config_in v).regions → r ≡ get_or (config_in v).regions k no_region
+      → (t ≡ true → Owns (config_in v) p z k) → t ≡ true → HasSet (config_in v) w p z s (i + 1)
   unfolding HasSet Has
-  set_more o p i k n r t has kept en er most there told f j h =
+  set_more o p i k r t has kept er l there told f j h =
       elim (dec_lt j i) [
         | yes a ↦ set_kept_owned (config_in v) w z s o p i kept has j a
         | no a ↦
-            (let (l, own) = told (not-false t f) in
-            let e : j ≡ i = omega arith in (
-              k,
-              l,
-              ap (record_in w z s) e ∙ sym er ∙ region_is v ok k r l (there (omega arith)),
-              own,
-            ))
+            (let e : j ≡ i = omega arith in (k, l, ap (record_in w z s) e ∙ sym er ∙ there, told f))
       ]
 
 -- ---- zone by zone
 module _ (c : Configuration) (w : List ℕ) where
-  pub zones_none : (o : List ℕ) → HasZones c w o 0
+  pub zones_none : (o : List (Option ℕ)) → HasZones c w o 0
   unfolding HasZones
   zones_none o z h = absurd (omega arith)
 
-  pub zones_more : (o p q : List ℕ) (z : ℕ) (a b : Bool) → HasZones c w o z → Keeps o p → Keeps p q
+  pub zones_more : (o p q : List (Option ℕ)) (z : ℕ) (a b : Bool) → HasZones c w o z → Keeps o p → Keeps p q
       → (a ≡ true → HasSet c w p z Cpu (length (set_in w z Cpu))) → not a ≡ false
       → (b ≡ true → HasSet c w q z Iommu (length (set_in w z Iommu))) → not b ≡ false → HasZones c w q (z + 1)
   unfolding HasZones
@@ -135,7 +128,7 @@ module _ (w : List ℕ) (z n : ℕ) (within : Within (zones_in w)) (h : z < n) (
   next_side s = side_within w z s within (omega arith)
 
 -- ---- what the pass shows
-module _ (v : List ℕ) (ok : ConfigPassed v) (w o : List ℕ) (m n : ℕ) (em : m ≡ length (zones_in w)) (every : m ≤ n)
+module _ (v : List ℕ) (ok : ConfigPassed v) (w : List ℕ) (o : List (Option ℕ)) (m n : ℕ) (em : m ≡ length (zones_in w)) (every : m ≤ n)
     (has : HasZones (config_in v) w o n) where
   -- a zone that holds a region has a position of it
   set_has : (z : ℕ) → z < m → (s : Side) (r : Region) → any (region_eq r) (set_in w z s) ≡ true → Has (config_in v) o z r
@@ -157,13 +150,13 @@ module _ (v : List ℕ) (ok : ConfigPassed v) (w o : List ℕ) (m n : ℕ) (em :
 
   -- so its position is that zone's
   owner : (k : ℕ) → k < length (config_in v).regions → (k ≡ (config_in v).gic → ⊥) → (z : ℕ) → z < m
-      → holds (get_or (config_in v).regions k no_region) (get_or (zones_in w) z no_zone) ≡ true → get_or o k 0 ≡ z + 1
+      → holds (get_or (config_in v).regions k no_region) (get_or (zones_in w) z no_zone) ≡ true → get_or o k None ≡ Some z
   unfolding Has Owns
   owner k h ne z l e =
       let r : Region = get_or (config_in v).regions k no_region in
       let (j, lj, q, own) = zone_has z l r (ap (holds r) (sym (zone_at_law w z (omega arith))) ∙ e) in
       let same : k ≡ j = one_position limits (config_in v) (config_sound v ok) k j h lj q in
-      ap (λ (i : ℕ). get_or o i 0) same ∙ own (λ g. ne (same ∙ g))
+      ap (λ (i : ℕ). get_or o i None) same ∙ own (λ g. ne (same ∙ g))
 
   pub owned_apart : held_apart (config_in v) (zones_in w) ≡ true
   unfolding held_apart held_at held_once
@@ -181,10 +174,7 @@ module _ (v : List ℕ) (ok : ConfigPassed v) (w o : List ℕ) (m n : ℕ) (em :
           pairs_make (λ (y z : Zone). not (holds r y && holds r z)) (zones_in w) no_zone
           (λ y z a b. not_fails _ (false_of _ (λ q.
           let both = both_true (holds r (get_or (zones_in w) y no_zone)) _ q in
-          let e : get_or o k 0 ≡ y + 1 = owner k h ne y (omega arith) both.0 in
-          let f : get_or o k 0 ≡ z + 1 = owner k h ne z (omega arith) both.1 in
+          let e : get_or o k None ≡ Some y = owner k h ne y (omega arith) both.0 in
+          let f : get_or o k None ≡ Some z = owner k h ne z (omega arith) both.1 in
+          let one : y ≡ z = cc in
           omega arith)))
-
-pub held_told : (c : Configuration) (t : List Zone) (b : Bool) → (b ≡ true → held_apart c t ≡ true) → b ≡ true
-    → true ≡ held_apart c t
-held_told c t b told e = sym (told e)

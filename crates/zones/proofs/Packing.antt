@@ -8,7 +8,6 @@ use mathlib.Core.Path.{◌≡◌, refl, sym, ap, ap₂, ◌∙◌}
 use borrow.Author.Tests.{leb-true}
 use lib.Dec.{leb}
 use lib.ListN.{length, get_or}
-use lib.Seq.{sets}
 use Rattle.lists.specs.First.{all}
 use Rattle.lists.specs.Places.{places}
 use Rattle.lists.specs.Words.{part}
@@ -137,3 +136,8 @@ module _ (w : List ℕ) (len : length w ≡ table_words) where
       };
       words = sym (part_all table_words w len) ∙ table_part;
     }
+
+-- every zone below n
+pub every_packed : (w : List ℕ) (n : ℕ) (r : Bool) → r ≡ all (zone_packed w) (places 0 (n - 0))
+    → r ≡ all (zone_packed w) (places 0 n)
+every_packed w n r e = let z : n - 0 ≡ n = omega arith in e ∙ ap (λ (m : ℕ). all (zone_packed w) (places 0 m)) z

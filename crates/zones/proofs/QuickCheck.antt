@@ -26,7 +26,7 @@ use Rattle.lists.proofs.Places.{places_step, places_end, get_d_tab}
 use Rattle.lists.proofs.Rules.{rules_past}
 use Rattle.lists.proofs.Tests.{parts, not_fails}
 use Rattle.rules.specs.Configuration.{position_rules}
-use Rattle.rules.specs.Limits.{page, phys_reach, most_regions, limits}
+use Rattle.rules.specs.Limits.{phys_reach, most_regions, limits}
 use Rattle.rules.specs.Regions.{well_formed, in_reach, phys_overlap, region_eq, no_region}
 use Rattle.rules.specs.declared.Checked.{Checked}
 use Rattle.rules.specs.declared.Checked.TheVariants.{Sound}
@@ -233,26 +233,14 @@ module _ (lo hi : ℕ) (h : lo < hi) where
   pub mid_within : (n : ℕ) → hi ≤ n → lo + (hi - lo) / 2 ≤ n
   mid_within n l = omega (arith, mid_low)
 
-  pub mid_there : (n m : ℕ) → hi ≤ n → n ≤ m → lo + (hi - lo) / 2 < m
-  mid_there n m l k = omega (arith, mid_low)
-
   pub mid_fits : (n : ℕ) → hi ≤ n → n ≤ most_regions → Fits w64 (lo + (hi - lo) / 2)
   mid_fits n l m = omega (arith, mid_low)
-
-  pub past_fits : (n : ℕ) → hi ≤ n → n ≤ most_regions → Fits w64 (lo + (hi - lo) / 2 + 1)
-  past_fits n l m = omega (arith, mid_low)
 
   pub mid_most : (n : ℕ) → hi ≤ n → n ≤ most_regions → lo + (hi - lo) / 2 ≤ most_regions
   mid_most n l m = omega (arith, mid_low)
 
   pub mid_below : lo + (hi - lo) / 2 ≤ hi
   mid_below = omega (arith, mid_low)
-
-  pub past_below : lo + (hi - lo) / 2 + 1 ≤ hi
-  past_below = omega (arith, mid_low)
-
-  pub past_less : hi - (lo + (hi - lo) / 2 + 1) < hi - lo
-  past_less = omega (arith, mid_low)
 
   pub lower_less : lo + (hi - lo) / 2 - lo < hi - lo
   lower_less = omega (arith, mid_low)
@@ -267,8 +255,8 @@ pub fit_mid : (w : List ℕ) (lo hi n : ℕ) → FitBelow w n → 1 < hi - lo �
 fit_mid w lo hi n fit h l = fit_fewer w (lo + (hi - lo) / 2) n fit (mid_within lo hi (omega arith) n l)
 
 -- ---- a region that was compared
-pub place_told : (r e x : Region) (t : Bool) → t ≡ region_eq r e → not t ≡ false → e ≡ x → r ≡ x
-place_told r e x t q f g = equal_same r e (sym q ∙ not-false t f) ∙ g
+pub place_told : (r e x : Region) (t : Bool) → t ≡ region_eq r e → t ≡ true → e ≡ x → r ≡ x
+place_told r e x t q f g = equal_same r e (sym q ∙ f) ∙ g
 
 -- ---- the answer: that of the positions from i on
 pub answer_from : (w : List ℕ) (i n : ℕ) (v : Checked) → ClearBelow w i → i ≤ n

@@ -1,6 +1,6 @@
 -- A reader returns the word at its place, which is what the view has there; a search returns the first index, since
 -- what is left gives the whole answer.
-use Prim.Native.Nat.{ℕ, ◌+◌, ◌≤◌, ◌<◌}
+use Prim.Native.Nat.{ℕ, ◌+◌, ◌-◌, ◌≤◌, ◌<◌}
 use native.Mathlib.Decide.{dec_lt}
 use native.Mathlib.Omega.{arith}
 use mathlib.Core.Bool.{Bool, true, false}
@@ -8,7 +8,10 @@ use mathlib.Core.List.{List}
 use mathlib.Core.Path.{◌≡◌, refl, sym, ap, ap₂, ◌∙◌}
 use borrow.Author.Tests.{eq-eqb, ne_eqb, lt-ltb, le-ltb}
 use lib.ListN.{length, get_or}
-use Rattle.lists.specs.First.{first_index, first_from}
+use Rattle.std.specs.Prelude.{position}
+use Rattle.std.specs.declared.option.Option.{Option}
+use Rattle.lists.specs.First.{first_from}
+use Rattle.lists.specs.Places.{places}
 use Rattle.lists.proofs.Places.{length_tab, first_hit, first_on, first_end}
 use Rattle.rules.specs.Limits.{most_zones}
 use Rattle.rules.specs.Tables.{has_id}
@@ -18,6 +21,7 @@ use Rattle.rules.specs.declared.Side.TheVariants.{Cpu, Iommu}
 use Rattle.zones.specs.Layout.{set_words, table_words, zone_base, zone_start, set_base, record_base}
 use Rattle.zones.specs.Records.{region_at, record_at, records_at}
 use Rattle.zones.specs.View.{record_in, set_in, zone_in, zones_in}
+use Rattle.zones.proofs.Finding.{position_tab}
 
 pub base_cpu : (z b : ℕ) (s : Side) → b ≡ zone_base z → z < most_zones → s ≡ Cpu
     → (b + 1 ≡ set_base z s) × (b + 1 + set_words ≤ table_words)
@@ -77,12 +81,21 @@ module _ (w : List ℕ) where
   record_word z s i b k r e g h = h ∙ ap (region_at w) (g ∙ ap (λ (c : ℕ). record_base c i) e)
 
 -- ---- what is found among the records of a set is found in the set
-pub set_records : (w : List ℕ) (z : ℕ) (s : Side) (p : Region → Bool) (b n k : ℕ) → b ≡ set_base z s
-    → n ≡ length (set_in w z s) → k ≡ first_index p (records_at w (b + 1) n) → k ≡ first_index p (set_in w z s)
+pub set_records : (w : List ℕ) (z : ℕ) (s : Side) (p : Region → Bool) (b n : ℕ) (k : Option ℕ) → b ≡ set_base z s
+    → n ≡ length (set_in w z s) → k ≡ position p (records_at w (b + 1) n) → k ≡ position p (set_in w z s)
 unfolding set_in records_at
 set_records w z s p b n k e g h =
-    h ∙ ap₂ (λ (x y : ℕ). first_index p (records_at w (x + 1) y)) e
+    h ∙ ap₂ (λ (x y : ℕ). position p (records_at w (x + 1) y)) e
     (g ∙ length_tab (get_or w (set_base z s) 0) (record_at w (set_base z s + 1)))
+
+-- the zone that is found by its id
+pub zone_by_id : (w : List ℕ) (id n : ℕ) (k : Option ℕ) → n ≡ length (zones_in w)
+    → k ≡ position (λ (i : ℕ). has_id id (zone_in w i)) (places 0 (n - 0)) → k ≡ position (has_id id) (zones_in w)
+unfolding zones_in
+zone_by_id w id n k e h =
+    let m : n - 0 ≡ get_or w 0 0 = omega (arith, e ∙ length_tab (get_or w 0 0) (zone_in w)) in
+    h ∙ ap (λ (j : ℕ). position (λ (i : ℕ). has_id id (zone_in w i)) (places 0 j)) m
+    ∙ position_tab (has_id id) (zone_in w) (get_or w 0 0)
 
 -- ---- a loop over the zones: e is the id that was read, r the whole answer
 module _ (w : List ℕ) (id n i r : ℕ) where

@@ -10,16 +10,14 @@ use lib.Seq.{get_or-append-add, sets}
 use borrow.Author.Tests.{le-leb, lt-leb}
 use Rattle.lists.specs.First.{first_from}
 use Rattle.lists.specs.Words.{part}
-use Rattle.lists.proofs.Places.{first_hit, first_on, first_end}
+use Rattle.lists.proofs.Places.{length_tab, first_hit, first_on, first_end}
 use Rattle.lists.proofs.Words.{part_tab}
 use Rattle.rules.specs.Fields.{numbers_of, region_of}
 use Rattle.rules.specs.Regions.{region_eq, no_region}
 use Rattle.rules.specs.declared.Region.{Region}
 use Rattle.rules.proofs.Fields.{numbers_many, numbers_by, numbers_none, by_numbers}
-use Rattle.zones.specs.Alike.{alike_by}
 use Rattle.zones.specs.Layout.{region_words}
 use Rattle.zones.specs.Records.{region_at, words_of_region, record_at, records_at, placed, holds_at}
-use Rattle.zones.specs.declared.words.By.{By}
 
 pub read_record : (w : List ℕ) (k : ℕ)
     → region_of (get_or w k 0) (get_or w (k + 1) 0) (get_or w (k + 2) 0) (get_or w (k + 3) 0) ≡ region_at w k
@@ -31,6 +29,10 @@ read_record w k =
 pub record_read : (w : List ℕ) (b i : ℕ) (e : Region) → e ≡ region_at w (b + i * region_words) → e ≡ record_at w b i
 unfolding record_at
 record_read w b i e h = h
+
+pub records_many : (w : List ℕ) (b n : ℕ) → length (records_at w b n) ≡ n
+unfolding records_at
+records_many w b n = length_tab n (record_at w b)
 
 module _ (w : List ℕ) (b n i r : ℕ) (p : Region → Bool) (e : Region) (t : Bool) where
   pub record_hit : first_from p (records_at w b n) i ≡ r → i < n → e ≡ record_at w b i → t ≡ p e → t ≡ true → i ≡ r
@@ -45,10 +47,6 @@ module _ (w : List ℕ) (b n i r : ℕ) (p : Region → Bool) (e : Region) (t : 
 pub record_end : (w : List ℕ) (b n i r : ℕ) (p : Region → Bool) → first_from p (records_at w b n) i ≡ r → n ≤ i → i ≡ r
 unfolding records_at
 record_end w b n i r p inv h = first_end p (record_at w b) n i r inv h
-
--- by what the match told
-pub alike_told : (by how : By) (r e : Region) (t : Bool) → by ≡ how → t ≡ alike_by how r e → t ≡ alike_by by r e
-alike_told by how r e t q h = h ∙ ap (λ (b : By). alike_by b r e) (sym q)
 
 -- ---- the words of a record
 pub region_stored : (w : List ℕ) (k : ℕ) (r : Region)

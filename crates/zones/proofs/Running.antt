@@ -85,22 +85,11 @@ module _ (b : List ℕ) (at e : ℕ) where
       let region : region_in (take (e - at) (drop at b)) 8 ≡ region_in b (at + 8) = own_region 8 (omega arith) in
       g ∙ (λ i. make_request (kind i) (zone i) (region i))
 
-  pub request_room : at + request_size ≤ e → e ≤ length b → request_size ≤ length (take (e - at) (drop at b))
-  request_room h l = omega (arith, length-take (e - at) (drop at b), length-drop at b)
-
--- a region and a request, from what is read of their own bytes
+-- a region, from what is read of its own bytes
 pub bytes_read : (b : List ℕ) (v p size rights : ℕ) → v ≡ little (part 0 8 b) → p ≡ little (part 8 8 b)
     → size ≡ little (part 16 8 b) → rights ≡ little (part 24 8 b) → region_of v p size rights ≡ region_in b 0
 unfolding region_in
 bytes_read b v p size rights ev ep es er = λ i. region_of (ev i) (ep i) (es i) (er i)
-
-pub request_read : (b : List ℕ) (kind zone : ℕ) (r : Region) (q : Request) → kind ≡ little (part 0 4 b)
-    → zone ≡ little (part 4 4 b) → r ≡ region_in (take (request_size - 8) (drop 8 b)) 0
-    → q ≡ make_request kind zone r → q ≡ request_from b 0
-unfolding request_from
-request_read b kind zone r q ek ez er e =
-    let region : r ≡ region_in b 8 = er ∙ region_within b 8 request_size (omega arith) in
-    e ∙ (λ i. make_request (ek i) (ez i) (region i))
 
 -- ---- a step leaves a table that is ready for the next
 module _ (c w u : List ℕ) (q : Request) (r : Ready c w) (e : u ≡ words_of (next limits (config_in c) (zones_in w) q)) where

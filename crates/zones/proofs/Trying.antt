@@ -5,10 +5,10 @@ use native.Mathlib.Decide.{ℕ_discrete}
 use native.Mathlib.Omega.{arith}
 use mathlib.Core.Bool.{Bool, true, false, cond}
 use mathlib.Core.List.{List, [], ◌∷◌, ◌++◌}
-use mathlib.Core.Logic.{⊎_elim}
 use mathlib.Core.Path.{◌≡◌, refl, sym, ap, ap₂, subst, transport, ◌∙◌}
 use borrow.Author.Tests.{ltb-true, ltb-false, leb-false, le-ltb, lt-ltb, not-false, eqb-true, eq-eqb, ne_eqb}
 use lib.Dec.{ltb, eqb}
+use Rattle.std.specs.Prelude.{Ok, Err}
 use lib.ListN.{length, get_or, set, length-append, length-set}
 use lib.Seq.{get_or-set_same, get_or-set_other, set-set}
 use Rattle.lists.specs.First.{first_index}
@@ -22,6 +22,7 @@ use Rattle.rules.specs.Applying.{plain}
 use Rattle.rules.specs.Changes.{region_set, with_side, put_set, added, pushed, cut, dropped}
 use Rattle.rules.specs.Configuration.{Configuration}
 use Rattle.rules.specs.Limits.{most_zones, highest_id, most_in_set, most_requests, limits}
+use Rattle.rules.specs.Numbers.{number}
 use Rattle.rules.specs.Regions.{no_region, region_eq}
 use Rattle.rules.specs.Requests.{find, present, holds_any, add_rules, remove_zone_rules, region_rules, set_rules}
 use Rattle.rules.specs.Requests.{insert_rules, remove_rules, kind_rules, no_request, request_rules, refusal, after, next}
@@ -33,6 +34,7 @@ use Rattle.rules.specs.declared.Kind.TheVariants.{AddZone, RemoveZone, Insert, R
 use Rattle.rules.specs.declared.Outcome.{Outcome}
 use Rattle.rules.specs.declared.Region.{Region}
 use Rattle.rules.specs.declared.Request.{Request}
+use Rattle.rules.specs.declared.refusal.Refusal.{Refusal}
 use Rattle.rules.specs.declared.Side.{Side}
 use Rattle.rules.specs.declared.Side.TheVariants.{Cpu, Iommu}
 use Rattle.rules.proofs.Regions.{equal_same}
@@ -40,24 +42,21 @@ use Rattle.rules.proofs.Requests.{none_applies}
 use Rattle.lists.proofs.Rules.{test_of, above_zero}
 use Rattle.lists.specs.First.{all}
 use Rattle.zones.specs.Decide.{decided_add, decided_drop, decided_insert, decided_cut, decided_kind, decided, changed}
-use Rattle.zones.specs.Decide.{change_number, Allowed, Ready}
+use Rattle.zones.specs.Decide.{Allowed, Ready}
 use Rattle.zones.specs.Trial.{trial_answer, note_of, Undoable, Before, asks, tried, Trail, Noted, WithoutRegion}
 use Rattle.zones.specs.Trial.{WithoutZone}
 use Rattle.zones.specs.View.{config_in, zones_in, set_in, stored_config, stored_table}
 use Rattle.zones.specs.Words.{words_of, Within, Packed}
 use Rattle.zones.specs.declared.decide.Change.{Change}
-use Rattle.zones.specs.declared.decide.Change.TheVariants.{Refuse, Add, Drop, Push, Cut}
+use Rattle.zones.specs.declared.decide.Change.TheVariants.{Add, Drop, Push, Cut}
 use Rattle.zones.proofs.Focus.{put_same, view_words, words_packed}
 use Rattle.zones.proofs.Running.{ready_on, Left, run_on, run_stops, run_ends, after_within}
-use Rattle.zones.proofs.Stepping.{refused_or_made, decided_number, decided_table, stands_same}
+use Rattle.zones.proofs.Ruling.{passed, number_some}
+use Rattle.zones.proofs.Stepping.{decided_none, decided_table, refused_number, refused_table, stands_same}
 use Rattle.zones.proofs.Writers.{set_in_law}
 
 -- ---- what is noted
 module _ (ch : Change) where
-  pub note_refuse : (n : ℕ) → ch ≡ Refuse n → 0 ≡ note_of ch
-  unfolding note_of
-  note_refuse n e = rw e refl
-
   pub note_add : (id : ℕ) → ch ≡ Add id → 0 ≡ note_of ch
   unfolding note_of
   note_add id e = rw e refl
@@ -337,57 +336,53 @@ empty_zone_law id t h none =
 found : (id : ℕ) (t : List Zone) → present id t ≡ true → find id t < length t
 found id t e = ltb-true _ _ (sym (any_first (has_id id) t) ∙ e)
 
-kind_undoable : (c : Configuration) (t : List Zone) (k : Kind) (id : ℕ)
-    → first_rule (request_rules limits c k id t) 0 ≡ 0 → Undoable k id (note_of (decided_kind c k id t)) t
+kind_undoable : (c : Configuration) (t : List Zone) (k : Kind) (id : ℕ) (ch : Change) → Ok ch ≡ decided_kind c k id t
+    → first_rule (request_rules limits c k id t) 0 ≡ 0 → Undoable k id (note_of ch) t
 unfolding Undoable note_of decided_kind decided_add decided_drop decided_insert decided_cut request_rules kind_rules add_rules
     remove_zone_rules insert_rules region_rules set_rules remove_rules no_request after above_zero all first_rule test_of
-kind_undoable c t AddZone id z = leb-false _ _ (none_applies limits c AddZone id t z 7)
-kind_undoable c t RemoveZone id z =
+kind_undoable c t AddZone id ch e z = leb-false _ _ (none_applies limits c AddZone id t z 7)
+kind_undoable c t RemoveZone id ch e z =
     let q = none_applies limits c RemoveZone id t z in
     let h : find id t < length t = found id t (not-false _ (q 6)) in
-    subst (λ (ch : Change). (find id t ≡ note_of ch)
-    × ((note_of ch < length t) × (get_or t (note_of ch) no_zone ≡ empty_zone id)))
-    (sym (⊎_elim (λ (ne, e). absurd (ne z)) (λ (y, e). e)
-    (refused_or_made (4 when ltb highest_id id ∷ remove_zone_rules id t) (Drop (find id t)) refl)))
+    subst (λ (x : Change). (find id t ≡ note_of x)
+    × ((note_of x < length t) × (get_or t (note_of x) no_zone ≡ empty_zone id)))
+    (sym (passed (4 when ltb highest_id id ∷ remove_zone_rules id t) (Drop (find id t)) ch e).1)
     (refl, (h, empty_zone_law id t h (q 8)))
-kind_undoable c t (Insert s r) id z =
+kind_undoable c t (Insert s r) id ch e z =
     let q = none_applies limits c (Insert s r) id t z in
     (found id t (not-false _ (q 6)), leb-false _ _ (q 16))
-kind_undoable c t (Remove s r) id z =
+kind_undoable c t (Remove s r) id ch e z =
     let q = none_applies limits c (Remove s r) id t z in
     let xs : List Region = region_set t (find id t) s in
     let i : ℕ = first_index (region_eq r) xs in
     let h : i < length xs = ltb-true _ _ (sym (any_first (region_eq r) xs) ∙ not-false _ (q 17)) in
-    subst (λ (ch : Change). (find id t < length t)
-    × ((note_of ch < length xs)
-    × ((get_or xs (note_of ch) no_region ≡ r) × (cut (find id t) s i t ≡ cut (find id t) s (note_of ch) t))))
-    (sym (⊎_elim (λ (ne, e). absurd (ne z)) (λ (y, e). e)
-    (refused_or_made (4 when ltb highest_id id ∷ remove_rules id s r t) (Cut (find id t) s i) refl))) (
+    subst (λ (x : Change). (find id t < length t)
+    × ((note_of x < length xs)
+    × ((get_or xs (note_of x) no_region ≡ r) × (cut (find id t) s i t ≡ cut (find id t) s (note_of x) t))))
+    (sym (passed (4 when ltb highest_id id ∷ remove_rules id s r t) (Cut (find id t) s i) ch e).1) (
       found id t (not-false _ (q 6)),
       (h, (sym (equal_same r (get_or xs i no_region) (first_passes (region_eq r) xs no_region h)), refl)),
     )
-kind_undoable c t NoRequest id z = omega arith
+kind_undoable c t NoRequest id ch e z = omega arith
 
 -- what is noted fits a byte
-pub note_small : (c : Configuration) (t : List Zone) (q : Request) (d : Change) → d ≡ decided c t q → Allowed d t
-    → Within t → note_of d < 256
+pub note_small : (t : List Zone) (d : Change) → Allowed d t → Within t → note_of d < 256
 unfolding note_of Allowed
-note_small c t q (Refuse n) e a w = omega arith
-note_small c t q (Add id) e a w = omega arith
-note_small c t q (Drop z) e a w = let few : length t ≤ most_zones = w.zones in omega arith
-note_small c t q (Push z s r) e a w = omega arith
-note_small c t q (Cut z s i) e a w = let few : length (region_set t z s) ≤ most_in_set = w.sets z s a.0 in omega arith
+note_small t (Add id) a w = omega arith
+note_small t (Drop z) a w = let few : length t ≤ most_zones = w.zones in omega arith
+note_small t (Push z s r) a w = omega arith
+note_small t (Cut z s i) a w = let few : length (region_set t z s) ≤ most_in_set = w.sets z s a.0 in omega arith
 
 -- ---- the trail of a run
 module _ (c : List ℕ) (b : List Zone) (r notes w : List ℕ) (i : ℕ) (trail : Trail b r notes i w) where
   here : zones_in w ≡ tried r b i
   here = ap zones_in trail.words ∙ view_words (tried r b i) (trail.within i (omega arith))
 
-  module _ (q : Request) (d : Change) (m k : ℕ) (u : List ℕ) (ready : Ready c w) (eq : q ≡ asks r i)
-      (ed : d ≡ decided (config_in c) (zones_in w) q) (em : m ≡ note_of d) (ek : k ≡ change_number d)
-      (eu : u ≡ words_of (changed d (zones_in w))) (none : k ≡ 0) (room : i < length notes) where
+  module _ (q : Request) (d : Change) (m : ℕ) (u : List ℕ) (ready : Ready c w) (eq : q ≡ asks r i)
+      (ed : Ok d ≡ decided (config_in c) (zones_in w) q) (em : m ≡ note_of d)
+      (eu : u ≡ words_of (changed d (zones_in w))) (room : i < length notes) where
     accepted : refusal limits (config_in c) (zones_in w) q ≡ 0
-    accepted = sym (decided_number (config_in c) (zones_in w) q d ed k ek) ∙ none
+    accepted = sym (decided_none (config_in c) (zones_in w) q (Ok d) ed d refl)
 
     next_after : next limits (config_in c) (zones_in w) q ≡ after q.kind q.zone (zones_in w)
     unfolding next
@@ -395,7 +390,7 @@ module _ (c : List ℕ) (b : List Zone) (r notes w : List ℕ) (i : ℕ) (trail 
         ap (λ (x : Bool). cond x (after q.kind q.zone (zones_in w)) (zones_in w)) (eq-eqb _ 0 accepted)
 
     left : u ≡ words_of (next limits (config_in c) (zones_in w) q)
-    left = decided_table (config_in c) (zones_in w) q d ed u eu
+    left = eu ∙ ap words_of (decided_table (config_in c) (zones_in w) q (Ok d) ed d refl)
 
     one_more_law : after q.kind q.zone (zones_in w) ≡ tried r b (suc i)
     unfolding tried
@@ -405,8 +400,7 @@ module _ (c : List ℕ) (b : List Zone) (r notes w : List ℕ) (i : ℕ) (trail 
     unfolding refusal decided
     undoable =
         let f : Undoable q.kind q.zone (note_of d) (zones_in w) =
-        subst (λ (x : Change). Undoable q.kind q.zone (note_of x) (zones_in w)) (sym ed)
-        (kind_undoable (config_in c) (zones_in w) q.kind q.zone accepted) in
+        kind_undoable (config_in c) (zones_in w) q.kind q.zone d ed accepted in
         let n : note_of d ≡ get_or (set notes i m) i 0 = sym em ∙ sym (get_or-set_same notes i m 0 room) in
         transport (λ j. Undoable (eq j).kind (eq j).zone (n j) (here j)) f
 
@@ -430,16 +424,6 @@ module _ (c : List ℕ) (b : List Zone) (r notes w : List ℕ) (i : ℕ) (trail 
               ];
         })
 
-  -- the notes past it do not matter
-  pub trail_noted : (m : ℕ) → Trail b r (set notes i m) i w
-  trail_noted m = record {
-    words = trail.words;
-    within = trail.within;
-    each =
-        λ j h. subst (λ (n : ℕ). Undoable (asks r j).kind (asks r j).zone n (tried r b j))
-        (sym (get_or-set_other notes i j m 0 (λ e. omega arith))) (trail.each j h);
-  }
-
 pub trail_none : (r notes t : List ℕ) → Packed t → Trail (zones_in t) r notes 0 t
 unfolding tried
 trail_none r notes t p = record {
@@ -449,44 +433,39 @@ trail_none r notes t p = record {
 }
 
 -- ---- the loop that notes: R is the whole run, and the notes are those of the requests so far
-module _ (c t₀ r notes w u : List ℕ) (n i m k : ℕ) (q : Request) (d : Change) (R : Run) (ready : Ready c w)
-    (more : i < n) (left_over : Left c (asks r) n R w i) (trail : Trail (zones_in t₀) r notes i w) (room : i < length notes)
-    (eq : q ≡ asks r i) (ed : d ≡ decided (config_in c) (zones_in w) q) (em : m ≡ note_of d)
-    (eu : u ≡ words_of (changed d (zones_in w))) (ek : k ≡ change_number d) where
-  number_so : k ≡ refusal limits (config_in c) (zones_in w) q
-  number_so = decided_number (config_in c) (zones_in w) q d ed k ek
+module _ (c t₀ r notes w : List ℕ) (n i : ℕ) (q : Request) (R : Run) (ready : Ready c w)
+    (more : i < n) (left_over : Left c (asks r) n R w i) (trail : Trail (zones_in t₀) r notes i w)
+    (eq : q ≡ asks r i) where
+  module _ (u : List ℕ) (m : ℕ) (d : Change) (room : i < length notes) (ed : Ok d ≡ decided (config_in c) (zones_in w) q)
+      (em : m ≡ note_of d) (eu : u ≡ words_of (changed d (zones_in w))) where
+    words_so : u ≡ words_of (next limits (config_in c) (zones_in w) q)
+    words_so = eu ∙ ap words_of (decided_table (config_in c) (zones_in w) q (Ok d) ed d refl)
 
-  words_so : u ≡ words_of (next limits (config_in c) (zones_in w) q)
-  words_so = decided_table (config_in c) (zones_in w) q d ed u eu
-
-  pub noting_on : k ≡ 0
-      → (Ready c u × Left c (asks r) n R u (i + 1)) × Trail (zones_in t₀) r (set notes i m) (i + 1) u
-  noting_on none = (
-    (
-      ready_on c w u q ready words_so,
-      run_on c (asks r) n R w u i k q left_over more eq number_so words_so ready none,
-    ),
-    trail_on c (zones_in t₀) r notes w i trail q d m k u ready eq ed em ek eu none room,
-  )
+    pub noting_on : (Ready c u × Left c (asks r) n R u (i + 1)) × Trail (zones_in t₀) r (set notes i m) (i + 1) u
+    noting_on = (
+      (
+        ready_on c w u q ready words_so,
+        run_on c (asks r) n R w u i 0 q left_over more eq
+            (decided_none (config_in c) (zones_in w) q (Ok d) ed d refl) words_so ready refl,
+      ),
+      trail_on c (zones_in t₀) r notes w i trail q d m u ready eq ed em eu room,
+    )
 
   -- a refused request leaves the words as they were
-  same_words : (k ≡ 0 → ⊥) → u ≡ w
-  unfolding next
-  same_words ne =
-      words_so
-      ∙ ap (λ (x : Bool). words_of (cond x (after q.kind q.zone (zones_in w)) (zones_in w)))
-      (ne_eqb _ 0 (λ z. ne (number_so ∙ z)))
-      ∙ sym ready.words.words
-
-  pub noting_stops : (k ≡ 0 → ⊥) → R ≡ run limits (config_in c) (zones_in t₀) (requests_in r) → n ≡ length r / request_size
-      → Noted c t₀ r (record { number = 27; place = i; inner = k }) u (set notes i m)
-  noting_stops ne er en = record {
-    answer = run_stops c (asks r) n R w u i k q left_over more eq number_so words_so ne ∙ ap ended er;
-    few = omega arith;
-    trail =
-        subst (Trail (zones_in t₀) r (set notes i m) i) (sym (same_words ne))
-        (trail_noted c (zones_in t₀) r notes w i trail m);
-  }
+  pub noting_stops : (e : Refusal) → Err (number e) ≡ decided (config_in c) (zones_in w) q
+      → R ≡ run limits (config_in c) (zones_in t₀) (requests_in r) → n ≡ length r / request_size
+      → Noted c t₀ r (record { number = 27; place = i; inner = number e }) w notes
+  noting_stops e ed er en =
+      let stay : w ≡ words_of (next limits (config_in c) (zones_in w) q) =
+      ready.words.words ∙ ap words_of (refused_table (config_in c) (zones_in w) q (Err e) ed e refl) in
+      record {
+        answer =
+            run_stops c (asks r) n R w w i (number e) q left_over more eq
+            (refused_number (config_in c) (zones_in w) q (Err e) ed e refl) stay (number_some e)
+            ∙ ap ended er;
+        few = omega arith;
+        trail = trail;
+      }
 
 pub noting_ends : (c t₀ r notes w : List ℕ) (n i : ℕ) (R : Run) → Left c (asks r) n R w i
     → Trail (zones_in t₀) r notes i w → n ≤ i → i ≤ n → R ≡ run limits (config_in c) (zones_in t₀) (requests_in r)

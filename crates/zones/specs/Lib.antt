@@ -2,7 +2,6 @@
 pub mod Layout
 pub mod Moves
 pub mod Records
-pub mod Alike
 pub mod View
 pub mod Spans
 pub mod Words

@@ -19,7 +19,7 @@ use Rattle.rules.specs.declared.Side.{Side}
 use Rattle.zones.specs.View.{config_in, zones_in}
 use Rattle.zones.specs.Words.{words_of, Within}
 use Rattle.zones.specs.declared.decide.Change.{Change}
-use Rattle.zones.specs.declared.decide.Change.TheVariants.{Refuse, Add, Drop, Push, Cut}
+use Rattle.zones.specs.declared.decide.Change.TheVariants.{Add, Drop, Push, Cut}
 
 -- 1 or 2; 29, where there are more requests than a plan may have; then 27 or 0, as their run ends
 unfoldable pub trial_answer : Limits → StoredConfig → StoredTable → List Request → Outcome
@@ -32,7 +32,6 @@ trial_answer l c t qs =
 
 -- ---- what is noted of a change: the position of the zone or of the region that goes
 unfoldable pub note_of : Change → ℕ
-note_of (Refuse n) = 0
 note_of (Add id) = 0
 note_of (Drop z) = z
 note_of (Push z s r) = 0

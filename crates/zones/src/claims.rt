@@ -2,23 +2,22 @@
 ghost use Rattle.std.specs.Prelude.{◌≡◌};
 ghost use Rattle.rules.specs.Limits.{limits};
 ghost use Rattle.rules.specs.Logs.{claimless, false_claim, audit_from, claims_in};
+ghost use Rattle.rules.specs.Numbers.{code};
 ghost use Rattle.rules.specs.Run.{requests_in};
 ghost use Rattle.zones.specs.Audit.{AuditedIn};
 ghost use Rattle.zones.specs.Decide.{Ready};
 ghost use Rattle.zones.specs.View.{config_in, zones_in};
 ghost use Rattle.zones.specs.Words.{words_of};
 
-use crate::commit::{commit, number};
-use crate::decide::decide;
+use crate::commit::commit;
+use crate::decide::{Change, decide};
 use crate::layout::{CONFIG_WORDS, TABLE_WORDS};
 use crate::run::request_at;
-use crate::sort::least;
 use crate::sound::standing;
-use crate::words::count_words;
 use fields::u32_at;
 use rules::numbers::FALSE_CLAIM;
 use rules::widths::{REQUEST_BYTES, SHORT_BYTES};
-use rules::{LogAnswer, Outcome};
+use rules::{LogAnswer, Outcome, Refusal};
 
 // As many claims as there are requests and claims wholly there. A refused request leaves the table and stops nothing; the first false claim
 // does, and the table is then what the requests before it made of it.
@@ -30,11 +29,9 @@ pub fn audit_in(
 ) -> LogAnswer
     ensures { AuditedIn c.now t.old requests.now claims.now result t.new }
 {
-    let n = standing(c, t);
-    if n != 0 {
-        return without_claim(n, 0);
+    if let Err(why) = standing(c, t) {
+        return without_claim(Outcome::refused(why, 0));
     }
-    let width = count_words(t);
     audit_ready(c, t, requests, claims)
 }
 
@@ -50,19 +47,29 @@ fn audit_ready(
 {
     let asked = requests.len() / REQUEST_BYTES;
     let told = claims.len() / SHORT_BYTES;
-    let n = least(asked, told);
-    let mut i = 0;
-    while i < n {
-        let change = decide(c, t, request_at(requests, i));
-        let right = number(change);
+    let n = asked.min(told);
+    for i in 0..n {
+        let decision = decide(c, t, request_at(requests, i));
+        let right = number(decision);
         let claimed = u32_at(claims, i * SHORT_BYTES);
         if right != claimed {
             return false_claim(i, claimed, right);
         }
-        commit(t, change);
-        i += 1;
+        if let Ok(change) = decision {
+            commit(t, change);
+        }
     }
-    without_claim(0, n)
+    without_claim(Outcome::done(n))
+}
+
+// The number that goes with a decision: 0 where a change is made.
+fn number(decision: Result<Change, Refusal>) -> u32
+    ensures { result ≡ code decision }
+{
+    match decision {
+        Ok(_) => 0,
+        Err(why) => u32::from(why),
+    }
 }
 
 fn false_claim(i: usize, claimed: u32, right: u32) -> LogAnswer
@@ -79,15 +86,11 @@ fn false_claim(i: usize, claimed: u32, right: u32) -> LogAnswer
 }
 
 // An answer that speaks of no claim.
-fn without_claim(number: u32, place: usize) -> LogAnswer
-    ensures { result ≡ claimless (record { number = number; place = place; inner = 0 }) }
+fn without_claim(outcome: Outcome) -> LogAnswer
+    ensures { result ≡ claimless outcome }
 {
     LogAnswer {
-        outcome: Outcome {
-            number,
-            place,
-            inner: 0,
-        },
+        outcome,
         claimed: 0,
     }
 }

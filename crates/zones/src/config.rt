@@ -1,22 +1,21 @@
 // The configuration's check.
-ghost use Rattle.std.specs.Prelude.{◌-◌, ◌<◌, ◌≤◌, ◌≡◌, length, get_or};
+ghost use Rattle.std.specs.Prelude.{◌-◌, ◌<◌, ◌≤◌, true, false, ◌≡◌, length, drop, IfNone, IfSome};
 ghost use mathlib.Core.List.{flat_map};
-ghost use Rattle.lists.specs.First.{first_from};
+ghost use Rattle.lists.specs.First.{first_from, any};
 ghost use Rattle.lists.specs.Places.{places};
 ghost use Rattle.lists.specs.Rules.{first_rule};
 ghost use Rattle.rules.specs.declared.Checked.{Checked};
 ghost use Rattle.rules.specs.Limits.{most_regions, limits};
-ghost use Rattle.rules.specs.Regions.{no_region, used};
-ghost use Rattle.rules.specs.Configuration.{gic_of, position_rules, check, check_number, check_place, check_earlier};
-ghost use Rattle.rules.specs.Tables.{configured};
+ghost use Rattle.rules.specs.Regions.{used};
+ghost use Rattle.rules.specs.Configuration.{position_rules, check, check_number, check_place, check_earlier};
 ghost use Rattle.zones.specs.Layout.{config_records};
 ghost use Rattle.zones.specs.Records.{record_at};
-ghost use Rattle.zones.specs.View.{stored_config, config_in, ConfigPassed, all_records};
+ghost use Rattle.zones.specs.View.{stored_config, all_records};
 
 use crate::apart::clear_below;
 use crate::layout::{CONFIG_COUNT, CONFIG_GIC, CONFIG_RECORDS, CONFIG_WORDS, REGION_WORDS};
-use crate::words::{By, find_record, is_used, read_region, zeros_in};
-use region::{in_reach, well_formed};
+use crate::words::{find_record, is_used, read_region, zeros_in};
+use region::{in_reach, phys_overlap, well_formed};
 use rules::limits::MOST_REGIONS;
 use rules::numbers::{C1_COUNT, C2_GIC, C3_NOT_ZERO, C4_FORM, C5_REACH, C6_OVERLAP};
 use rules::{Checked, Region};
@@ -55,13 +54,11 @@ pub fn check_place(f: Checked) -> usize
     ensures { result ≡ check_place f }
 {
     match f {
-        Checked::Sound => 0,
-        Checked::BadCount => 0,
-        Checked::BadGic => 0,
-        Checked::NotZero(k) => k,
-        Checked::Malformed(i) => i,
-        Checked::OutOfReach(i) => i,
-        Checked::Overlap(i, _) => i,
+        Checked::Sound | Checked::BadCount | Checked::BadGic => 0,
+        Checked::NotZero(i)
+        | Checked::Malformed(i)
+        | Checked::OutOfReach(i)
+        | Checked::Overlap(i, _) => i,
     }
 }
 
@@ -70,13 +67,8 @@ pub fn check_earlier(f: Checked) -> usize
     ensures { result ≡ check_earlier f }
 {
     match f {
-        Checked::Sound => 0,
-        Checked::BadCount => 0,
-        Checked::BadGic => 0,
-        Checked::NotZero(_) => 0,
-        Checked::Malformed(_) => 0,
-        Checked::OutOfReach(_) => 0,
         Checked::Overlap(_, k) => k,
+        _ => 0,
     }
 }
 
@@ -89,24 +81,21 @@ pub fn check_words(c: &[u64; CONFIG_WORDS]) -> Checked
 }
 
 // The same with room for the keys of its regions. Those of a sound one are then in order, if it has many regions.
-pub fn check_with(c: &[u64; CONFIG_WORDS], keys: &mut [u64]) -> Checked
-    requires { most_regions ≤ length keys.old }
-    ensures { (result ≡ check limits (stored_config c.now)) × (length keys.new ≡ length keys.old) }
+// The fault is the document's datum all the way down, and no Result: `check limits`, which the clause cites, and `check_config` answer with one.
+pub fn check_with(c: &[u64; CONFIG_WORDS], keys: &mut [u64; MOST_REGIONS]) -> Checked
+    ensures { result ≡ check limits (stored_config c.now) }
 {
     let count = c[CONFIG_COUNT] as usize;
-    if count == 0 {
-        return Checked::BadCount;
-    }
-    if MOST_REGIONS < count {
+    if count == 0 || MOST_REGIONS < count {
         return Checked::BadCount;
     }
     if c[CONFIG_COUNT] <= c[CONFIG_GIC] {
         return Checked::BadGic;
     }
-    if !zeros_in(c, CONFIG_RECORDS + count * REGION_WORDS, CONFIG_WORDS) {
-        return Checked::NotZero(first_used(c, count));
+    if let Some(k) = first_used(c, count) {
+        return Checked::NotZero(k);
     }
-    check_positions(c, keys, count)
+    check_positions(c, &mut keys[..count])
 }
 
 pub fn region_at(c: &[u64; CONFIG_WORDS], i: usize) -> Region
@@ -116,29 +105,26 @@ pub fn region_at(c: &[u64; CONFIG_WORDS], i: usize) -> Region
     read_region(c, CONFIG_RECORDS + i * REGION_WORDS)
 }
 
-// The first record from position n on that is not all zero, or the number of records.
-fn first_used(c: &[u64; CONFIG_WORDS], n: usize) -> usize
+// The first record from position n on that is not all zero. That there is none is told by looking at many words at once.
+fn first_used(c: &[u64; CONFIG_WORDS], n: usize) -> Option<usize>
     requires { n ≤ most_regions }
-    ensures { result ≡ first_from used (all_records c.now) n }
+    ensures none { IfNone result (any used (drop n (all_records c.now)) ≡ false) }
+    ensures some { IfSome result (λ k. (any used (drop n (all_records c.now)) ≡ true) × (k ≡ first_from used (all_records c.now) n)) }
 {
-    let mut i = n;
-    while i < MOST_REGIONS {
-        if is_used(region_at(c, i)) {
-            return i;
-        }
-        i += 1;
+    if zeros_in(c, CONFIG_RECORDS + n * REGION_WORDS, CONFIG_WORDS) {
+        return None;
     }
-    i
+    (n..MOST_REGIONS).find(|i| is_used(region_at(c, *i)))
 }
 
-// The first fault at the positions below n: those that a quick look finds clear are not looked at again.
-fn check_positions(c: &[u64; CONFIG_WORDS], keys: &mut [u64], n: usize) -> Checked
-    requires { (n ≤ most_regions) × (n ≤ length keys.old) }
-    ensures { (result ≡ first_rule (flat_map (position_rules limits (all_records c.now)) (places 0 n)) Checked.Sound)
+// The first fault at the positions for which there are keys: those that a quick look finds clear are not looked at again.
+fn check_positions(c: &[u64; CONFIG_WORDS], keys: &mut [u64]) -> Checked
+    requires { length keys.old ≤ most_regions }
+    ensures { (result ≡ first_rule (flat_map (position_rules limits (all_records c.now)) (places 0 (length keys.old))) Checked.Sound)
         × (length keys.new ≡ length keys.old) }
 {
-    let clear = clear_below(c, keys, n);
-    check_from(c, clear, n)
+    let n = keys.len();
+    check_from(c, clear_below(c, keys), n)
 }
 
 // The first fault at the positions from k up to n.
@@ -146,13 +132,11 @@ fn check_from(c: &[u64; CONFIG_WORDS], k: usize, n: usize) -> Checked
     requires { (k ≤ n) × (n ≤ most_regions) }
     ensures { result ≡ first_rule (flat_map (position_rules limits (all_records c.now)) (places k (n - k))) Checked.Sound }
 {
-    let mut i = k;
-    while i < n {
-        let f = check_at(c, i);
-        let Checked::Sound = f else {
-            return f;
+    for i in k..n {
+        let found = check_at(c, i);
+        let Checked::Sound = found else {
+            return found;
         };
-        i += 1;
     }
     Checked::Sound
 }
@@ -169,48 +153,8 @@ fn check_at(c: &[u64; CONFIG_WORDS], i: usize) -> Checked
     if !in_reach(r) {
         return Checked::OutOfReach(i);
     }
-    let k = find_record(c, CONFIG_RECORDS, i, By::Phys, r);
-    if k < i {
+    if let Some(k) = find_record(c, CONFIG_RECORDS, i, |e| phys_overlap(r, e)) {
         return Checked::Overlap(i, k);
     }
     Checked::Sound
-}
-
-// ---- readers of a configuration that the check finds sound
-
-pub fn region_count(c: &[u64; CONFIG_WORDS]) -> usize
-    requires { ConfigPassed c.now }
-    ensures { (result ≡ length (config_in c.now).regions) × (result ≤ most_regions) }
-{
-    c[CONFIG_COUNT] as usize
-}
-
-pub fn gic_position(c: &[u64; CONFIG_WORDS]) -> usize
-    requires { ConfigPassed c.now }
-    ensures { (result ≡ (config_in c.now).gic) × (result < most_regions) }
-{
-    c[CONFIG_GIC] as usize
-}
-
-pub fn config_region(c: &[u64; CONFIG_WORDS], i: usize) -> Region
-    requires { ConfigPassed c.now × (i < length (config_in c.now).regions) }
-    ensures { result ≡ get_or (config_in c.now).regions i no_region }
-{
-    region_at(c, i)
-}
-
-pub fn gic_region(c: &[u64; CONFIG_WORDS]) -> Region
-    requires { ConfigPassed c.now }
-    ensures { result ≡ gic_of (config_in c.now) }
-{
-    let i = gic_position(c);
-    region_at(c, i)
-}
-
-pub fn is_configured(c: &[u64; CONFIG_WORDS], r: Region) -> bool
-    requires { ConfigPassed c.now }
-    ensures { result ≡ configured (config_in c.now) r }
-{
-    let n = region_count(c);
-    find_record(c, CONFIG_RECORDS, n, By::Equal, r) < n
 }

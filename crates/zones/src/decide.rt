@@ -1,104 +1,83 @@
-// Which change a request asks for, or the number that refuses it. Nothing is written here.
-ghost use Rattle.std.specs.Prelude.{◌<◌, true, false, ◌≡◌, length};
+// Which change a request asks for, or why it is refused. Nothing is written here.
+ghost use Rattle.std.specs.Prelude.{◌≤◌, ◌<◌, true, false, ◌≡◌, length};
 ghost use Rattle.lists.specs.First.{any};
-ghost use Rattle.lists.specs.Rules.{first_rule};
-ghost use Rattle.rules.specs.Limits.{limits};
+ghost use Rattle.rules.specs.Limits.{most_zones, limits};
 ghost use Rattle.rules.specs.Tables.{configured};
-ghost use Rattle.rules.specs.Requests.{others, holds_any, on_gic, region_rules, set_rules};
-ghost use Rattle.zones.specs.Decide.{use_rules, decided, decided_add, decided_drop, decided_insert, decided_cut, Ready, shared_elsewhere};
+ghost use Rattle.rules.specs.Requests.{find, others, holds_any, on_gic, region_rules, set_rules};
+ghost use Rattle.zones.specs.Decide.{in_numbers, ruled, id_rules, name_rules, use_rules, decided, decided_add, decided_drop, decided_insert, decided_cut, Ready, shared_elsewhere};
 ghost use Rattle.zones.specs.Holding.{holds};
-ghost use Rattle.zones.specs.View.{config_in, ConfigPassed, zones_in};
+ghost use Rattle.zones.specs.View.{config_in, zones_in};
 ghost use Rattle.zones.specs.Words.{Within};
 
-use crate::config::{gic_region, is_configured};
 use crate::layout::{CONFIG_WORDS, TABLE_WORDS};
-use crate::sound::first_holder;
+use crate::passed::Passed;
+use crate::sound::zone_holds;
 use crate::table::{find_zone, set_find, set_len, zone_count};
-use crate::words::By;
-use region::{in_reach, is_excessive, phys_overlap, region_eq, well_formed};
+use region::{guest_overlap, in_reach, is_excessive, phys_overlap, region_eq, well_formed};
 use rules::limits::{HIGHEST_ID, MOST_IN_SET, MOST_ZONES};
-use rules::numbers::{
-    FORM, GUEST_OVERLAP, NO_REGION, NO_REQUEST, NO_ZONE, NOT_CONFIGURED, OVER_GIC,
-    PHYSICAL_OVERLAP, REACH, REGION_THERE, SET_FULL, TOO_MANY_RIGHTS, ZONE_ID_TOO_HIGH,
-    ZONE_IN_USE, ZONE_THERE, ZONES_FULL,
-};
-use rules::{Kind, Region, Request, Side};
+use rules::{Kind, Refusal, Region, Request, Side};
 
 // A position and an index stand for the zone and the region found there.
 #[derive(Clone, Copy)]
 pub enum Change {
-    Refuse(u32),
     Add(u64),
     Drop(usize),
     Push(usize, Side, Region),
     Cut(usize, Side, usize),
 }
 
-pub fn decide(c: &[u64; CONFIG_WORDS], t: &[u64; TABLE_WORDS], q: Request) -> Change
+pub fn decide(
+    c: &[u64; CONFIG_WORDS],
+    t: &[u64; TABLE_WORDS],
+    q: Request,
+) -> Result<Change, Refusal>
     requires { Ready c.now t.now }
-    ensures { result ≡ decided (config_in c.now) (zones_in t.now) q }
+    ensures { in_numbers result ≡ decided (config_in c.now) (zones_in t.now) q }
 {
     let id = q.zone as u64;
-    let kind = q.kind;
-    match kind {
+    match q.kind {
         Kind::AddZone => decide_add(t, id),
         Kind::RemoveZone => decide_drop(t, id),
         Kind::Insert(side, r) => decide_insert(c, t, id, side, r),
         Kind::Remove(side, r) => decide_cut(t, id, side, r),
-        Kind::NoRequest => Change::Refuse(NO_REQUEST),
+        Kind::NoRequest => Err(Refusal::NoRequest),
     }
 }
 
-fn decide_add(t: &[u64; TABLE_WORDS], id: u64) -> Change
+fn decide_add(t: &[u64; TABLE_WORDS], id: u64) -> Result<Change, Refusal>
     requires { Within (zones_in t.now) }
-    ensures { result ≡ decided_add id (zones_in t.now) }
+    ensures { in_numbers result ≡ decided_add id (zones_in t.now) }
 {
-    if HIGHEST_ID < id {
-        return Change::Refuse(ZONE_ID_TOO_HIGH);
+    check_id(id)?;
+    if find_zone(t, id).is_some() {
+        return Err(Refusal::ZoneThere);
     }
-    let n = zone_count(t);
-    if find_zone(t, id) < n {
-        return Change::Refuse(ZONE_THERE);
+    if MOST_ZONES <= zone_count(t) {
+        return Err(Refusal::ZonesFull);
     }
-    if MOST_ZONES <= n {
-        return Change::Refuse(ZONES_FULL);
-    }
-    Change::Add(id)
+    Ok(Change::Add(id))
 }
 
-fn decide_drop(t: &[u64; TABLE_WORDS], id: u64) -> Change
+fn decide_drop(t: &[u64; TABLE_WORDS], id: u64) -> Result<Change, Refusal>
     requires { Within (zones_in t.now) }
-    ensures { result ≡ decided_drop id (zones_in t.now) }
+    ensures { in_numbers result ≡ decided_drop id (zones_in t.now) }
 {
-    if HIGHEST_ID < id {
-        return Change::Refuse(ZONE_ID_TOO_HIGH);
-    }
-    let z = find_zone(t, id);
-    if zone_count(t) <= z {
-        return Change::Refuse(NO_ZONE);
-    }
+    let z = named_zone(t, id)?;
     if holds_any(t, z) {
-        return Change::Refuse(ZONE_IN_USE);
+        return Err(Refusal::ZoneInUse);
     }
-    Change::Drop(z)
+    Ok(Change::Drop(z))
 }
 
-fn decide_cut(t: &[u64; TABLE_WORDS], id: u64, side: Side, r: Region) -> Change
+fn decide_cut(t: &[u64; TABLE_WORDS], id: u64, side: Side, r: Region) -> Result<Change, Refusal>
     requires { Within (zones_in t.now) }
-    ensures { result ≡ decided_cut id side r (zones_in t.now) }
+    ensures { in_numbers result ≡ decided_cut id side r (zones_in t.now) }
 {
-    if HIGHEST_ID < id {
-        return Change::Refuse(ZONE_ID_TOO_HIGH);
-    }
-    let z = find_zone(t, id);
-    if zone_count(t) <= z {
-        return Change::Refuse(NO_ZONE);
-    }
-    let i = set_find(t, z, side, By::Equal, r);
-    if set_len(t, z, side) <= i {
-        return Change::Refuse(NO_REGION);
-    }
-    Change::Cut(z, side, i)
+    let z = named_zone(t, id)?;
+    let Some(i) = set_find(t, z, side, |e| region_eq(r, e)) else {
+        return Err(Refusal::NoRegion);
+    };
+    Ok(Change::Cut(z, side, i))
 }
 
 fn decide_insert(
@@ -107,26 +86,33 @@ fn decide_insert(
     id: u64,
     side: Side,
     r: Region,
-) -> Change
+) -> Result<Change, Refusal>
     requires { Ready c.now t.now }
-    ensures { result ≡ decided_insert (config_in c.now) id side r (zones_in t.now) }
+    ensures { in_numbers result ≡ decided_insert (config_in c.now) id side r (zones_in t.now) }
+{
+    let z = named_zone(t, id)?;
+    refuse_region(&Passed { words: c }, side, r)?;
+    refuse_set(c, t, z, side, r)?;
+    Ok(Change::Push(z, side, r))
+}
+
+// No zone has a higher id.
+fn check_id(id: u64) -> Result<(), Refusal>
+    ensures { in_numbers result ≡ ruled (id_rules id) tt }
 {
     if HIGHEST_ID < id {
-        return Change::Refuse(ZONE_ID_TOO_HIGH);
+        return Err(Refusal::ZoneIdTooHigh);
     }
-    let z = find_zone(t, id);
-    if zone_count(t) <= z {
-        return Change::Refuse(NO_ZONE);
-    }
-    let a = refuse_region(c, side, r);
-    if a != 0 {
-        return Change::Refuse(a);
-    }
-    let b = refuse_set(c, t, z, side, r);
-    if b != 0 {
-        return Change::Refuse(b);
-    }
-    Change::Push(z, side, r)
+    Ok(())
+}
+
+// The position of the zone with that id.
+pub fn named_zone(t: &[u64; TABLE_WORDS], id: u64) -> Result<usize, Refusal>
+    requires { length (zones_in t.now) ≤ most_zones }
+    ensures { in_numbers result ≡ ruled (name_rules id (zones_in t.now)) (find id (zones_in t.now)) }
+{
+    check_id(id)?;
+    find_zone(t, id).ok_or(Refusal::NoZone)
 }
 
 // Whether either set of the zone at z holds a region.
@@ -134,78 +120,71 @@ fn holds_any(t: &[u64; TABLE_WORDS], z: usize) -> bool
     requires { Within (zones_in t.now) × (z < length (zones_in t.now)) }
     ensures { result ≡ holds_any z (zones_in t.now) }
 {
-    if 0 < set_len(t, z, Side::Cpu) {
-        return true;
-    }
-    0 < set_len(t, z, Side::Iommu)
+    0 < set_len(t, z, Side::Cpu) || 0 < set_len(t, z, Side::Iommu)
 }
 
-// The numbers that look at the region and the configuration: 9 to 11, 19 and 12.
-fn refuse_region(c: &[u64; CONFIG_WORDS], side: Side, r: Region) -> u32
-    requires { ConfigPassed c.now }
-    ensures { result ≡ first_rule (region_rules limits (config_in c.now) side r) 0 }
+// What looks at the region and the configuration: 9 to 11, 19 and 12.
+fn refuse_region(c: &Passed<'_>, side: Side, r: Region) -> Result<(), Refusal>
+    ensures { in_numbers result ≡ ruled (region_rules limits (config_in c.now.words.now) side r) tt }
 {
     if !well_formed(r) {
-        return FORM;
+        return Err(Refusal::Form);
     }
     if !in_reach(r) {
-        return REACH;
+        return Err(Refusal::Reach);
     }
-    if !is_configured(c, r) {
-        return NOT_CONFIGURED;
+    if !c.is_configured(r) {
+        return Err(Refusal::NotConfigured);
     }
     refuse_use(c, side, r)
 }
 
-// Those of them that look at how the region is to be used.
-fn refuse_use(c: &[u64; CONFIG_WORDS], side: Side, r: Region) -> u32
-    requires { ConfigPassed c.now }
-    ensures { result ≡ first_rule (use_rules (config_in c.now) side r) 0 }
+// The part of it that looks at how the region is to be used.
+fn refuse_use(c: &Passed<'_>, side: Side, r: Region) -> Result<(), Refusal>
+    ensures { in_numbers result ≡ ruled (use_rules (config_in c.now.words.now) side r) tt }
 {
     if is_excessive(side, r) {
-        return TOO_MANY_RIGHTS;
+        return Err(Refusal::TooManyRights);
     }
     if on_gic(c, side, r) {
-        return OVER_GIC;
+        return Err(Refusal::OverGic);
     }
-    0
+    Ok(())
 }
 
-fn on_gic(c: &[u64; CONFIG_WORDS], side: Side, r: Region) -> bool
-    requires { ConfigPassed c.now }
-    ensures { result ≡ on_gic (config_in c.now) side r }
+fn on_gic(c: &Passed<'_>, side: Side, r: Region) -> bool
+    ensures { result ≡ on_gic (config_in c.now.words.now) side r }
 {
     match side {
-        Side::Cpu => phys_overlap(r, gic_region(c)),
+        Side::Cpu => phys_overlap(r, c.gic_region()),
         Side::Iommu => false,
     }
 }
 
-// The numbers that look at the table: 13 to 16.
+// What looks at the table: 13 to 16.
 fn refuse_set(
     c: &[u64; CONFIG_WORDS],
     t: &[u64; TABLE_WORDS],
     z: usize,
     side: Side,
     r: Region,
-) -> u32
+) -> Result<(), Refusal>
     requires { (Ready c.now t.now × (z < length (zones_in t.now))) × ((configured (config_in c.now) r ≡ true) × (on_gic (config_in c.now) side r ≡ false)) }
-    ensures { result ≡ first_rule (set_rules limits (config_in c.now) z side r (zones_in t.now)) 0 }
+    ensures { in_numbers result ≡ ruled (set_rules limits (config_in c.now) z side r (zones_in t.now)) tt }
 {
-    let n = set_len(t, z, side);
-    if set_find(t, z, side, By::Equal, r) < n {
-        return REGION_THERE;
+    if set_find(t, z, side, |e| region_eq(r, e)).is_some() {
+        return Err(Refusal::RegionThere);
     }
     if is_forbidden(c, t, z, r) {
-        return PHYSICAL_OVERLAP;
+        return Err(Refusal::PhysicalOverlap);
     }
-    if set_find(t, z, side, By::Guest, r) < n {
-        return GUEST_OVERLAP;
+    if set_find(t, z, side, |e| guest_overlap(r, e)).is_some() {
+        return Err(Refusal::GuestOverlap);
     }
-    if MOST_IN_SET <= n {
-        return SET_FULL;
+    if MOST_IN_SET <= set_len(t, z, side) {
+        return Err(Refusal::SetFull);
     }
-    0
+    Ok(())
 }
 
 // The region and all held ones are configured, so an overlap is an equality; and the region is not in the zone's own set of that side.
@@ -214,10 +193,8 @@ fn is_forbidden(c: &[u64; CONFIG_WORDS], t: &[u64; TABLE_WORDS], z: usize, r: Re
     requires { Ready c.now t.now × (z < length (zones_in t.now)) }
     ensures { result ≡ shared_elsewhere (config_in c.now) z r (zones_in t.now) }
 {
-    if region_eq(r, gic_region(c)) {
-        return false;
-    }
-    held_elsewhere(t, z, r)
+    let config = Passed { words: c };
+    !region_eq(r, config.gic_region()) && held_elsewhere(t, z, r)
 }
 
 // Whether a zone other than the one at z holds the region.
@@ -225,10 +202,5 @@ fn held_elsewhere(t: &[u64; TABLE_WORDS], z: usize, r: Region) -> bool
     requires { Within (zones_in t.now) × (z < length (zones_in t.now)) }
     ensures { result ≡ any (holds r) (others z (zones_in t.now)) }
 {
-    let n = zone_count(t);
-    let k = first_holder(t, r, 0);
-    if k != z {
-        return k < n;
-    }
-    first_holder(t, r, z + 1) < n
+    (0..zone_count(t)).any(|k| k != z && zone_holds(t, k, r))
 }

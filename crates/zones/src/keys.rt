@@ -1,105 +1,89 @@
 // Keys: they lead from a physical start to the position of a configured region. A key is the region's start, a multiple of the page, and
 // its position, which is below the page, in one number. Nothing is known of lent keys, so who follows one looks at what it leads to; keys
 // that are out of order cost time and change no answer.
-ghost use Rattle.std.specs.Prelude.{◌%◌, ◌≤◌, ◌<◌, ◌≡◌, length, get_or};
-ghost use Rattle.rules.specs.Limits.{most_regions};
+ghost use Rattle.std.specs.Prelude.{◌%◌, ◌≤◌, ◌<◌, ◌≡◌, length, get_or, IfSome};
+ghost use Rattle.rules.specs.Limits.{most_regions, page};
+ghost use Rattle.rules.specs.Regions.{no_region};
 ghost use Rattle.rules.specs.Tables.{configured};
-ghost use Rattle.zones.specs.Layout.{config_records};
-ghost use Rattle.zones.specs.Records.{record_at};
-ghost use Rattle.zones.specs.Spans.{fits, FitBelow, position_of};
+ghost use Rattle.zones.specs.Spans.{fits, FitBelow};
 ghost use Rattle.zones.specs.View.{config_in, ConfigPassed};
 
-use crate::config::{is_configured, region_at, region_count};
+use crate::config::region_at;
 use crate::layout::CONFIG_WORDS;
+use crate::passed::Passed;
 use region::{in_reach, region_eq, well_formed};
 use rules::Region;
-use rules::limits::PAGE;
+use rules::limits::{MOST_REGIONS, PAGE};
 
 // Fewer regions than these are compared two by two: keys of them are not worth their ordering.
 pub const MANY: usize = 16;
 
-// The keys of the positions below n, as far as regions are well formed and in reach; so many they are.
-pub fn fill_keys(c: &[u64; CONFIG_WORDS], keys: &mut [u64], n: usize) -> usize
-    requires { (n ≤ most_regions) × (n ≤ length keys.old) }
-    ensures { ((result ≤ n) × FitBelow c.now result) × (length keys.new ≡ length keys.old) }
+// The keys of the positions from the first on, as far as regions are well formed and in reach; so many they are.
+pub fn fill_keys(c: &[u64; CONFIG_WORDS], keys: &mut [u64]) -> usize
+    requires { length keys.old ≤ most_regions }
+    ensures { ((result ≤ length keys.old) × FitBelow c.now result) × (length keys.new ≡ length keys.old) }
 {
-    let mut i = 0;
-    while i < n {
+    for i in 0..keys.len() {
         let r = region_at(c, i);
         if !is_fit(r) {
             return i;
         }
         keys[i] = r.p.0 + i as u64;
-        i += 1;
     }
-    i
+    keys.len()
 }
 
 fn is_fit(r: Region) -> bool
     ensures { result ≡ fits r }
 {
-    if !well_formed(r) {
-        return false;
-    }
-    in_reach(r)
+    well_formed(r) && in_reach(r)
 }
 
-// The position that key j names.
-pub fn position_of(keys: &[u64], j: usize) -> usize
-    requires { j < length keys.now }
-    ensures { result ≡ position_of keys.now j }
+// The position that a key names.
+pub fn position_of(key: u64) -> usize
+    ensures { result ≡ key % page }
 {
-    (keys[j] % PAGE) as usize
+    (key % PAGE) as usize
 }
 
-// A position below n whose region is r, if there are many and the n keys lead to one, or n.
-pub fn place_of(c: &[u64; CONFIG_WORDS], keys: &[u64], n: usize, r: Region) -> usize
-    requires { (n ≤ most_regions) × (n ≤ length keys.now) }
-    ensures { (result ≤ n) × (result < n → r ≡ record_at c.now config_records result) }
-{
-    if n < MANY {
-        return n;
-    }
-    let j = first_from(keys, n, r.p.0);
-    if n <= j {
-        return n;
-    }
-    let k = position_of(keys, j);
-    if n <= k {
-        return n;
-    }
-    if !region_eq(r, region_at(c, k)) {
-        return n;
-    }
-    k
+// A sound configuration with the keys of its regions.
+#[derive(Clone, Copy)]
+pub struct Keyed<'a> {
+    pub config: Passed<'a>,
+    pub keys: &'a [u64; MOST_REGIONS],
 }
 
-// Whether a region is configured: as the keys lead to it, or else as a look at every position tells.
-pub fn is_configured_by(c: &[u64; CONFIG_WORDS], keys: &[u64], r: Region) -> bool
-    requires { ConfigPassed c.now × (most_regions ≤ length keys.now) }
-    ensures { result ≡ configured (config_in c.now) r }
-{
-    let n = region_count(c);
-    if place_of(c, keys, n, r) < n {
-        return true;
+impl<'a> Keyed<'a> {
+    pub fn new(words: &'a [u64; CONFIG_WORDS], keys: &'a [u64; MOST_REGIONS]) -> Keyed<'a>
+        requires { ConfigPassed words.now }
+        ensures { result.config.words.now ≡ words.now }
+    {
+        let config = Passed { words };
+        Keyed { config, keys }
     }
-    is_configured(c, r)
-}
 
-// Where the first of n ascending keys stands that is x or more; somewhere up to n, if they do not ascend.
-fn first_from(keys: &[u64], n: usize, x: u64) -> usize
-    requires { (n ≤ most_regions) × (n ≤ length keys.now) }
-    ensures { result ≤ n }
-{
-    let mut lo = 0;
-    let mut hi = n;
-    while lo < hi {
-        let mid = lo + (hi - lo) / 2;
-        if keys[mid] < x {
-            lo = mid + 1;
-        } else {
-            hi = mid;
+    // A position whose region is r, if there are many and the keys lead to one.
+    pub fn place_of(&self, r: Region) -> Option<usize>
+        ensures { IfSome result (λ k. (k < length (config_in self.now.config.words.now).regions) × (r ≡ get_or (config_in self.now.config.words.now).regions k no_region)) }
+    {
+        let n = self.config.count();
+        if n < MANY {
+            return None;
         }
+        let all = self.keys;
+        let keys = &all[..n];
+        let j = keys.partition_point(|key| *key < r.p.0);
+        let k = position_of(*keys.get(j)?);
+        if k < n && region_eq(r, self.config.region(k)) {
+            return Some(k);
+        }
+        None
     }
-    lo
+
+    // Whether a region is configured: as the keys lead to it, or else as a look at every position tells.
+    pub fn is_configured(&self, r: Region) -> bool
+        ensures { result ≡ configured (config_in self.now.config.words.now) r }
+    {
+        self.place_of(r).is_some() || self.config.is_configured(r)
+    }
 }

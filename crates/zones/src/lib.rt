@@ -9,8 +9,9 @@ mod decide;
 mod keys;
 mod layout;
 mod owners;
+mod passed;
+mod reading;
 mod run;
-mod sort;
 mod sound;
 mod steps;
 mod table;
@@ -24,10 +25,11 @@ pub use layout::{
     CONFIG_COUNT, CONFIG_GIC, CONFIG_RECORDS, CONFIG_WORDS, REGION_WORDS, SET_WORDS, TABLE_WORDS,
     ZONE_WORDS,
 };
+pub use reading::{region_from, request_in};
 pub use run::{make_request, run_in};
 pub use sound::{check_table, is_sound, standing};
-pub use steps::{Answer, answer_in, step, step_in};
+pub use steps::{answer_in, step, step_in};
 pub use table::{Table, clear_zones, zone_start};
-pub use translation::{translate, translate_in};
+pub use translation::{Stretch, translate, translate_in};
 pub use trial::try_in;
 pub use words::{clear_words, count_words, holds_region, put_region, region_in, same_words};

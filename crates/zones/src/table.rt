@@ -1,21 +1,19 @@
 // The zone table as one array of words: readers, searches, the four writers, and the check of the words.
-ghost use Rattle.std.specs.Prelude.{◌+◌, ◌≤◌, ◌<◌, List, ◌≡◌, length};
-ghost use Rattle.lists.specs.First.{first_index, all};
+ghost use Rattle.std.specs.Prelude.{◌+◌, ◌≤◌, ◌<◌, Bool, List, ◌≡◌, length, position};
+ghost use Rattle.lists.specs.First.{all};
 ghost use Rattle.lists.specs.Places.{places};
 ghost use Rattle.rules.specs.Limits.{most_zones, most_in_set};
 ghost use Rattle.rules.specs.Tables.{has_id, Zone};
 ghost use Rattle.rules.specs.Changes.{pushed, cut, added, dropped};
+ghost use Rattle.rules.specs.declared.Region.{Region};
 ghost use Rattle.zones.specs.Layout.{set_words, table_words, zone_base, zone_start, set_base};
-ghost use Rattle.zones.specs.Alike.{alike_by};
 ghost use Rattle.zones.specs.Packing.{set_packed, zone_packed, packed};
 ghost use Rattle.zones.specs.Trial.{WithoutRegion, WithoutZone};
 ghost use Rattle.zones.specs.View.{record_in, set_in, zone_in, zones_in};
 ghost use Rattle.zones.specs.Words.{words_of, emptied, Packed};
 
 use crate::layout::{REGION_WORDS, SET_WORDS, TABLE_WORDS, ZONE_WORDS};
-use crate::words::{
-    By, clear, close_gap, count_words, find_record, open_gap, read_region, write_region, zeros_in,
-};
+use crate::words::{clear, close_gap, find_record, open_gap, read_region, write_region, zeros_in};
 use rules::limits::{MOST_IN_SET, MOST_ZONES};
 use rules::{Region, Side};
 
@@ -87,30 +85,28 @@ pub fn region_at(t: &[u64; TABLE_WORDS], z: usize, side: Side, i: usize) -> Regi
 
 // ---- searches
 
-// The position of the first zone with that id, or the count.
-pub fn find_zone(t: &[u64; TABLE_WORDS], id: u64) -> usize
+// The position of the first zone with that id.
+pub fn find_zone(t: &[u64; TABLE_WORDS], id: u64) -> Option<usize>
     requires { length (zones_in t.now) ≤ most_zones }
-    ensures { result ≡ first_index (has_id id) (zones_in t.now) }
+    ensures { result ≡ position (has_id id) (zones_in t.now) }
 {
-    let n = zone_count(t);
-    let mut i = 0;
-    while i < n {
-        if id_at(t, i) == id {
-            return i;
-        }
-        i += 1;
-    }
-    i
+    (0..zone_count(t)).position(|z| id_at(t, z) == id)
 }
 
-// The first region of a set that is alike r, or the set's length.
-pub fn set_find(t: &[u64; TABLE_WORDS], z: usize, side: Side, by: By, r: Region) -> usize
-    requires { (z < most_zones) × (length (set_in t.now z side) ≤ most_in_set) }
-    ensures { result ≡ first_index (alike_by by r) (set_in t.now z side) }
+// The place of the first region of a set that is what is looked for.
+pub fn set_find<F: Fn(Region) -> bool>(
+    t: &[u64; TABLE_WORDS],
+    z: usize,
+    side: Side,
+    is: F,
+) -> Option<usize>
+    requires fits { (z < most_zones) × (length (set_in t.now z side) ≤ most_in_set) }
+    requires callable { F.IsAlwaysCallable is }
+    ensures { (p : Region → Bool) → ((e : Region) (t : Bool) → F.post is e t → t ≡ p e) → result ≡ position p (set_in t.now z side) }
 {
     let b = set_base(z, side);
     let n = set_len(t, z, side);
-    find_record(t, b + 1, n, by, r)
+    find_record(t, b + 1, n, is)
 }
 
 // ---- writers
@@ -190,7 +186,6 @@ pub fn put_back_zone(t: &mut [u64; TABLE_WORDS], z: usize, id: u64)
 pub fn clear_zones(t: &mut [u64; TABLE_WORDS])
     ensures { t.new ≡ emptied t.old }
 {
-    let width = count_words(t);
     let n = zone_count(t);
     clear(t, 0, zone_start(n));
 }
@@ -202,36 +197,21 @@ fn set_packed(t: &[u64; TABLE_WORDS], b: usize) -> bool
     ensures { result ≡ set_packed t.now b }
 {
     let n = t[b] as usize;
-    if MOST_IN_SET < n {
-        return false;
-    }
-    zeros_in(t, b + 1 + n * REGION_WORDS, b + SET_WORDS)
+    n <= MOST_IN_SET && zeros_in(t, b + 1 + n * REGION_WORDS, b + SET_WORDS)
 }
 
 fn zone_packed(t: &[u64; TABLE_WORDS], z: usize) -> bool
     requires { z < most_zones }
     ensures { result ≡ zone_packed t.now z }
 {
-    let a = set_base(z, Side::Cpu);
-    if !set_packed(t, a) {
-        return false;
-    }
-    let b = set_base(z, Side::Iommu);
-    set_packed(t, b)
+    set_packed(t, set_base(z, Side::Cpu)) && set_packed(t, set_base(z, Side::Iommu))
 }
 
 fn zones_packed(t: &[u64; TABLE_WORDS], n: usize) -> bool
     requires { n ≤ most_zones }
     ensures { result ≡ all (zone_packed t.now) (places 0 n) }
 {
-    let mut z = 0;
-    while z < n {
-        if !zone_packed(t, z) {
-            return false;
-        }
-        z += 1;
-    }
-    true
+    (0..n).all(|z| zone_packed(t, z))
 }
 
 pub fn is_packed(t: &[u64; TABLE_WORDS]) -> bool
@@ -241,8 +221,5 @@ pub fn is_packed(t: &[u64; TABLE_WORDS]) -> bool
     if MOST_ZONES < n {
         return false;
     }
-    if !zones_packed(t, n) {
-        return false;
-    }
-    zeros_in(t, zone_base(n), TABLE_WORDS)
+    zones_packed(t, n) && zeros_in(t, zone_base(n), TABLE_WORDS)
 }

@@ -1,23 +1,28 @@
 // Translation: from a guest address of a zone, on one side, to the physical address, and how far that goes on.
-ghost use Rattle.std.specs.Prelude.{◌≤◌, ◌<◌, ◌≡◌, length};
-ghost use Rattle.lists.specs.First.{first_index};
+ghost use Rattle.std.specs.Prelude.{◌≤◌, ◌<◌, ◌≡◌, length, position};
 ghost use Rattle.rules.specs.Limits.{most_zones, most_in_set, limits};
 ghost use Rattle.rules.specs.Translation.{covers_guest, translation, translated};
-ghost use Rattle.zones.specs.Translate.{Near};
+ghost use Rattle.zones.specs.Translate.{told, Near};
 ghost use Rattle.zones.specs.View.{stored_config, stored_table, set_in, zones_in};
 
 use crate::config::Config;
+use crate::decide::named_zone;
 use crate::layout::{CONFIG_WORDS, TABLE_WORDS};
 use crate::sound::standing;
-use crate::table::{Table, find_zone, region_at, set_find, set_len, zone_count};
-use crate::words::{By, count_words};
-use rules::limits::HIGHEST_ID;
-use rules::numbers::{NO_ZONE, NOT_COVERED, ZONE_ID_TOO_HIGH};
-use rules::{Guest, Phys, Region, Rights, Side, Translated};
+use crate::table::{Table, region_at, set_find};
+use region::guest_overlap;
+use rules::{Guest, Phys, Refusal, Region, Rights, Side};
+
+// Where an address comes out, and how many bytes of the region that covers it there are from it on.
+#[derive(Clone, Copy)]
+pub struct Stretch {
+    pub phys: Phys,
+    pub remaining: u64,
+}
 
 // Where the device or processor of a zone comes out, for any words and any address.
-pub fn translate(c: Config, t: Table, zone: u32, side: Side, a: Guest) -> Translated
-    ensures { result ≡ translated limits (stored_config c.words) (stored_table t.words) zone side a }
+pub fn translate(c: Config, t: Table, zone: u32, side: Side, a: Guest) -> Result<Stretch, Refusal>
+    ensures { told result ≡ translated limits (stored_config c.words) (stored_table t.words) zone side a }
 {
     let config = c.words;
     let table = t.words;
@@ -31,47 +36,39 @@ pub fn translate_in(
     zone: u32,
     side: Side,
     a: Guest,
-) -> Translated
-    ensures { result ≡ translated limits (stored_config c.now) (stored_table t.now) zone side a }
+) -> Result<Stretch, Refusal>
+    ensures { told result ≡ translated limits (stored_config c.now) (stored_table t.now) zone side a }
 {
-    let n = standing(c, t);
-    if n != 0 {
-        return refused(n);
-    }
-    let width = count_words(t);
+    standing(c, t)?;
     translate_near(t, zone, side, a)
 }
 
 // The same at a table whose regions are in reach, so that no sum can wrap.
-fn translate_near(t: &[u64; TABLE_WORDS], zone: u32, side: Side, a: Guest) -> Translated
+fn translate_near(
+    t: &[u64; TABLE_WORDS],
+    zone: u32,
+    side: Side,
+    a: Guest,
+) -> Result<Stretch, Refusal>
     requires { Near (zones_in t.now) }
-    ensures { result ≡ translation (zones_in t.now) zone side a.0 }
+    ensures { told result ≡ translation (zones_in t.now) zone side a.0 }
 {
-    let id = zone as u64;
-    if HIGHEST_ID < id {
-        return refused(ZONE_ID_TOO_HIGH);
-    }
-    let z = find_zone(t, id);
-    if zone_count(t) <= z {
-        return refused(NO_ZONE);
-    }
-    let i = find_covering(t, z, side, a);
-    if set_len(t, z, side) <= i {
-        return refused(NOT_COVERED);
-    }
+    let z = named_zone(t, zone as u64)?;
+    let Some(i) = find_covering(t, z, side, a) else {
+        return Err(Refusal::NotCovered);
+    };
     let r = region_at(t, z, side, i);
     let offset = a.0 - r.v.0;
-    Translated {
-        number: 0,
+    Ok(Stretch {
         phys: Phys(r.p.0 + offset),
         remaining: r.size - offset,
-    }
+    })
 }
 
 // The first region of a set that covers the address: a region of one byte overlaps exactly those that do.
-fn find_covering(t: &[u64; TABLE_WORDS], z: usize, side: Side, a: Guest) -> usize
+fn find_covering(t: &[u64; TABLE_WORDS], z: usize, side: Side, a: Guest) -> Option<usize>
     requires { (z < most_zones) × (length (set_in t.now z side) ≤ most_in_set) }
-    ensures { result ≡ first_index (covers_guest a.0) (set_in t.now z side) }
+    ensures { result ≡ position (covers_guest a.0) (set_in t.now z side) }
 {
     let byte = Region {
         v: a,
@@ -79,15 +76,5 @@ fn find_covering(t: &[u64; TABLE_WORDS], z: usize, side: Side, a: Guest) -> usiz
         size: 1,
         rights: Rights(0),
     };
-    set_find(t, z, side, By::Guest, byte)
-}
-
-fn refused(n: u32) -> Translated
-    ensures { result ≡ record { number = n; phys = record { 0 = 0 }; remaining = 0 } }
-{
-    Translated {
-        number: n,
-        phys: Phys(0),
-        remaining: 0,
-    }
+    set_find(t, z, side, |e| guest_overlap(byte, e))
 }

@@ -9,19 +9,17 @@ ghost use Rattle.zones.specs.Trial.{trial_answer, note_of, Before, Trail, Noted}
 ghost use Rattle.zones.specs.View.{config_in, zones_in, stored_config, stored_table};
 ghost use Rattle.zones.specs.Words.{words_of, Packed};
 
-use crate::commit::{commit, number};
+use crate::commit::commit;
 use crate::decide::{Change, decide};
 use crate::layout::{CONFIG_WORDS, TABLE_WORDS};
-use crate::run::request_at;
+use crate::run::{request_at, stopped_at};
 use crate::sound::standing;
 use crate::table::{
     cut_region, find_zone, put_back_region, put_back_zone, remove_zone, set_len, zone_count,
 };
-use crate::words::count_words;
 use rules::limits::MOST_REQUESTS;
-use rules::numbers::{REQUEST_REFUSED, TOO_MANY_REQUESTS};
 use rules::widths::REQUEST_BYTES;
-use rules::{Kind, Outcome, Request, Side};
+use rules::{Kind, Outcome, Refusal, Request, Side};
 
 // A note for each request.
 const NOTES: usize = MOST_REQUESTS as usize;
@@ -31,22 +29,12 @@ const NOTES: usize = MOST_REQUESTS as usize;
 pub fn try_in(c: &[u64; CONFIG_WORDS], t: &mut [u64; TABLE_WORDS], requests: &[u8]) -> Outcome
     ensures { (result ≡ trial_answer limits (stored_config c.now) (stored_table t.old) (requests_in requests.now)) × (t.new ≡ t.old) }
 {
-    let n = standing(c, t);
-    if n != 0 {
-        return Outcome {
-            number: n,
-            place: 0,
-            inner: 0,
-        };
+    if let Err(why) = standing(c, t) {
+        return Outcome::refused(why, 0);
     }
     if NOTES < requests.len() / REQUEST_BYTES {
-        return Outcome {
-            number: TOO_MANY_REQUESTS,
-            place: 0,
-            inner: 0,
-        };
+        return Outcome::refused(Refusal::TooManyRequests, 0);
     }
-    let width = count_words(t);
     try_ready(c, t, requests)
 }
 
@@ -57,8 +45,7 @@ fn try_ready(c: &[u64; CONFIG_WORDS], t: &mut [u64; TABLE_WORDS], requests: &[u8
 {
     let mut notes = [0u8; NOTES];
     let outcome = run_noting(c, t, requests, &mut notes);
-    let done = outcome.place;
-    undo_all(t, requests, &notes, done);
+    undo_all(t, requests, &notes, outcome.place);
     outcome
 }
 
@@ -73,26 +60,15 @@ fn run_noting(
     ensures { Noted c.now t.old requests.now result t.new notes.new }
 {
     let n = requests.len() / REQUEST_BYTES;
-    let mut i = 0;
-    while i < n {
-        let change = decide(c, t, request_at(requests, i));
+    for i in 0..n {
+        let change = match decide(c, t, request_at(requests, i)) {
+            Ok(change) => change,
+            Err(why) => return stopped_at(i, why),
+        };
         notes[i] = note(change);
         commit(t, change);
-        let refused = number(change);
-        if refused != 0 {
-            return Outcome {
-                number: REQUEST_REFUSED,
-                place: i,
-                inner: refused,
-            };
-        }
-        i += 1;
     }
-    Outcome {
-        number: 0,
-        place: n,
-        inner: 0,
-    }
+    Outcome::done(n)
 }
 
 // The position of a zone or of a region that goes.
@@ -101,10 +77,8 @@ fn note(change: Change) -> u8
     ensures { result ≡ note_of change }
 {
     match change {
-        Change::Refuse(_) => 0,
-        Change::Add(_) => 0,
+        Change::Add(_) | Change::Push(_, _, _) => 0,
         Change::Drop(z) => z as u8,
-        Change::Push(_, _, _) => 0,
         Change::Cut(_, _, i) => i as u8,
     }
 }
@@ -114,10 +88,8 @@ fn undo_all(t: &mut [u64; TABLE_WORDS], requests: &[u8], notes: &[u8], done: usi
     requires { ((done ≤ length requests.now / request_size) × (done ≤ length notes.now)) × ((b : List Zone) × Trail b requests.now notes.now done t.old) }
     ensures { (b : List Zone) → Trail b requests.now notes.now done t.old → t.new ≡ words_of b }
 {
-    let mut i = done;
-    while 0 < i {
-        i -= 1;
-        undo(t, request_at(requests, i), notes[i] as usize);
+    for i in (0..done).rev() {
+        undo(t, request_at(requests, i), usize::from(notes[i]));
     }
 }
 
@@ -127,20 +99,19 @@ fn undo(t: &mut [u64; TABLE_WORDS], q: Request, place: usize)
     ensures { (b : List Zone) → Before b q place t.old → t.new ≡ words_of b }
 {
     let id = q.zone as u64;
-    let kind = q.kind;
-    match kind {
+    match q.kind {
         Kind::AddZone => {
             let n = zone_count(t);
             remove_zone(t, n - 1);
         }
         Kind::RemoveZone => put_back_zone(t, place, id),
         Kind::Insert(side, _) => {
-            let z = find_zone(t, id);
+            let z = find_zone(t, id).unwrap();
             let n = set_len(t, z, side);
             cut_region(t, z, side, n - 1);
         }
         Kind::Remove(side, r) => {
-            let z = find_zone(t, id);
+            let z = find_zone(t, id).unwrap();
             put_back_region(t, z, side, place, r);
         }
         Kind::NoRequest => {}

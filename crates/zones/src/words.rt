@@ -1,57 +1,38 @@
 // Regions among lent words, and the region that lent bytes are.
-ghost use Rattle.std.specs.Prelude.{◌+◌, ◌-◌, ◌*◌, ◌≤◌, ◌≡◌, eqb, length, drop, replicate};
+ghost use Rattle.std.specs.Prelude.{◌+◌, ◌-◌, ◌*◌, ◌≤◌, ◌≡◌, eqb, length, drop, replicate, position, Bool};
 ghost use Rattle.std.proofs.lemmas.List.Edits.{sets};
 ghost use Rattle.std.proofs.Math.Seq.{paste};
-ghost use Rattle.lists.specs.First.{first_index};
 ghost use Rattle.lists.specs.Words.{closed, cleared};
 ghost use Rattle.rules.specs.Applying.{same_list};
 ghost use Rattle.rules.specs.Regions.{used};
 ghost use Rattle.rules.specs.Run.{region_in};
+ghost use Rattle.rules.specs.declared.Region.{Region};
 ghost use Rattle.zones.specs.Layout.{region_words};
 ghost use Rattle.zones.specs.Packing.{zeros};
-ghost use Rattle.zones.specs.Alike.{alike_by};
 ghost use Rattle.zones.specs.Moves.{opened};
 ghost use Rattle.zones.specs.Records.{region_at, records_at, words_of_region, placed, holds_at};
 
 use crate::layout::REGION_WORDS;
 use fields::u64_at;
-use region::{guest_overlap, phys_overlap, region_eq};
+use region::region_eq;
 use rules::{Guest, Phys, Region, Rights};
 
-// How a region is looked for among records: by equality, or by overlap in physical or in guest addresses.
-#[derive(Clone, Copy)]
-pub enum By {
-    Equal,
-    Phys,
-    Guest,
-}
-
-fn alike(by: By, r: Region, e: Region) -> bool
-    ensures { result ≡ alike_by by r e }
+// The place of the first of n records from word b on that is what is looked for.
+pub fn find_record<F: Fn(Region) -> bool>(s: &[u64], b: usize, n: usize, is: F) -> Option<usize>
+    requires room { b + n * region_words ≤ length s.now }
+    requires callable { F.IsAlwaysCallable is }
+    ensures { (p : Region → Bool) → ((e : Region) (t : Bool) → F.post is e t → t ≡ p e) → result ≡ position p (records_at s.now b n) }
 {
-    match by {
-        By::Equal => region_eq(r, e),
-        By::Phys => phys_overlap(r, e),
-        By::Guest => guest_overlap(r, e),
-    }
-}
-
-// The first of n records from word b on that is alike r, or n.
-pub fn find_record(s: &[u64], b: usize, n: usize, by: By, r: Region) -> usize
-    requires { b + n * region_words ≤ length s.now }
-    ensures { result ≡ first_index (alike_by by r) (records_at s.now b n) }
-{
-    let mut i = 0;
-    while i < n {
-        if alike(by, r, read_region(s, b + i * REGION_WORDS)) {
-            return i;
+    for i in 0..n {
+        if is(read_region(s, b + i * REGION_WORDS)) {
+            return Some(i);
         }
-        i += 1;
     }
-    i
+    None
 }
 
 // Whether not all numbers of the region are zero.
+#[tactic(auto, unfolding(rules::specs::Regions::region_eq, rules::specs::Fields::numbers_of, lists::specs::Tests::all_of, lists::specs::Tests::each_two))]
 pub fn is_used(r: Region) -> bool
     ensures { result ≡ used r }
 {
@@ -61,7 +42,7 @@ pub fn is_used(r: Region) -> bool
         size: 0,
         rights: Rights(0),
     };
-    !region_eq(r, none)
+    r != none
 }
 
 // The region whose record starts at word k.
@@ -108,10 +89,7 @@ pub fn holds_region(s: &[u64], k: usize, r: Region) -> bool
     if s.len() < REGION_WORDS {
         return false;
     }
-    if s.len() - REGION_WORDS < k {
-        return false;
-    }
-    region_eq(read_region(s, k), r)
+    k <= s.len() - REGION_WORDS && region_eq(read_region(s, k), r)
 }
 
 // The region that the first bytes are. It is lent a region's own bytes, whose number the compiler then knows: no field is asked whether it
@@ -163,10 +141,8 @@ fn bits_in(s: &[u64], k: usize, n: usize) -> u64
     ensures { eqb result 0 ≡ zeros s.now k n }
 {
     let mut x: u64 = 0;
-    let mut i = 0;
-    while i < n {
-        x = x | s[k + i];
-        i += 1;
+    for i in 0..n {
+        x |= s[k + i];
     }
     x
 }
@@ -175,18 +151,7 @@ fn bits_in(s: &[u64], k: usize, n: usize) -> u64
 pub fn same_words(a: &[u64], b: &[u64]) -> bool
     ensures { result ≡ same_list eqb a.now b.now }
 {
-    if a.len() != b.len() {
-        return false;
-    }
-    let n = a.len();
-    let mut k = 0;
-    while k < n {
-        if a[k] != b[k] {
-            return false;
-        }
-        k += 1;
-    }
-    true
+    a == b
 }
 
 // The words past at + width, up to end, come down by width.
@@ -194,12 +159,8 @@ fn move_down(s: &mut [u64], at: usize, width: usize, end: usize)
     requires { (at + width ≤ end) × (end ≤ length s.old) }
     ensures { s.new ≡ paste s.old at (drop (at + width) s.old) (end - width - at) }
 {
-    let last = end - width;
-    let mut k = at;
-    while k < last {
-        let x = s[k + width];
-        s[k] = x;
-        k += 1;
+    for k in at..end - width {
+        s[k] = s[k + width];
     }
 }
 
@@ -208,19 +169,14 @@ pub fn clear(s: &mut [u64], at: usize, end: usize)
     requires { (at ≤ end) × (end ≤ length s.old) }
     ensures { s.new ≡ cleared s.old at end }
 {
-    let mut k = at;
-    while k < end {
-        s[k] = 0;
-        k += 1;
-    }
+    s[at..end].fill(0);
 }
 
 // Every word is zero.
 pub fn clear_words(s: &mut [u64])
     ensures { s.new ≡ replicate (length s.old) 0 }
 {
-    let n = s.len();
-    clear(s, 0, n);
+    s.fill(0);
 }
 
 // The width words at `at` go, those after them up to end come down, and zeros fill what is left.
@@ -238,11 +194,7 @@ pub fn open_gap(s: &mut [u64], at: usize, width: usize, end: usize)
     requires { (at + width ≤ end) × (end ≤ length s.old) }
     ensures { s.new ≡ opened s.old at width end }
 {
-    let first = at + width;
-    let mut k = end;
-    while first < k {
-        k -= 1;
-        let x = s[k - width];
-        s[k] = x;
+    for k in (at + width..end).rev() {
+        s[k] = s[k - width];
     }
 }

@@ -1,11 +1,10 @@
 -- By what was found: the refusal and its offset, or 0 and where the zones begin; the section's length beside it.
-use borrow.Author.Rules.{rules}
-use Rattle.agent.proofs.Answers.{read_bad, read_end}
-use Rattle.agent.proofs.Differing.{base_refused, base_there}
+use Rattle.std.proofs.Common.{◌∙◌}
+use Rattle.agent.proofs.Differing.{base_told}
 use Rattle.agent.proofs.peatmitten_base_zones.Goals as goal
 
-pub returns-in-Bad : goal.returns-in-Bad
-returns-in-Bad c = (search (read_bad, read_end, rules), search (base_refused, base_there, rules))
+pub returns-in-Ok : goal.returns-in-Ok
+returns-in-Ok c = base_told _ _ _ c.find_base-base.ensures c.in-Ok.ensures
 
-pub returns-in-At : goal.returns-in-At
-returns-in-At c = (search (read_bad, read_end, rules), search (base_refused, base_there, rules))
+pub returns-in-Err : goal.returns-in-Err
+returns-in-Err c = let t = base_told _ _ _ c.find_base-base.ensures c.in-Err.ensures in (c.from.ensures ∙ t.0, t.1)

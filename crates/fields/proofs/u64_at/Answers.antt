@@ -1,7 +1,7 @@
--- Both ways read the same number: at once where all of it is there, else byte by byte.
-use borrow.Author.Rules.{rules}
-use Rattle.fields.proofs.Numbers.{there_told}
+-- The array has the bytes that are there, so it spells their number.
+use Rattle.std.proofs.Common.{◌∙◌}
+use Rattle.fields.proofs.Numbers.{number_of_8}
 use Rattle.fields.proofs.u64_at.Goals as goal
 
-pub eight_in-requires : goal.eight_in-requires
-eight_in-requires c = search (there_told, rules)
+pub returns : goal.returns
+returns c = c.from_le_bytes.ensures ∙ number_of_8 _ _ _ c.bytes_at.ensures

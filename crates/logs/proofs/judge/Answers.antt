@@ -5,13 +5,13 @@ use borrow.Author.Rules.{rules}
 use Rattle.logs.proofs.judge.Goals as goal
 
 pub returns-then-outcome-ne0 : goal.returns-then-outcome-ne0
-returns-then-outcome-ne0 c = judge_found _ _ _ _ _ _ _ _ _ _ _ _ _ c.read_regions_in-configured.ensures
-    c.read_zones_in-base.ensures c.audit_in-audited.ensures refl
+returns-then-outcome-ne0 c = judge_found _ _ _ _ _ _ _ _ _ _ _ _ _ c.read_regions_in.ensures
+    c.read_zones_in.ensures c.audit_in-audited.ensures refl
     (search rules)
 
 pub returns : goal.returns
 returns c = judge_written _ _ _ _ _ _ _ _ _ _ _ _ _
-    c.read_regions_in-configured.ensures
-    c.read_zones_in-base.ensures
+    c.read_regions_in.ensures
+    c.read_zones_in.ensures
     c.audit_in-audited.ensures refl (search rules) _ _
     c.write_zones-written.ensures

@@ -1,29 +1,12 @@
--- By what was found: a refusal of the bytes, or a plan that reads whole.
-use Rattle.plan.proofs.Outcomes.{regions_fit, zones_fit, requests_fit}
-use Rattle.storage.proofs.Calls.{turned_beside, found_is_beside}
-use borrow.Author.Rules.{rules}
+-- By how the plan is judged: its requests are run on a copy, or it is turned away.
+use Rattle.plan.proofs.Judging.{turned_applied, turned_refused}
+use Rattle.storage.proofs.Beside.{beside_away, beside_own}
 use Rattle.storage.proofs.answer_beside.Goals as goal
 
-pub slice_bounds-found_beside-count : goal.slice_bounds-found_beside-count
-slice_bounds-found_beside-count c = search (regions_fit, rules)
+pub returns-in-Ok : goal.returns-in-Ok
+returns-in-Ok g c =
+    beside_own _ _ _ _ _ _ _ c.in-Ok.ensures.applied _ c.copy_table.ensures _ _ c.run_in.ensures.ran c.run_in.ensures.stands
 
-pub slice_bounds-found_beside-start : goal.slice_bounds-found_beside-start
-slice_bounds-found_beside-start c = search (regions_fit, rules)
-
-pub slice_bounds-found_beside-count-in-At : goal.slice_bounds-found_beside-count-in-At
-slice_bounds-found_beside-count-in-At c = search (zones_fit, rules)
-
-pub slice_bounds-found_beside-start-in-At : goal.slice_bounds-found_beside-start-in-At
-slice_bounds-found_beside-start-in-At c = search (zones_fit, rules)
-
-pub slice_bounds-found_beside-count-in-At-2 : goal.slice_bounds-found_beside-count-in-At-2
-slice_bounds-found_beside-count-in-At-2 c = search (requests_fit, rules)
-
-pub slice_bounds-found_beside-start-in-At-2 : goal.slice_bounds-found_beside-start-in-At-2
-slice_bounds-found_beside-start-in-At-2 c = search (requests_fit, rules)
-
-pub returns-in-Bad : goal.returns-in-Bad
-returns-in-Bad c = search (turned_beside, rules)
-
-pub returns-in-At : goal.returns-in-At
-returns-in-At c = search (found_is_beside, rules)
+pub returns-in-Err : goal.returns-in-Err
+returns-in-Err g c =
+    beside_away _ _ _ _ _ _ _ (turned_applied _ _ _ _ _ _ c.in-Err.ensures.applied) (turned_refused _ _ _ _ _ _ c.in-Err.ensures.applied)

@@ -1,33 +1,37 @@
 -- Four steps from the plan's first byte, and what their findings say of the edition.
-use Rattle.std.proofs.Common.{◌≡◌, ◌∙◌, List, ℕ, ap}
+use Rattle.std.proofs.Common.{◌≡◌, ◌∙◌, ℕ, List, ap}
+use Rattle.std.specs.Prelude.{Option}
 use Rattle.std.specs.Borrow.{Bor}
-use Rattle.walker.specs.declared.Edition.{Edition}
-use Rattle.walker.specs.declared.Found.{Found}
-use Rattle.walker.specs.declared.Next.{Next}
+use Rattle.plan.specs.Told.{Told}
 use Rattle.walker.specs.declared.Walker.{Walker}
 use Rattle.walker.specs.Edition.{judged, edition_of}
 use Rattle.walker.specs.Walker.{start_of, next_of}
 use Rattle.walker.proofs.Editions.{walked_is}
 use Rattle.walker.proofs.edition_of.Goals as goal
 
-told : (plan : Bor (List ℕ)) (start : Walker) (count gic edition format : Next) (answer : Edition) → start ≡ start_of plan
-    → count ≡ next_of start → gic ≡ next_of count.walker → edition ≡ next_of gic.walker
-    → format ≡ next_of edition.walker → answer ≡ judged count.found gic.found edition.found format.found
-    → answer ≡ edition_of plan.now
-told plan start count gic edition format answer s c g e f j =
-    let first : count ≡ next_of (start_of plan) = c ∙ ap next_of s in
-    let second : gic ≡ next_of (next_of (start_of plan)).walker = g ∙ ap (λ (n : Next). next_of n.walker) first in
-    let third : edition ≡ next_of (next_of (next_of (start_of plan)).walker).walker =
-    e ∙ ap (λ (n : Next). next_of n.walker) second in
-    let fourth : format ≡ next_of (next_of (next_of (next_of (start_of plan)).walker).walker).walker =
-    f ∙ ap (λ (n : Next). next_of n.walker) third in
-    j ∙ ap (λ (n : Next). judged n.found gic.found edition.found format.found) first
-    ∙ ap (λ (n : Next). judged (next_of (start_of plan)).found n.found edition.found format.found) second
-    ∙ ap (λ (n : Next). judged (next_of (start_of plan)).found (next_of (next_of (start_of plan)).walker).found n.found format.found) third
-    ∙ ap (λ (n : Next). judged (next_of (start_of plan)).found (next_of (next_of (start_of plan)).walker).found (next_of (next_of (next_of (start_of plan)).walker).walker).found n.found) fourth
+-- the walker before each step, what the step finds, and the walker after it
+abbrev Stepped : Walker → Option ℕ → Walker → Type 0
+Stepped w r v = (r ≡ (next_of w).0) × (v ≡ (next_of w).1)
+
+after : (u w v : Walker) (r : Option ℕ) → w ≡ u → Stepped w r v → Stepped u r v
+after u w v r e s = (s.0 ∙ ap (λ (x : Walker). (next_of x).0) e, s.1 ∙ ap (λ (x : Walker). (next_of x).1) e)
+
+walked_to : (plan : Bor (List ℕ)) (a b c d e : Walker) (count gic edition format : Option ℕ) (answer : Told ℕ)
+    → a ≡ start_of plan → Stepped a count b → Stepped b gic c → Stepped c edition d → Stepped d format e
+    → answer ≡ judged count gic edition format → answer ≡ edition_of plan.now
+walked_to plan a b c d e count gic edition format answer start s1 s2 s3 s4 j =
+    let t1 = after (start_of plan) a b count start s1 in
+    let t2 = after _ b c gic t1.1 s2 in
+    let t3 = after _ c d edition t2.1 s3 in
+    let t4 = after _ d e format t3.1 s4 in
+    j ∙ ap (λ (x : Option ℕ). judged x gic edition format) t1.0
+    ∙ ap (λ (x : Option ℕ). judged (next_of (start_of plan)).0 x edition format) t2.0
+    ∙ ap (λ (x : Option ℕ). judged (next_of (start_of plan)).0 (next_of (next_of (start_of plan)).1).0 x format) t3.0
+    ∙ ap (λ (x : Option ℕ). judged (next_of (start_of plan)).0 (next_of (next_of (start_of plan)).1).0
+    (next_of (next_of (next_of (start_of plan)).1).1).0 x) t4.0
     ∙ walked_is plan.now
 
 pub returns : goal.returns
 returns c =
-    told c.args.plan _ _ _ _ _ _ c.new.ensures c.next-count.ensures c.next-gic.ensures c.next-edition.ensures
-    c.next-format.ensures c.judge.ensures
+    walked_to c.args.plan _ _ _ _ _ _ _ _ _ _ c.new-walker.ensures c.next-count.ensures.steps c.next-gic.ensures.steps
+    c.next-edition.ensures.steps c.next-format.ensures.steps c.judge.ensures

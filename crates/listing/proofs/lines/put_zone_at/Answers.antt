@@ -1,7 +1,7 @@
 -- The lines of the two sets, one behind the other.
-use borrow.Author.Rules.{rules}
+use Rattle.std.proofs.Common.{rules}
 use Rattle.listing.proofs.Putting.{zone_put}
 use Rattle.listing.proofs.lines.put_zone_at.Goals as goal
 
-pub returns : goal.returns
-returns c = (search (zone_put, rules), search rules)
+pub returns-clause-wrote : goal.returns-clause-wrote
+returns-clause-wrote c = search (zone_put, rules)

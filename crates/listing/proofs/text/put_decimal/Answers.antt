@@ -1,7 +1,7 @@
 -- As many digits as the number has, and what stands after them.
-use borrow.Author.Rules.{rules}
+use Rattle.std.proofs.Common.{rules}
 use Rattle.listing.proofs.Fields.{decimal_put}
 use Rattle.listing.proofs.text.put_decimal.Goals as goal
 
-pub returns : goal.returns
-returns c = (search (decimal_put, rules), search rules)
+pub returns-clause-wrote : goal.returns-clause-wrote
+returns-clause-wrote c = search (decimal_put, rules)

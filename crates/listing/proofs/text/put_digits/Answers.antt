@@ -1,9 +1,10 @@
-use borrow.Author.Rules.{rules}
+-- One digit less to put each time.
+use Rattle.std.proofs.Common.{rules}
 use Rattle.listing.proofs.Fields.{digits_on, digits_end}
 use Rattle.listing.proofs.text.put_digits.Goals as goal
 
-pub loop-left-preserved : goal.loop-left-preserved
-loop-left-preserved c = ((search rules, search rules), search (digits_on, rules))
+pub loop-i-preserved : goal.loop-i-preserved
+loop-i-preserved g c = search (digits_on, rules)
 
 pub returns : goal.returns
-returns c = search (digits_end, rules)
+returns g c = search (digits_end, rules)

@@ -1,7 +1,6 @@
 -- The sections, and nothing after them.
 use Rattle.owned.proofs.Locating.{owned_found}
-use borrow.Author.Rules.{rules}
 use Rattle.owned.proofs.finding.find_sections.Goals as goal
 
 pub returns : goal.returns
-returns c = search (owned_found, rules)
+returns c = owned_found _ _ _ c.find_four-four.ensures c.whole_at.ensures

@@ -1,6 +1,5 @@
 -- Invariant: the words are those of the ids before i, and zeros.
-use Prim.Native.Nat.{◌-◌, ◌≤◌}
-use mathlib.Core.Path.{◌≡◌}
+use Rattle.std.proofs.Common.{◌≡◌}
 use Rattle.lists.specs.Places.{tab}
 use Rattle.lists.specs.Room.{room}
 use Rattle.rules.specs.Limits.{most_regions}
@@ -8,7 +7,4 @@ use Rattle.owned.specs.Section.{id_at}
 use Rattle.owned.proofs.owners_section.ids_at.Given as goal
 
 abbrev pub invariant-loop-i : goal.invariant-loop-i
-invariant-loop-i l = (l.i ≤ l.n) × (l.owners ≡ room most_regions 0 (tab l.i (id_at l.s)))
-
-abbrev pub decreases-loop-i : goal.decreases-loop-i
-decreases-loop-i l = l.n - l.i
+invariant-loop-i l = l.owners ≡ room most_regions 0 (tab l.i (id_at l.s))

@@ -1,16 +1,15 @@
-use Prim.Native.Nat.{◌-◌}
-use borrow.Author.Rules.{rules}
-use Rattle.plan.proofs.Holding.{records_begin, records_differ, records_agree, records_over}
+-- The closure is the test of one record.
+use Rattle.std.proofs.Common.{rules, arith}
+use mathlib.Core.Path.{refl, ◌∙◌}
+use borrow.Author.Tests.{tests}
+use Rattle.std.proofs.lemmas.Iterator.{YieldsList-from_range}
+use Rattle.std.proofs.lemmas.Iterator.Search.{all_from_yields_List}
+use Rattle.plan.specs.Held.{same_record}
+use Rattle.plan.proofs.Holding.{one_record, all_places}
 use Rattle.plan.proofs.comparing.same_records.Goals as goal
 
-pub loop-i-init : goal.loop-i-init
-loop-i-init c = (search rules, search (records_begin, rules))
-
-pub returns-then-not-same_record : goal.returns-then-not-same_record
-returns-then-not-same_record c = search (records_differ, rules)
-
-pub loop-i-preserved : goal.loop-i-preserved
-loop-i-preserved c = (search rules, search (records_agree, rules))
-
 pub returns : goal.returns
-returns c = search (records_over, rules)
+returns c =
+    all_from_yields_List (same_record c.args.s.now c.args.at c.args.w.now c.args.a) _ _ _ c.all.ensures.ran
+    (YieldsList-from_range 0 c.args.n c.args.n refl (omega arith)) (λ x b q k. search (one_record, rules, tests))
+    ∙ all_places (same_record c.args.s.now c.args.at c.args.w.now c.args.a) 0 c.args.n

@@ -1,19 +1,15 @@
--- By what the marks' reader answered: a refusal, or the rest of the bytes after them.
-use Rattle.plan.proofs.Locating.{marks_refused, marks_there, regions_follow, marks_lead}
-use borrow.Author.Rules.{rules}
+-- By what the marks' reader answered, and then by where the regions end.
+use Rattle.plan.proofs.Locating.{marks_refused, regions_refused, zones_lead}
+use Rattle.plan.proofs.Told.{passed_on}
 use Rattle.plan.proofs.finding.find_four.Goals as goal
 
-pub slice_bounds-find_regions-count : goal.slice_bounds-find_regions-count
-slice_bounds-find_regions-count c = search (marks_there, rules)
+pub returns-in_err-gic : goal.returns-in_err-gic
+returns-in_err-gic c = rw (passed_on _ _ c.from_residual.ensures) (marks_refused _ _ _ c.in_err-gic.ensures)
 
-pub slice_bounds-find_regions-start : goal.slice_bounds-find_regions-start
-slice_bounds-find_regions-start c = search (marks_there, rules)
+pub returns-in_err-zones : goal.returns-in_err-zones
+returns-in_err-zones c =
+    rw (passed_on _ _ c.from_residual-in_err-zones.ensures)
+    (regions_refused _ _ _ c.in_ok-gic.ensures _ c.in_err-zones.ensures)
 
-pub find_regions-requires : goal.find_regions-requires
-find_regions-requires c = search (regions_follow, rules)
-
-pub returns-in-Bad : goal.returns-in-Bad
-returns-in-Bad c = search (marks_refused, rules)
-
-pub returns-in-Are : goal.returns-in-Are
-returns-in-Are c = search (marks_lead, rules)
+pub returns : goal.returns
+returns c = zones_lead _ _ _ c.in_ok-gic.ensures _ c.in_ok-zones.ensures _ c.find_from_zones.ensures

@@ -1,7 +1,6 @@
 -- The four sections, and nothing after them.
 use Rattle.plan.proofs.Locating.{plan_found}
-use borrow.Author.Rules.{rules}
 use Rattle.plan.proofs.finding.find_sections.Goals as goal
 
 pub returns : goal.returns
-returns c = search (plan_found, rules)
+returns c = plan_found _ _ _ c.find_four-four.ensures c.whole_at.ensures

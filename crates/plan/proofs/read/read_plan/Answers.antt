@@ -1,22 +1,23 @@
 -- By what was found: a refusal of the bytes, or the sections, which are read where they begin.
-use Rattle.plan.proofs.Outcomes.{read_away, plan_read, regions_fit, zones_fit}
-use borrow.Author.Rules.{rules}
+use Rattle.plan.proofs.Outcomes.{read_away, fits, plan_read}
+use Rattle.plan.proofs.Told.{passed_on}
 use Rattle.plan.proofs.read.read_plan.Goals as goal
 
-pub slice_bounds-read_regions-count : goal.slice_bounds-read_regions-count
-slice_bounds-read_regions-count c = search (regions_fit, rules)
+pub returns-in_err-gic : goal.returns-in_err-gic
+returns-in_err-gic c = rw (passed_on _ _ c.from_residual.ensures) (read_away _ _ _ c.in_err-gic.ensures)
 
-pub slice_bounds-read_regions-start : goal.slice_bounds-read_regions-start
-slice_bounds-read_regions-start c = search (regions_fit, rules)
+pub slice_bounds-read_regions_in-count : goal.slice_bounds-read_regions_in-count
+slice_bounds-read_regions_in-count c = (fits _ _ c.in_ok-gic.ensures).regions
 
-pub slice_bounds-read_zones-count : goal.slice_bounds-read_zones-count
-slice_bounds-read_zones-count c = search (zones_fit, rules)
+pub slice_bounds-read_regions_in-start : goal.slice_bounds-read_regions_in-start
+slice_bounds-read_regions_in-start c = (fits _ _ c.in_ok-gic.ensures).regions
 
-pub slice_bounds-read_zones-start : goal.slice_bounds-read_zones-start
-slice_bounds-read_zones-start c = search (zones_fit, rules)
+pub slice_bounds-read_zones_in-count : goal.slice_bounds-read_zones_in-count
+slice_bounds-read_zones_in-count c = (fits _ _ c.in_ok-gic.ensures).zones
 
-pub returns-in-Bad : goal.returns-in-Bad
-returns-in-Bad c = search (read_away, rules)
+pub slice_bounds-read_zones_in-start : goal.slice_bounds-read_zones_in-start
+slice_bounds-read_zones_in-start c = (fits _ _ c.in_ok-gic.ensures).zones
 
-pub returns-in-At : goal.returns-in-At
-returns-in-At c = search (plan_read, rules)
+pub returns : goal.returns
+returns c =
+    plan_read _ _ c.in_ok-gic.ensures _ _ _ _ c.read_regions_in.ensures c.read_zones_in.ensures

@@ -1,10 +1,13 @@
 -- Cleared, and then read into where the section is there.
-use borrow.Author.Rules.{rules}
+use Rattle.std.proofs.Common.{rules}
 use Rattle.plan.proofs.Answers.{zones_bad, zones_are}
+use Rattle.plan.proofs.Told.{passed_on}
 use Rattle.plan.proofs.sections.read_zones_in.Goals as goal
 
-pub returns-in_default : goal.returns-in_default
-returns-in_default c = search (zones_bad, rules)
+pub returns-in_err-pass_zones : goal.returns-in_err-pass_zones
+returns-in_err-pass_zones c =
+    rw (passed_on _ _ c.from_residual.ensures)
+    (zones_bad _ _ _ (search rules) c.clear_words.ensures _ c.in_err-pass_zones.ensures)
 
 pub returns : goal.returns
-returns c = search (zones_are, rules)
+returns c = zones_are _ _ _ (search rules) c.clear_words.ensures _ c.in_ok-pass_zones.ensures _ _ c.read_table.ensures

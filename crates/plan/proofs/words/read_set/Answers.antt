@@ -1,16 +1,15 @@
--- Each return is one case: a count that is cut or out of range, or the records after it.
-use Rattle.plan.proofs.Into.{kept_after, set_stops, set_out, set_leads, number_within, records_room}
-use borrow.Author.Rules.{rules}
+-- By what the count's reader answered: a refusal, or the records after it.
+use Rattle.std.proofs.Common.{rules}
+use Rattle.plan.proofs.Fields.{field_there_law}
+use Rattle.plan.proofs.Into.{kept_after, set_stops, set_leads, records_room}
+use Rattle.plan.proofs.Told.{passed_on}
 use Rattle.plan.proofs.words.read_set.Goals as goal
 
-pub returns-in_default : goal.returns-in_default
-returns-in_default c = search (set_stops, rules)
-
-pub returns-then-not-is_within : goal.returns-then-not-is_within
-returns-then-not-is_within c = search (set_out, rules)
+pub returns-in_err-n : goal.returns-in_err-n
+returns-in_err-n c = rw (passed_on _ _ c.from_residual.ensures) (set_stops _ _ _ _ _ _ _ _ c.in_err-n.ensures)
 
 pub read_records-requires : goal.read_records-requires
-read_records-requires c = (search (number_within, rules), search (records_room, rules))
+read_records-requires c = (field_there_law _ _ _ _ _ c.in_ok-n.ensures, records_room _ _ _ _ _ _ _ _ c.in_ok-n.ensures c.requires.1)
 
 pub shape_of-w : goal.shape_of-w
 shape_of-w c = search (kept_after, rules)

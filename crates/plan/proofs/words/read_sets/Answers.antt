@@ -1,13 +1,14 @@
 -- One set after the other: a refusal of the first is the whole answer.
+use Rattle.std.proofs.Common.{rules}
 use Rattle.plan.proofs.Into.{sets_stop, sets_go, within_end}
-use borrow.Author.Rules.{rules}
+use Rattle.plan.proofs.Told.{passed_on}
 use Rattle.plan.proofs.words.read_sets.Goals as goal
 
-pub returns-in_default : goal.returns-in_default
-returns-in_default c = search (sets_stop, rules)
+pub returns-in_err-at : goal.returns-in_err-at
+returns-in_err-at c = rw (passed_on _ _ c.from_residual.ensures) (sets_stop _ _ _ _ _ _ c.in_err-at.ensures)
 
-pub read_set-requires : goal.read_set-requires
-read_set-requires c = ((search (within_end, rules), search rules), search rules)
+pub read_set-requires-2 : goal.read_set-requires-2
+read_set-requires-2 c = ((within_end _ _ _ _ c.in_ok-at.ensures, search rules), search rules)
 
 pub returns : goal.returns
-returns c = search (sets_go, rules)
+returns c = sets_go _ _ _ _ _ _ c.in_ok-at.ensures _ _ c.read_set-2.ensures

@@ -1,17 +1,18 @@
--- Each return is one case: a count that is cut or out of range, or the zones after it.
-use Rattle.plan.proofs.Into.{kept_after, zones_stop, zones_out, zones_lead, zones_room, zones_few}
-use Rattle.plan.proofs.Answers.{first_there}
-use borrow.Author.Rules.{rules}
+-- By what the count's reader answered: a refusal, or the zones after it.
+use Rattle.std.proofs.Common.{rules}
+use Rattle.plan.proofs.Fields.{field_there_law}
+use Rattle.plan.proofs.Into.{kept_after, count_most, zones_stop, zones_lead, zones_room}
+use Rattle.plan.proofs.Told.{passed_on}
 use Rattle.plan.proofs.words.read_table.Goals as goal
 
-pub returns-in_default : goal.returns-in_default
-returns-in_default c = search (zones_stop, rules)
-
-pub returns-then-not-is_within : goal.returns-then-not-is_within
-returns-then-not-is_within c = search (zones_out, rules)
+pub returns-in_err-n : goal.returns-in_err-n
+returns-in_err-n c = rw (passed_on _ _ c.from_residual.ensures) (zones_stop _ _ _ c.in_err-n.ensures)
 
 pub read_zone_list-requires : goal.read_zone_list-requires
-read_zone_list-requires c = ((search (first_there, rules), search (zones_few, rules)), search (zones_room, rules))
+read_zone_list-requires c = (
+  (field_there_law _ _ _ _ _ c.in_ok-n.ensures, count_most _ _ _ _ _ c.in_ok-n.ensures),
+  search (zones_room, rules),
+)
 
 pub shape_of-w : goal.shape_of-w
 shape_of-w c = search (kept_after, rules)

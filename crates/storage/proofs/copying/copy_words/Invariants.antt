@@ -1,11 +1,6 @@
--- Invariant: the first i words are copied.
-use Prim.Native.Nat.{◌-◌, ◌≤◌}
-use mathlib.Core.Path.{◌≡◌}
-use lib.ListN.{length, take}
+-- The first i words are copied.
+use Rattle.std.proofs.Common.{◌≡◌, take}
 use Rattle.storage.proofs.copying.copy_words.Given as goal
 
 abbrev pub invariant-loop-i : goal.invariant-loop-i
-invariant-loop-i l = ((l.i ≤ length l.from) × (length l.to ≡ length l.from)) × (take l.i l.to ≡ take l.i l.from)
-
-abbrev pub decreases-loop-i : goal.decreases-loop-i
-decreases-loop-i l = length l.from - l.i
+invariant-loop-i l = take l.i l.to ≡ take l.i l.from

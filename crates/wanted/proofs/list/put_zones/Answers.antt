@@ -1,18 +1,13 @@
-use borrow.Author.Rules.{rules}
-use Prim.Native.Nat.{◌-◌}
-use mathlib.Core.Path.{refl}
-use Rattle.wanted.proofs.Looking.{id_low}
+-- One zone more each time.
+use Rattle.std.proofs.Common.{rules}
 use Rattle.wanted.proofs.Putting.{rows_none, zones_on, zones_end_law}
 use Rattle.wanted.proofs.list.put_zones.Goals as goal
 
 pub loop-z-init : goal.loop-z-init
-loop-z-init c = ((search rules, refl), (search rules, search (rows_none, rules)))
-
-pub overflow_cast-id : goal.overflow_cast-id
-overflow_cast-id c = search (id_low, rules)
+loop-z-init c = record { moved = search rules; wrote = search (rows_none, rules) }
 
 pub loop-z-preserved : goal.loop-z-preserved
-loop-z-preserved c = ((search rules, search rules), (search rules, search (zones_on, rules)))
+loop-z-preserved c = record { moved = search rules; wrote = search (zones_on, rules) }
 
-pub returns : goal.returns
-returns c = (search (zones_end_law, rules), search rules)
+pub returns-clause-wrote : goal.returns-clause-wrote
+returns-clause-wrote c = search (zones_end_law, rules)

@@ -1,11 +1,9 @@
 -- Invariant: what the first z zones give is put.
-use Prim.Native.Nat.{◌+◌, ◌-◌, ◌*◌, ◌≤◌}
+use Rattle.std.proofs.Common.{◌≤◌, ◌+◌, ◌*◌}
 use mathlib.Core.List.{flat_map}
-use mathlib.Core.Path.{◌≡◌}
-use lib.ListN.{length}
 use Rattle.lists.specs.Places.{tab}
 use Rattle.formats.specs.Formats.{write_many}
-use Rattle.puts.specs.Puts.{Put}
+use Rattle.puts.specs.Pens.{Wrote}
 use Rattle.rules.specs.Plan.{asked_field}
 use Rattle.rules.specs.Run.{request_size}
 use Rattle.zones.specs.View.{zone_in, zones_in}
@@ -13,9 +11,7 @@ use Rattle.wanted.specs.Wanted.{missed_zone}
 use Rattle.wanted.proofs.list.put_zones.Given as goal
 
 abbrev pub invariant-loop-z : goal.invariant-loop-z
-invariant-loop-z l = ((l.z ≤ l.n) × (length l.b ≡ length l.initial.b))
-    × ((l.at ≤ l.start + l.z * request_size)
-    × Put l.initial.b l.start (write_many asked_field (flat_map (missed_zone l.kind (zones_in l.to)) (tab l.z (zone_in l.from)))) l.b l.at)
-
-abbrev pub decreases-loop-z : goal.decreases-loop-z
-decreases-loop-z l = l.n - l.z
+invariant-loop-z l = record {
+  moved : l.pen.at ≤ l.initial.pen.at + l.z * request_size;
+  wrote : Wrote l.initial.pen l.pen (write_many asked_field (flat_map (missed_zone l.change (zones_in l.to)) (tab l.z (zone_in l.from))));
+}

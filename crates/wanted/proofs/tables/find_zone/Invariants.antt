@@ -1,5 +1,4 @@
 -- Invariant: the first zone with the id from z on is the first of all.
-use Prim.Native.Nat.{◌-◌, ◌≤◌}
 use mathlib.Core.Path.{◌≡◌}
 use Rattle.lists.specs.First.{first_index, first_from}
 use Rattle.rules.specs.Tables.{has_id}
@@ -7,7 +6,4 @@ use Rattle.zones.specs.View.{zones_in}
 use Rattle.wanted.proofs.tables.find_zone.Given as goal
 
 abbrev pub invariant-loop-z : goal.invariant-loop-z
-invariant-loop-z l = (l.z ≤ l.n) × (first_from (has_id l.id) (zones_in l.t) l.z ≡ first_index (has_id l.id) (zones_in l.t))
-
-abbrev pub decreases-loop-z : goal.decreases-loop-z
-decreases-loop-z l = l.n - l.z
+invariant-loop-z l = (first_from (has_id l.id) (zones_in l.t) l.z ≡ first_index (has_id l.id) (zones_in l.t))

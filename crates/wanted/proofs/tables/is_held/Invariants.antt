@@ -1,5 +1,5 @@
 -- Invariant: the first equal region from i on is the first of all.
-use Prim.Native.Nat.{◌+◌, ◌-◌, ◌≤◌}
+use Prim.Native.Nat.{◌+◌}
 use mathlib.Core.Path.{◌≡◌}
 use Rattle.lists.specs.First.{first_index, first_from}
 use Rattle.rules.specs.Regions.{region_eq}
@@ -7,7 +7,4 @@ use Rattle.zones.specs.Records.{records_at}
 use Rattle.wanted.proofs.tables.is_held.Given as goal
 
 abbrev pub invariant-loop-i : goal.invariant-loop-i
-invariant-loop-i l = (l.i ≤ l.n) × (first_from (region_eq l.r) (records_at l.w (l.k + 1) l.n) l.i ≡ first_index (region_eq l.r) (records_at l.w (l.k + 1) l.n))
-
-abbrev pub decreases-loop-i : goal.decreases-loop-i
-decreases-loop-i l = l.n - l.i
+invariant-loop-i l = (first_from (region_eq l.r) (records_at l.set.words.now (l.set.at + 1) l.n) l.i ≡ first_index (region_eq l.r) (records_at l.set.words.now (l.set.at + 1) l.n))

@@ -1,17 +1,13 @@
--- Invariant: the first i words are put, one behind the other.
-use Prim.Native.Nat.{◌+◌, ◌-◌, ◌*◌, ◌≤◌}
-use mathlib.Core.Path.{◌≡◌}
-use lib.ListN.{length}
-use Rattle.lists.specs.Words.{part}
+-- Invariant: the words before the index are put, one behind the other.
+use Rattle.std.proofs.Common.{◌≡◌, ◌+◌, ◌*◌, take}
 use Rattle.formats.specs.Formats.{write_many}
-use Rattle.puts.specs.Puts.{Put}
+use Rattle.puts.specs.Pens.{Wrote}
 use Rattle.rules.specs.Fields.{long_size}
 use Rattle.rules.specs.Plan.{long}
 use Rattle.writer.proofs.sections.put_longs.Given as goal
 
-abbrev pub invariant-loop-i : goal.invariant-loop-i
-invariant-loop-i l = ((l.i ≤ l.n) × (length l.b ≡ length l.initial.b))
-    × ((l.at ≡ l.start + l.i * long_size) × Put l.initial.b l.start (write_many long (part l.a l.i l.w)) l.b l.at)
-
-abbrev pub decreases-loop-i : goal.decreases-loop-i
-decreases-loop-i l = l.n - l.i
+abbrev pub invariant-loop-x : goal.invariant-loop-x
+invariant-loop-x l = record {
+  moved : l.pen.at ≡ l.initial.pen.at + l.x-index * long_size;
+  wrote : Wrote l.initial.pen l.pen (write_many long (take l.x-index l.longs));
+}

@@ -1,7 +1,10 @@
 -- The id and the two sets, one behind the other.
-use borrow.Author.Rules.{rules}
+use native.Mathlib.Omega.{arith}
+use Rattle.std.proofs.Common.{rules}
 use Rattle.writer.proofs.Putting.{zone_put}
 use Rattle.writer.proofs.sections.put_zone_at.Goals as goal
 
-pub returns : goal.returns
-returns c = (search (zone_put, rules), search rules)
+pub returns-clause-wrote : goal.returns-clause-wrote
+returns-clause-wrote c =
+    let w0 = c.u32.ensures.wrote (omega arith) in
+    search (zone_put, rules)

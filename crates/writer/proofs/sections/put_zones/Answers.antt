@@ -1,7 +1,10 @@
 -- The count, and then each zone.
-use borrow.Author.Rules.{rules}
+use native.Mathlib.Omega.{arith}
+use Rattle.std.proofs.Common.{rules}
 use Rattle.writer.proofs.Putting.{zones_put}
 use Rattle.writer.proofs.sections.put_zones.Goals as goal
 
-pub returns : goal.returns
-returns c = (search (zones_put, rules), search rules)
+pub returns-clause-wrote : goal.returns-clause-wrote
+returns-clause-wrote c =
+    let w0 = c.u32.ensures.wrote (omega arith) in
+    search (zones_put, rules)

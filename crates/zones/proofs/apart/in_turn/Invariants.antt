@@ -9,6 +9,3 @@ use Rattle.zones.proofs.apart.in_turn.Given as goal
 abbrev pub invariant-loop-i : goal.invariant-loop-i
 invariant-loop-i l = (l.i ≤ l.n)
     × (spaced l.end (map (span_at l.c) (places l.i (l.n - l.i))) ≡ spaced 0 (map (span_at l.c) (places 0 l.n)))
-
-abbrev pub decreases-loop-i : goal.decreases-loop-i
-decreases-loop-i l = l.n - l.i

@@ -1,4 +1,3 @@
-use Prim.Native.Nat.{◌-◌}
 use borrow.Author.Rules.{rules}
 use Rattle.zones.proofs.QuickCheck.{fit_mid, clear_none, told_clear, mid_within, mid_fits, mid_most, mid_below}
 use Rattle.zones.proofs.QuickCheck.{upper_less, lower_less}
@@ -14,7 +13,7 @@ pub overflow_add-mid : goal.overflow_add-mid
 overflow_add-mid c = search (mid_fits, rules)
 
 pub apart_below-requires-in-loop-hi : goal.apart_below-requires-in-loop-hi
-apart_below-requires-in-loop-hi c = ((search (mid_most, rules), search rules), search (fit_mid, rules))
+apart_below-requires-in-loop-hi c = (search (mid_most, rules), search (fit_mid, rules))
 
 pub loop-hi-smaller-then-apart_below-2 : goal.loop-hi-smaller-then-apart_below-2
 loop-hi-smaller-then-apart_below-2 c = search (upper_less, rules)

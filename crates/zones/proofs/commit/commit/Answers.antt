@@ -1,7 +1,7 @@
 -- Each kind of change is one writer, whose needs are what `Allowed` says of the change.
 use borrow.Author.Rules.{rules}
 use Rattle.zones.proofs.Committing.{add_room, drop_there, push_there, push_room, cut_place, cut_within}
-use Rattle.zones.proofs.Committing.{refuse_done, add_done, drop_done, push_done, cut_done}
+use Rattle.zones.proofs.Committing.{add_done, drop_done, push_done, cut_done}
 use Rattle.zones.proofs.commit.commit.Goals as goal
 
 pub add_zone-requires : goal.add_zone-requires
@@ -15,9 +15,6 @@ push_region-requires c = search (push_there, push_room, rules)
 
 pub cut_region-requires : goal.cut_region-requires
 cut_region-requires c = search (cut_place, cut_within, rules)
-
-pub returns-in-Refuse : goal.returns-in-Refuse
-returns-in-Refuse c = search (refuse_done, rules)
 
 pub returns-in-Add : goal.returns-in-Add
 returns-in-Add c = search (add_done, rules)

@@ -1,4 +1,3 @@
-use Prim.Native.Nat.{◌-◌}
 use borrow.Author.Rules.{rules}
 use Rattle.lists.proofs.Rules.{rules_stop, rules_on, rules_end}
 use Rattle.rules.specs.Limits.{limits}

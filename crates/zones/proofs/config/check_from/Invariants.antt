@@ -14,6 +14,3 @@ abbrev pub invariant-loop-i : goal.invariant-loop-i
 invariant-loop-i l = (l.i ≤ l.n)
     × (first_rule (flat_map (position_rules limits (all_records l.c)) (places l.i (l.n - l.i))) Sound
     ≡ first_rule (flat_map (position_rules limits (all_records l.c)) (places l.k (l.n - l.k))) Sound)
-
-abbrev pub decreases-loop-i : goal.decreases-loop-i
-decreases-loop-i l = l.n - l.i

@@ -1,10 +1,8 @@
--- The first holder is another zone, or it is the zone at z and the next holder after it tells.
-use borrow.Author.Rules.{rules}
-use Rattle.zones.proofs.Deciding.{elsewhere_first, elsewhere_later}
+-- Each other zone is looked at in its place.
+use Rattle.std.proofs.Common.{rules}
+use borrow.Author.Tests.{tests}
+use Rattle.zones.proofs.Checking.{any_elsewhere}
 use Rattle.zones.proofs.decide.held_elsewhere.Goals as goal
 
-pub returns-then-k-z : goal.returns-then-k-z
-returns-then-k-z c = search (elsewhere_first, rules)
-
 pub returns : goal.returns
-returns c = search (elsewhere_later, rules)
+returns c = any_elsewhere _ _ _ _ _ _ c.any.ensures.ran c.zone_count.ensures (λ x t q k. search (rules, tests))

@@ -1,5 +1,4 @@
 -- Each return is one rule, 9, 10 or 11; the last is what the others answer.
-use borrow.Author.Rules.{rules}
 use Rattle.lists.proofs.Rules.{rule_steps}
 use Rattle.lists.proofs.Tests.{told, told_not}
 use Rattle.rules.specs.Requests.{region_rules}

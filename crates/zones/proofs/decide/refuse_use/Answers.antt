@@ -1,5 +1,4 @@
 -- Each return is one rule: 19, 12.
-use borrow.Author.Rules.{rules}
 use Rattle.lists.proofs.Rules.{rule_steps}
 use Rattle.lists.proofs.Tests.{told}
 use Rattle.zones.specs.Decide.{use_rules}

@@ -1,12 +1,13 @@
 -- The two tests in order.
+use Rattle.std.proofs.Common.{◌∙◌}
 use Rattle.lists.proofs.Tests.{conjunction}
 use Rattle.zones.specs.Spans.{fits}
 use Rattle.zones.proofs.keys.is_fit.Goals as goal
 
-pub returns-then-not-well_formed : goal.returns-then-not-well_formed
+pub returns-then-well_formed : goal.returns-then-well_formed
 unfolding fits
-returns-then-not-well_formed c = search conjunction depth 10
+returns-then-well_formed c = search conjunction depth 10
 
-pub returns : goal.returns
+pub returns-else-well_formed : goal.returns-else-well_formed
 unfolding fits
-returns c = search conjunction depth 10
+returns-else-well_formed c = c.if-well_formed.false ∙ search conjunction depth 10

@@ -1,34 +1,36 @@
--- Each return is one rule: the kinds 1 to 6 in order, then none.
+-- Each arm is one rule: the kinds 1 to 6 in order, then none.
 use borrow.Author.Rules.{rules}
+use mathlib.Core.Path.{refl}
+use Rattle.lists.specs.Rules.{first_rule}
 use Rattle.lists.proofs.Rules.{rule_steps}
 use Rattle.lists.proofs.Tests.{tests}
 use Rattle.rules.specs.Run.{make_kind}
 use Rattle.zones.proofs.run.make_kind.Goals as goal
 
-pub returns-then-n-eq1 : goal.returns-then-n-eq1
-unfolding make_kind
-returns-then-n-eq1 c = search (rule_steps, tests) depth 20
+pub returns-in-1 : goal.returns-in-1
+unfolding make_kind first_rule
+returns-in-1 c = rw c.in-1.is c.bare.ensures
 
-pub returns-then-n-eq2 : goal.returns-then-n-eq2
-unfolding make_kind
-returns-then-n-eq2 c = search (rule_steps, tests) depth 20
+pub returns-in-2 : goal.returns-in-2
+unfolding make_kind first_rule
+returns-in-2 c = rw c.in-2.is c.bare-in-2.ensures
 
-pub returns-then-n-eq3 : goal.returns-then-n-eq3
-unfolding make_kind
-returns-then-n-eq3 c = search (rule_steps, tests) depth 20
+pub returns-in-3 : goal.returns-in-3
+unfolding make_kind first_rule
+returns-in-3 c = rw c.in-3.is refl
 
-pub returns-then-n-eq4 : goal.returns-then-n-eq4
-unfolding make_kind
-returns-then-n-eq4 c = search (rule_steps, tests) depth 20
+pub returns-in-4 : goal.returns-in-4
+unfolding make_kind first_rule
+returns-in-4 c = rw c.in-4.is refl
 
-pub returns-then-n-eq5 : goal.returns-then-n-eq5
-unfolding make_kind
-returns-then-n-eq5 c = search (rule_steps, tests) depth 20
+pub returns-in-5 : goal.returns-in-5
+unfolding make_kind first_rule
+returns-in-5 c = rw c.in-5.is refl
 
-pub returns-then-n-eq6 : goal.returns-then-n-eq6
-unfolding make_kind
-returns-then-n-eq6 c = search (rule_steps, tests) depth 20
+pub returns-in-6 : goal.returns-in-6
+unfolding make_kind first_rule
+returns-in-6 c = rw c.in-6.is refl
 
-pub returns : goal.returns
+pub returns-in_default : goal.returns-in_default
 unfolding make_kind
-returns c = search (rule_steps, tests) depth 20
+returns-in_default c = search (rule_steps, tests) depth 20

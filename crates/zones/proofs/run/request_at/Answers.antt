@@ -1,10 +1,7 @@
 -- A request below the number of whole ones lies within the bytes, and is read from its own.
 use borrow.Author.Rules.{rules}
-use Rattle.zones.proofs.Running.{request_room, request_within}
+use Rattle.zones.proofs.Running.{request_within}
 use Rattle.zones.proofs.run.request_at.Goals as goal
-
-pub read_request-requires : goal.read_request-requires
-read_request-requires c = search (request_room, rules)
 
 pub returns : goal.returns
 returns c = search (request_within, rules)

@@ -1,5 +1,5 @@
 -- Invariant: the table is sound, and the requests from i on, at what the words hold, give the whole run.
-use Prim.Native.Nat.{◌-◌, ◌*◌, ◌≤◌}
+use Prim.Native.Nat.{◌*◌}
 use Rattle.rules.specs.Limits.{limits}
 use Rattle.rules.specs.Run.{request_size, request_from, requests_in, run}
 use Rattle.zones.specs.Decide.{Ready}
@@ -8,9 +8,6 @@ use Rattle.zones.proofs.Running.{Left}
 use Rattle.zones.proofs.run.run_ready.Given as goal
 
 abbrev pub invariant-loop-i : goal.invariant-loop-i
-invariant-loop-i l = (Ready l.c l.t × (l.i ≤ l.n))
+invariant-loop-i l = Ready l.c l.t
     × Left l.c (λ j. request_from l.requests (j * request_size)) l.n
     (run limits (config_in l.c) (zones_in l.initial.t) (requests_in l.requests)) l.t l.i
-
-abbrev pub decreases-loop-i : goal.decreases-loop-i
-decreases-loop-i l = l.n - l.i

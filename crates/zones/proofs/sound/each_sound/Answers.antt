@@ -1,17 +1,8 @@
-use Prim.Native.Nat.{◌-◌}
-use borrow.Author.Rules.{rules}
-use Rattle.lists.proofs.Places.{every_end}
-use Rattle.zones.proofs.Checking.{zones_start, zones_stop, zones_on}
+-- Each zone is looked at in its place.
+use Rattle.std.proofs.Common.{rules}
+use borrow.Author.Tests.{tests}
+use Rattle.zones.proofs.Checking.{every_zone}
 use Rattle.zones.proofs.sound.each_sound.Goals as goal
 
-pub loop-z-init : goal.loop-z-init
-loop-z-init c = (search rules, search (zones_start, rules))
-
-pub returns-then-not-zone_sound : goal.returns-then-not-zone_sound
-returns-then-not-zone_sound c = search (zones_stop, rules)
-
-pub loop-z-preserved : goal.loop-z-preserved
-loop-z-preserved c = (search rules, search (zones_on, rules))
-
 pub returns : goal.returns
-returns c = search (every_end, rules)
+returns c = every_zone _ _ _ _ _ c.all.ensures.ran c.zone_count.ensures (λ x t q k. search (rules, tests))

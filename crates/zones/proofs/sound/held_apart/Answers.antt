@@ -1,22 +1,8 @@
-use Prim.Native.Nat.{◌-◌}
-use borrow.Author.Rules.{rules}
-use borrow.Author.Tests.{not-true, not-false}
-use Rattle.lists.proofs.Places.{every_stop, every_on, every_end}
-use Rattle.zones.proofs.Checking.{held_start}
-use Rattle.zones.proofs.Owning.{held_told}
+-- A pass that comes to its end tells. Else each configured region is looked for in each zone.
+use Rattle.std.proofs.Common.{rules}
+use borrow.Author.Tests.{tests}
+use Rattle.zones.proofs.Checking.{every_held}
 use Rattle.zones.proofs.sound.held_apart.Goals as goal
 
-pub returns-then-each_has_owner : goal.returns-then-each_has_owner
-returns-then-each_has_owner c = search (held_told, rules)
-
-pub loop-k-init : goal.loop-k-init
-loop-k-init c = (search rules, search (held_start, rules))
-
-pub returns-then-not-held_well : goal.returns-then-not-held_well
-returns-then-not-held_well c = search (every_stop, not-true, rules)
-
-pub loop-k-preserved : goal.loop-k-preserved
-loop-k-preserved c = (search rules, search (every_on, not-false, rules))
-
-pub returns : goal.returns
-returns c = search (every_end, rules)
+pub returns-else-each_has_owner : goal.returns-else-each_has_owner
+returns-else-each_has_owner c = every_held _ _ _ _ _ c.all.ensures.ran c.count.ensures.0 (λ x t q k. search (rules, tests))

@@ -7,9 +7,6 @@ use Rattle.zones.proofs.sound.standing.Goals as goal
 pub returns-in_default : goal.returns-in_default
 returns-in_default c = search (config_first, is_fault, rules)
 
-pub table_sound-requires : goal.table_sound-requires
-table_sound-requires c = search (config_told, is_sound_law, rules)
-
 pub returns-then-not-table_sound : goal.returns-then-not-table_sound
 returns-then-not-table_sound c = search (table_second, config_told, is_sound_law, rules)
 

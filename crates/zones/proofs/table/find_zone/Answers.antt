@@ -1,17 +1,12 @@
-use Prim.Native.Nat.{◌-◌}
-use borrow.Author.Rules.{rules}
-use Rattle.lists.proofs.First.{from_zero}
-use Rattle.zones.proofs.Readers.{zone_hit, zone_on, zone_end}
+-- Each id is looked at in its place.
+use Rattle.std.proofs.Common.{rules}
+use borrow.Author.Tests.{tests}
+use Rattle.zones.specs.View.{zone_in}
+use Rattle.rules.specs.Tables.{has_id}
+use Rattle.zones.proofs.Ranges.{first_place}
+use Rattle.zones.proofs.Readers.{zone_by_id}
 use Rattle.zones.proofs.table.find_zone.Goals as goal
 
-pub loop-i-init : goal.loop-i-init
-loop-i-init c = (search rules, search from_zero)
-
-pub returns-then-id_at-id : goal.returns-then-id_at-id
-returns-then-id_at-id c = search (zone_hit, rules)
-
-pub loop-i-preserved : goal.loop-i-preserved
-loop-i-preserved c = (search rules, search (zone_on, rules))
-
 pub returns : goal.returns
-returns c = search (zone_end, rules)
+returns c = zone_by_id _ _ _ _ c.zone_count.ensures
+    (first_place (λ i. has_id c.args.id (zone_in c.args.t.now i)) 0 _ _ _ c.position.ensures.ran (λ x t q k. search (rules, tests)))

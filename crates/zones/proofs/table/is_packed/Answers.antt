@@ -1,5 +1,6 @@
 -- The tests stand in the order of the definition.
 use borrow.Author.Rules.{rules}
+use mathlib.Core.Path.{◌∙◌}
 use Rattle.lists.proofs.Tests.{conjunction}
 use Rattle.zones.specs.Packing.{packed}
 use Rattle.zones.proofs.Packing.{free_zones}
@@ -9,10 +10,10 @@ pub returns-then-n-gt-MOST_ZONES : goal.returns-then-n-gt-MOST_ZONES
 unfolding packed
 returns-then-n-gt-MOST_ZONES c = search conjunction
 
-pub returns-then-not-zones_packed : goal.returns-then-not-zones_packed
+pub returns-then-zones_packed : goal.returns-then-zones_packed
 unfolding packed
-returns-then-not-zones_packed c = search conjunction depth 12
+returns-then-zones_packed c = search (conjunction, free_zones, rules) depth 12
 
-pub returns : goal.returns
+pub returns-else-zones_packed : goal.returns-else-zones_packed
 unfolding packed
-returns c = search (conjunction, free_zones, rules) depth 12
+returns-else-zones_packed c = c.if-zones_packed.false ∙ search conjunction depth 12

@@ -1,18 +1,11 @@
-use Prim.Native.Nat.{◌-◌}
-use native.Mathlib.Nat.{sub-zero}
-use borrow.Author.Rules.{rules}
-use borrow.Author.Tests.{not-true, not-false}
-use Rattle.lists.proofs.Places.{every_stop, every_on, every_end}
+-- Each zone is looked at in its place.
+use Rattle.std.proofs.Common.{rules}
+use borrow.Author.Tests.{tests}
+use Rattle.zones.specs.Packing.{zone_packed}
+use Rattle.zones.proofs.Packing.{every_packed}
+use Rattle.zones.proofs.Ranges.{every_place}
 use Rattle.zones.proofs.table.zones_packed.Goals as goal
 
-pub loop-z-init : goal.loop-z-init
-loop-z-init c = (search rules, rw sub-zero)
-
-pub returns-then-not-zone_packed : goal.returns-then-not-zone_packed
-returns-then-not-zone_packed c = search (every_stop, not-true, rules)
-
-pub loop-z-preserved : goal.loop-z-preserved
-loop-z-preserved c = (search rules, search (every_on, not-false, rules))
-
 pub returns : goal.returns
-returns c = search (every_end, rules)
+returns c = every_packed _ _ _
+    (every_place (zone_packed c.args.t.now) 0 c.args.n _ _ c.all.ensures.ran (λ x t q k. search (rules, tests)))

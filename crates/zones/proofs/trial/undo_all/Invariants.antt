@@ -1,12 +1,8 @@
 -- Invariant: whatever table the trail leads back to, the requests that are left lead back to it.
-use Prim.Native.Nat.{◌-◌, ◌≤◌}
 use mathlib.Core.List.{List}
 use Rattle.rules.specs.Tables.{Zone}
 use Rattle.zones.specs.Trial.{Trail}
 use Rattle.zones.proofs.trial.undo_all.Given as goal
 
 abbrev pub invariant-loop-i : goal.invariant-loop-i
-invariant-loop-i l = (l.i ≤ l.done) × ((b : List Zone) → Trail b l.requests l.notes l.done l.initial.t → Trail b l.requests l.notes l.i l.t)
-
-abbrev pub decreases-loop-i : goal.decreases-loop-i
-decreases-loop-i l = l.i
+invariant-loop-i l = (b : List Zone) → Trail b l.requests l.notes l.done l.initial.t → Trail b l.requests l.notes l.i l.t

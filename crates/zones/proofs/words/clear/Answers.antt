@@ -1,15 +1,8 @@
-use Prim.Native.Nat.{◌-◌}
-use mathlib.Core.Path.{refl}
+-- The words that are filled are lent as a part, and stand between those before and those behind.
 use borrow.Author.Rules.{rules}
-use Rattle.lists.proofs.Words.{clear_start}
-use Rattle.zones.proofs.Moves.{clear_step, clear_end, set_kept}
+use Rattle.zones.proofs.Moves.{part_cleared}
 use Rattle.zones.proofs.words.clear.Goals as goal
 
-pub loop-k-init : goal.loop-k-init
-loop-k-init c = (((search rules, search rules), refl), search clear_start)
-
-pub loop-k-preserved : goal.loop-k-preserved
-loop-k-preserved c = (((search rules, search rules), search (set_kept, rules)), search (clear_step, rules))
-
 pub returns : goal.returns
-returns c = search (clear_end, rules)
+returns c = part_cleared c.args.s.now _ c.args.at c.args.end c.requires.0 c.requires.1
+    (c.fill.ensures.after (λ y e. search rules))

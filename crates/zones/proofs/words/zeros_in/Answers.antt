@@ -1,4 +1,3 @@
-use Prim.Native.Nat.{◌-◌}
 use borrow.Author.Rules.{rules}
 use Rattle.zones.proofs.Blocks.{block_stop, block_on, block_end}
 use Rattle.zones.proofs.words.zeros_in.Goals as goal

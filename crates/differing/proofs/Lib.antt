@@ -1,2 +1,1 @@
--- The proofs of the functions of src/, and the laws that they cite.
-mod Parts
+-- The proofs of the functions of src/.

@@ -18,9 +18,11 @@ pub fn lacking_part<'a>(first: &'a [u8], second: &[u8]) -> &'a [u8]
 fn alike(first: &[u8], second: &[u8]) -> usize
     ensures { (result ≡ alike first.now second.now) × (result ≤ length first.now) }
 {
-    first
-        .iter()
-        .zip(second)
-        .take_while(|(one, other)| one == other)
-        .count()
+    let both = first.len().min(second.len());
+    for i in 0..both {
+        if first[i] != second[i] {
+            return i;
+        }
+    }
+    both
 }

@@ -25,9 +25,10 @@ pub fn u64_at(s: &[u8], at: usize) -> u64
 fn bytes_at<const N: usize>(s: &[u8], at: usize) -> [u8; N]
     ensures { (i : ℕ) → i < N → get_or result i 0 ≡ get_or s.now (at + i) 0 }
 {
-    let Some(rest) = s.get(at..) else {
+    if s.len() < at {
         return [0; N];
-    };
+    }
+    let rest = &s[at..];
     match rest.first_chunk() {
         Some(whole) => *whole,
         None => filled_up(rest),

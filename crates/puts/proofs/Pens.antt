@@ -1,8 +1,9 @@
 -- One behind the other.
 use mathlib.Core.List.{List, [], ◌++◌}
-use mathlib.Core.Path.{◌≡◌, refl, sym, subst, ◌∙◌}
-use Prim.Native.Nat.{ℕ}
-use Rattle.puts.specs.Puts.{Put}
+use mathlib.Core.Path.{◌≡◌, refl, sym, ap, ap₂, subst, ◌∙◌}
+use Prim.Native.Nat.{ℕ, ◌+◌}
+use lib.ListN.{length}
+use Rattle.puts.specs.Puts.{put_at, Put}
 use Rattle.puts.specs.Pens.{Wrote}
 use Rattle.puts.specs.declared.pen.Pen.{Pen}
 use Rattle.puts.proofs.Puts.{puts_both, puts_none}
@@ -25,3 +26,15 @@ pub wrote_whole : (p q : Pen) (s v b : List ℕ) → Wrote p q b → p.bytes.now
 wrote_whole p q s v b w e z f =
     subst (λ (l : List ℕ). Put l 0 b v q.at) e
     (subst (λ (j : ℕ). Put p.bytes.now j b v q.at) z (subst (λ (l : List ℕ). Put p.bytes.now p.at b l q.at) (sym f) w.put))
+
+-- with the pen set to the same place before and after
+pub wrote_moved : (p q r s : Pen) (b : List ℕ) → Wrote q r b → p.bytes ≡ q.bytes → p.at ≡ q.at → r.bytes ≡ s.bytes → r.at ≡ s.at → Wrote p s b
+wrote_moved p q r s b w pb pa rb ra = record {
+  same = ap (λ x. x.ghost_name) (sym rb) ∙ w.same ∙ ap (λ x. x.ghost_name) (sym pb);
+  put = record {
+    bytes =
+        ap (λ x. x.now) (sym rb) ∙ w.put.bytes
+        ∙ ap₂ (λ (k : ℕ) (l : List ℕ). put_at k b l) (sym pa) (ap (λ x. x.now) (sym pb));
+    end = sym ra ∙ w.put.end ∙ ap (λ (k : ℕ). k + length b) (sym pa);
+  };
+}

@@ -87,6 +87,13 @@ bytes_32 n = low_first 0 4 n n (omega arith)
 pub bytes_64 : (n : ℕ) → to_le_bytes w64 n ≡ bytes_of 8 n
 bytes_64 n = low_first 0 8 n n (omega arith)
 
+-- the library's bytes of a number put are these of the same number
+pub put_low_32 : (at y x : ℕ) (b s v : List ℕ) → b ≡ to_le_bytes w32 y → v ≡ put_at at b s → y ≡ x → v ≡ put_at at (bytes_of 4 x) s
+put_low_32 at y x b s v e f h = f ∙ ap (λ (c : List ℕ). put_at at c s) (e ∙ bytes_32 y ∙ ap (bytes_of 4) h)
+
+pub put_low_64 : (at y x : ℕ) (b s v : List ℕ) → b ≡ to_le_bytes w64 y → v ≡ put_at at b s → y ≡ x → v ≡ put_at at (bytes_of 8 x) s
+put_low_64 at y x b s v e f h = f ∙ ap (λ (c : List ℕ). put_at at c s) (e ∙ bytes_64 y ∙ ap (bytes_of 8) h)
+
 -- ---- the loop: r is what the whole leaves, and k of the bytes are put
 module _ (b s r : List ℕ) (at k : ℕ) (inv : put_at (at + k) (drop k b) s ≡ r) where
   pub bytes_on : (i x j : ℕ) → k < length b → i ≡ at + k → x ≡ get_or b k 0 → j ≡ k + 1

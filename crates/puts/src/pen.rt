@@ -1,10 +1,10 @@
 // A place in lent bytes that moves on behind what is put there.
-ghost use Rattle.std.specs.Prelude.{◌+◌, ◌-◌, ◌^◌, ◌<◌, ◌≡◌, min, length};
+ghost use Rattle.std.specs.Prelude.{[], ◌∷◌, ◌+◌, ◌-◌, ◌^◌, ◌<◌, ◌≡◌, min, length};
 ghost use Rattle.lists.specs.Bytes.{bytes_of};
 ghost use Rattle.puts.specs.Pens.{Wrote};
 ghost use Rattle.puts.specs.Puts.{put_at};
 
-use crate::{put_bytes, put_u32, put_u64};
+use crate::{put_byte, put_bytes, put_u32, put_u64};
 
 #[derive(Drop)]
 pub struct Pen<'a> {
@@ -41,6 +41,16 @@ impl<'a> Pen<'a> {
     {
         put_u64(self.bytes, self.at, x);
         self.at = self.at.saturating_add(8);
+    }
+
+    pub fn byte(&mut self, byte: u8)
+        ensures put { self.new.bytes.now ≡ put_at self.old.at (byte ∷ []) self.old.bytes.now }
+        ensures at { self.new.at ≡ min (self.old.at + 1) (2 ^ 64 - 1) }
+        ensures wrote { self.old.at < 2 ^ 63 → Wrote self.old self.new (byte ∷ []) }
+        ensures moved { self.old.at < 2 ^ 63 → self.new.at ≡ self.old.at + 1 }
+    {
+        put_byte(self.bytes, self.at, byte);
+        self.at = self.at.saturating_add(1);
     }
 
     pub fn bytes(&mut self, from: &[u8])

@@ -77,5 +77,5 @@ fn overlap(a: u64, m: u64, b: u64, n: u64) -> bool
 fn ends_by(start: u64, size: u64, last: u64) -> bool
     ensures { result ≡ leb (start + size) last }
 {
-    start.checked_add(size).is_some_and(|end| end <= last)
+    size <= last && start <= last - size
 }

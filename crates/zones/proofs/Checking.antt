@@ -5,8 +5,8 @@ use native.Mathlib.Nat.{sub-zero}
 use native.Mathlib.Omega.{arith}
 use mathlib.Core.Bool.{Bool, true, false, not, ◌&&◌, ◌||◌, true≢false}
 use mathlib.Core.List.{List, [], ◌∷◌}
-use mathlib.Core.Path.{◌≡◌, sym, ap, ap₂, subst, ◌∙◌}
-use borrow.Author.Tests.{not-true, not-false, lt-ltb, le-ltb, le-leb, lt-leb, ltb-true, ltb-false, eq-eqb, eqb-false, ne_eqb}
+use mathlib.Core.Path.{◌≡◌, sym, ap, subst, ◌∙◌}
+use borrow.Author.Tests.{not-true, not-false, le-leb, lt-leb, ltb-true, ltb-false, eq-eqb, eqb-false, ne_eqb}
 use lib.Dec.{eqb, ltb, leb}
 use lib.ListN.{length, get_or, drop}
 use denote.Param.Members.{Mut}
@@ -273,9 +273,9 @@ id_low n m e h = le-leb m highest_id (omega arith)
 pub few_zones_law : (t : List Zone) → Within t → leb (length t) most_zones ≡ true
 few_zones_law t b = le-leb (length t) most_zones b.zones
 
-pub apart_told : (w : List ℕ) (t : List Zone) (a b : Bool) → ConfigPassed w → a ≡ all (sound_zone limits (config_in w)) t
-    → a ≡ true → b ≡ held_apart (config_in w) t → b ≡ pairwise (zones_apart (config_in w)) t
-apart_told w t a b ok e f h = h ∙ sym (apart_held (config_in w) (config_sound w ok) t (sym e ∙ f))
+pub apart_told : (w : List ℕ) (t : List Zone) (b : Bool) → ConfigPassed w → all (sound_zone limits (config_in w)) t ≡ true
+    → b ≡ held_apart (config_in w) t → b ≡ pairwise (zones_apart (config_in w)) t
+apart_told w t b ok e h = h ∙ sym (apart_held (config_in w) (config_sound w ok) t e)
 
 -- ---- the document's terminals have one page for both sides
 pub formed_on : (t v : Bool) (s : Side) (r : Region) → t ≡ well_formed limits.page r → not t ≡ v

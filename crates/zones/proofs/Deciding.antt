@@ -4,17 +4,17 @@ use Prim.Native.Nat.{ℕ, ◌≤◌, ◌<◌}
 use native.Mathlib.Omega.{arith}
 use mathlib.Core.Bool.{Bool, true, false, not, ◌&&◌, ◌||◌}
 use mathlib.Core.List.{List, [], ◌∷◌}
-use mathlib.Core.Path.{◌≡◌, sym, ap, ap₂, ◌∙◌}
+use mathlib.Core.Path.{◌≡◌, refl, sym, ap, ap₂, ◌∙◌}
 use borrow.Author.Tests.{ltb-true, not-false, lt-ltb, le-ltb, le-leb, lt-leb}
 use lib.Dec.{ltb, leb}
 use lib.ListN.{length}
 use Rattle.std.specs.Prelude.{Result, Ok, Err, position, is_some}
 use Rattle.std.specs.declared.option.Option.{Option}
 use Rattle.std.specs.declared.option.Option.TheVariants.{Some, None}
-use Rattle.lists.specs.First.{first_index, first_from, any}
+use Rattle.lists.specs.First.{first_index, first_from, any, all}
 use Rattle.lists.specs.Rules.{Rule, ◌when◌, first_rule}
 use Rattle.lists.proofs.First.{any_first, from_zero}
-use Rattle.lists.proofs.Rules.{test_of, silent}
+use Rattle.lists.proofs.Rules.{test_of, silent, above_zero}
 use Rattle.lists.proofs.Tests.{or_left}
 use Rattle.rules.specs.Changes.{region_set}
 use Rattle.rules.specs.Configuration.{gic_of, Configuration}
@@ -236,3 +236,12 @@ module _ (c : Configuration) (t : List Zone) (q : Request) (d : Result Change �
 -- what `decide` asks is at hand
 pub ready_within : (c t : List ℕ) → Ready c t → Within (zones_in t)
 ready_within c t r = r.words.within
+
+-- no rule of a region, or of a set, has the number 0
+pub region_above : (c : Configuration) (s : Side) (r : Region) → above_zero (region_rules limits c s r) ≡ true
+unfolding region_rules above_zero all
+region_above c s r = refl
+
+pub set_above : (c : Configuration) (k : ℕ) (s : Side) (r : Region) (t : List Zone) → above_zero (set_rules limits c k s r t) ≡ true
+unfolding set_rules above_zero all
+set_above c k s r t = refl

@@ -3,35 +3,34 @@
 use Prim.Native.Nat.{ℕ, ◌+◌, ◌≤◌, ◌<◌}
 use native.Mathlib.Decide.{dec_lt, ℕ_discrete}
 use native.Mathlib.Omega.{arith}
-use mathlib.Core.Bool.{Bool, true, false, not, ◌&&◌, ◌||◌}
+use mathlib.Core.Bool.{Bool, true, false, not, ◌&&◌, ◌||◌, true≢false}
 use mathlib.Core.List.{List}
 use mathlib.Core.Logic.{◌⊎◌, inl, inr}
 use mathlib.Core.Path.{◌≡◌, sym, ap, subst, ◌∙◌}
-use borrow.Author.Tests.{eq-eqb, not-false}
+use borrow.Author.Tests.{eq-eqb}
 use lib.Dec.{eqb}
 use lib.ListN.{length, get_or, set}
 use lib.Seq.{get_or-set_same, get_or-set_other}
 use Rattle.std.specs.declared.option.Option.{Option}
 use Rattle.std.specs.declared.option.Option.TheVariants.{None, Some}
-use Rattle.lists.specs.First.{any}
-use Rattle.lists.proofs.Every.{any_at}
+use Rattle.lists.specs.First.{any, all}
+use Rattle.lists.proofs.Every.{any_at, all_at, all_make}
 use Rattle.lists.proofs.Pairs.{pairs_make}
 use Rattle.lists.proofs.Places.{every_make}
 use Rattle.lists.proofs.Tests.{both_true, or_left, or_right, not_fails, false_of, holds_or_fails}
 use Rattle.rules.specs.Configuration.{Configuration}
-use Rattle.rules.specs.Limits.{most_regions, most_zones, most_in_set, limits}
+use Rattle.rules.specs.Limits.{most_regions, limits}
 use Rattle.rules.specs.Regions.{region_eq, no_region}
-use Rattle.rules.specs.Tables.{no_zone, Zone}
+use Rattle.rules.specs.Tables.{configured, no_zone, sound_zone, Zone}
 use Rattle.rules.specs.declared.Region.{Region}
 use Rattle.rules.specs.declared.Side.{Side}
 use Rattle.rules.specs.declared.Side.TheVariants.{Cpu, Iommu}
 use Rattle.rules.proofs.Regions.{equal_same}
-use Rattle.rules.proofs.Tables.{one_position}
+use Rattle.rules.proofs.Tables.{one_position, position_configured}
 use Rattle.zones.specs.Holding.{holds, held_once, held_at, held_apart}
-use Rattle.zones.specs.Owners.{Owns, Has, Keeps, HasSet, HasZones}
+use Rattle.zones.specs.Owners.{Owns, Has, Keeps, HasSet, HasZone, HasZones, ZoneConfigured}
 use Rattle.zones.specs.View.{config_in, ConfigPassed, record_in, set_in, zone_in, zones_in}
-use Rattle.zones.specs.Words.{Within}
-use Rattle.zones.proofs.Checking.{holds_sides, record_at_law, zone_at_law, zone_within, side_within}
+use Rattle.zones.proofs.Checking.{holds_sides, record_at_law, zone_at_law}
 use Rattle.zones.proofs.ConfigReaders.{config_sound}
 
 -- ---- what is somebody's stays so
@@ -102,32 +101,64 @@ module _ (c : Configuration) (w : List ℕ) where
   unfolding HasZones
   zones_none o z h = absurd (omega arith)
 
-  pub zones_more : (o p q : List (Option ℕ)) (z : ℕ) (a b : Bool) → HasZones c w o z → Keeps o p → Keeps p q
-      → (a ≡ true → HasSet c w p z Cpu (length (set_in w z Cpu))) → not a ≡ false
-      → (b ≡ true → HasSet c w q z Iommu (length (set_in w z Iommu))) → not b ≡ false → HasZones c w q (z + 1)
-  unfolding HasZones
-  zones_more o p q z a b has op pq cpu ea iommu eb y h s =
+  pub zones_more : (o p : List (Option ℕ)) (z : ℕ) → HasZones c w o z → Keeps o p → HasZone c w p z → HasZones c w p (z + 1)
+  unfolding HasZones HasZone
+  zones_more o p z has kept mine y h s =
       elim (dec_lt y z) [
-        | yes l ↦ set_kept_owned c w y s o q (length (set_in w y s)) (keeps_on o p q op pq) (has y l s)
-        | no l ↦ (let e : y ≡ z = omega arith in here y e s)
+        | yes l ↦ set_kept_owned c w y s o p (length (set_in w y s)) kept (has y l s)
+        | no l ↦
+            (let e : y ≡ z = omega arith in
+            subst (λ (x : ℕ). HasSet c w p x s (length (set_in w x s))) (sym e) (mine s))
       ]
-    where
-      here : (y : ℕ) → y ≡ z → (s : Side) → HasSet c w q y s (length (set_in w y s))
-      here y e Cpu =
-          subst (λ (x : ℕ). HasSet c w q x Cpu (length (set_in w x Cpu))) (sym e)
-          (set_kept_owned c w z Cpu p q (length (set_in w z Cpu)) pq (cpu (not-false a ea)))
-      here y e Iommu =
-          subst (λ (x : ℕ). HasSet c w q x Iommu (length (set_in w x Iommu))) (sym e) (iommu (not-false b eb))
 
--- ---- a zone that the loop comes to
-module _ (w : List ℕ) (z n : ℕ) (within : Within (zones_in w)) (h : z < n) (en : n ≡ length (zones_in w)) where
-  pub next_zone : z < most_zones
-  next_zone = zone_within w z within (omega arith)
+  pub zone_has_both : (o p : List (Option ℕ)) (z : ℕ) → Keeps o p → HasSet c w o z Cpu (length (set_in w z Cpu))
+      → HasSet c w p z Iommu (length (set_in w z Iommu)) → HasZone c w p z
+  unfolding HasZone
+  zone_has_both o p z kept cpu iommu Cpu = set_kept_owned c w z Cpu o p (length (set_in w z Cpu)) kept cpu
+  zone_has_both o p z kept cpu iommu Iommu = iommu
 
-  pub next_side : (s : Side) → length (set_in w z s) ≤ most_in_set
-  next_side s = side_within w z s within (omega arith)
+-- ---- zone by zone, whether each is sound
+module _ (c : Configuration) (w : List ℕ) where
+  -- each zone below n is sound
+  abbrev pub SoundBelow : ℕ → Type 0
+  SoundBelow n = (y : ℕ) → y < n → sound_zone limits c (zone_in w y) ≡ true
+
+  pub sound_none : SoundBelow 0
+  sound_none y h = absurd (omega arith)
+
+  pub sound_more : (z : ℕ) (b : Bool) → SoundBelow z → b ≡ sound_zone limits c (zone_in w z) → b ≡ true
+      → SoundBelow (z + 1)
+  sound_more z b below e f y h =
+      elim (dec_lt y z) [
+        | yes l ↦ below y l
+        | no l ↦
+            (let q : y ≡ z = omega arith in
+            ap (λ (x : ℕ). sound_zone limits c (zone_in w x)) q ∙ sym e ∙ f)
+      ]
+
+  pub sound_every : (i n : ℕ) → SoundBelow i → n ≡ length (zones_in w) → n ≤ i → all (sound_zone limits c) (zones_in w) ≡ true
+  sound_every i n below e h =
+      all_make (sound_zone limits c) (zones_in w) no_zone
+      (λ y l. ap (sound_zone limits c) (zone_at_law w y l) ∙ below y (omega arith))
+
+  pub sound_stops : (z n : ℕ) (b : Bool) → z < n → n ≡ length (zones_in w) → b ≡ sound_zone limits c (zone_in w z)
+      → b ≡ false → all (sound_zone limits c) (zones_in w) ≡ false
+  sound_stops z n b h e eb f =
+      let l : z < length (zones_in w) = omega arith in
+      false_of _ (λ q. true≢false (sym (all_at (sound_zone limits c) (zones_in w) no_zone q z l)
+      ∙ ap (sound_zone limits c) (zone_at_law w z l) ∙ sym eb ∙ f))
 
 -- ---- what the pass shows
+module _ (v : List ℕ) (ok : ConfigPassed v) (w : List ℕ) (o : List (Option ℕ)) where
+  -- a zone that has its regions has configured ones
+  pub zone_configured : (z : ℕ) → HasZone (config_in v) w o z → ZoneConfigured (config_in v) w z
+  unfolding HasZone HasSet Has
+  zone_configured z has s =
+      all_make (configured (config_in v)) (set_in w z s) no_region
+      (λ i h. let (k, l, q, e) = has s i h in
+      ap (configured (config_in v)) (record_at_law w z s i h ∙ q)
+      ∙ position_configured limits (config_in v) (config_sound v ok) k l)
+
 module _ (v : List ℕ) (ok : ConfigPassed v) (w : List ℕ) (o : List (Option ℕ)) (m n : ℕ) (em : m ≡ length (zones_in w)) (every : m ≤ n)
     (has : HasZones (config_in v) w o n) where
   -- a zone that holds a region has a position of it

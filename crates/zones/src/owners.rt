@@ -1,42 +1,35 @@
-// That no two zones hold one region, by one pass over what they hold: each held region is looked for among the configured ones, and its
-// position is then the zone's. For each configured position it is noted whose it is, if a zone was met that holds its region.
+// That no two zones hold one region, by one pass over what they hold, zone by zone: each held region is looked for among the configured
+// ones, and its position is then the zone's. For each configured position it is noted whose it is, if a zone was met that holds its region.
 ghost use Rattle.std.specs.Prelude.{◌≤◌, ◌<◌, true, ◌≡◌, length};
 ghost use Rattle.rules.specs.Limits.{most_zones, most_in_set};
 ghost use Rattle.rules.specs.declared.Side.{Side};
-ghost use Rattle.zones.specs.Holding.{held_apart};
-ghost use Rattle.zones.specs.Owners.{Owns, Keeps, HasSet};
+ghost use Rattle.zones.specs.Owners.{Owns, Keeps, HasSet, HasZone};
 ghost use Rattle.zones.specs.View.{config_in, set_in, zones_in};
 ghost use Rattle.zones.specs.Words.{Within};
 
 use crate::keys::Keyed;
 use crate::layout::TABLE_WORDS;
 use crate::passed::Passed;
-use crate::table::{region_at, set_len, zone_count};
+use crate::table::{id_at, region_at, set_len};
 use rules::Side;
-use rules::limits::MOST_REGIONS;
+use rules::limits::{HIGHEST_ID, MOST_REGIONS};
 
-// Whether the keys lead every held region to its position, and no position but the GIC's to two zones.
-pub fn each_has_owner(c: &Keyed<'_>, t: &[u64; TABLE_WORDS]) -> bool
-    requires { Within (zones_in t.now) }
-    ensures { result ≡ true → held_apart (config_in c.now.config.words.now) (zones_in t.now) ≡ true }
+// The positions of a zone's regions are its own, unless one is another's or no position is found. No region is looked for where the id is
+// too high, since the zone is refused for that.
+pub fn own_zone(
+    c: &Keyed<'_>,
+    t: &[u64; TABLE_WORDS],
+    owners: &mut [Option<u8>; MOST_REGIONS],
+    z: usize,
+) -> bool
+    requires { Within (zones_in t.now) × (z < length (zones_in t.now)) }
+    ensures { Keeps owners.old owners.new
+        × (result ≡ true → HasZone (config_in c.now.config.words.now) t.now owners.new z) }
 {
-    let mut owners: [Option<u8>; MOST_REGIONS] = [None; MOST_REGIONS];
-    own_zones(c, t, &mut owners)
-}
-
-fn own_zones(c: &Keyed<'_>, t: &[u64; TABLE_WORDS], owners: &mut [Option<u8>; MOST_REGIONS]) -> bool
-    requires { Within (zones_in t.now) }
-    ensures { result ≡ true → held_apart (config_in c.now.config.words.now) (zones_in t.now) ≡ true }
-{
-    for z in 0..zone_count(t) {
-        if !own_set(c, t, owners, z, Side::Cpu) {
-            return false;
-        }
-        if !own_set(c, t, owners, z, Side::Iommu) {
-            return false;
-        }
+    if HIGHEST_ID < id_at(t, z) {
+        return false;
     }
-    true
+    own_set(c, t, owners, z, Side::Cpu) && own_set(c, t, owners, z, Side::Iommu)
 }
 
 // The positions of a set's regions are zone z's, unless one is another's or no position is found.

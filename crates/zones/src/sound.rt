@@ -8,13 +8,14 @@ ghost use Rattle.rules.specs.declared.Side.{Side};
 ghost use Rattle.rules.specs.Limits.{most_zones, most_in_set, limits};
 ghost use Rattle.rules.specs.Tables.{modest, configured, guest_apart, off_gic, sound_set, sound_zone, ids_differ, sound, check_table};
 ghost use Rattle.zones.specs.Holding.{used_well, holds, held_once, held_at, held_apart, apart_after};
+ghost use Rattle.zones.specs.Owners.{ZoneConfigured};
 ghost use Rattle.zones.specs.View.{stored_config, stored_table, config_in, set_in, zone_in, zones_in};
 ghost use Rattle.zones.specs.Words.{Within};
 
 use crate::config::{Config, check_with};
 use crate::keys::Keyed;
 use crate::layout::{CONFIG_WORDS, TABLE_WORDS};
-use crate::owners::each_has_owner;
+use crate::owners::own_zone;
 use crate::passed::Passed;
 use crate::table::{Table, find_zone, id_at, is_packed, region_at, set_find, set_len, zone_count};
 use region::{guest_overlap, is_excessive, phys_overlap, region_eq};
@@ -70,25 +71,41 @@ fn zones_sound(c: &Keyed<'_>, t: &[u64; TABLE_WORDS]) -> bool
     requires { Within (zones_in t.now) }
     ensures { result ≡ sound limits (config_in c.now.config.words.now) (zones_in t.now) }
 {
-    each_sound(c, t) && ids_differ(t) && held_apart(c, t)
+    let Some(led) = each_sound(c, t) else {
+        return false;
+    };
+    ids_differ(t) && held_apart(c, t, led)
 }
 
 // ---- each zone
 
-fn each_sound(c: &Keyed<'_>, t: &[u64; TABLE_WORDS]) -> bool
+// Whether each zone is sound; and if so, whether the keys led every held region to its position, and no position but the GIC's to two
+// zones. As long as they do, the regions of a zone are not looked for again.
+fn each_sound(c: &Keyed<'_>, t: &[u64; TABLE_WORDS]) -> Option<bool>
     requires { Within (zones_in t.now) }
-    ensures { result ≡ all (sound_zone limits (config_in c.now.config.words.now)) (zones_in t.now) }
+    ensures none { IfNone result (all (sound_zone limits (config_in c.now.config.words.now)) (zones_in t.now) ≡ false) }
+    ensures some { IfSome result (λ led. (all (sound_zone limits (config_in c.now.config.words.now)) (zones_in t.now) ≡ true)
+        × (led ≡ true → held_apart (config_in c.now.config.words.now) (zones_in t.now) ≡ true)) }
 {
-    (0..zone_count(t)).all(|z| zone_sound(c, t, z))
+    let mut owners: [Option<u8>; MOST_REGIONS] = [None; MOST_REGIONS];
+    let mut led = true;
+    for z in 0..zone_count(t) {
+        led = led && own_zone(c, t, &mut owners, z);
+        if !zone_sound(c, t, z, led) {
+            return None;
+        }
+    }
+    Some(led)
 }
 
-fn zone_sound(c: &Keyed<'_>, t: &[u64; TABLE_WORDS], z: usize) -> bool
-    requires { Within (zones_in t.now) × (z < length (zones_in t.now)) }
+// Led: the keys led to each region of the zone.
+fn zone_sound(c: &Keyed<'_>, t: &[u64; TABLE_WORDS], z: usize, led: bool) -> bool
+    requires { (Within (zones_in t.now) × (z < length (zones_in t.now))) × (led ≡ true → ZoneConfigured (config_in c.now.config.words.now) t.now z) }
     ensures { result ≡ sound_zone limits (config_in c.now.config.words.now) (zone_in t.now z) }
 {
     id_at(t, z) <= HIGHEST_ID
-        && set_sound(c, t, z, Side::Cpu)
-        && set_sound(c, t, z, Side::Iommu)
+        && set_sound(c, t, z, Side::Cpu, led)
+        && set_sound(c, t, z, Side::Iommu, led)
         && used_well(&c.config, t, z)
 }
 
@@ -100,18 +117,20 @@ fn used_well(c: &Passed<'_>, t: &[u64; TABLE_WORDS], z: usize) -> bool
     off_gic(c, t, z) && set_modest(t, z, Side::Cpu) && set_modest(t, z, Side::Iommu)
 }
 
-fn set_sound(c: &Keyed<'_>, t: &[u64; TABLE_WORDS], z: usize, side: Side) -> bool
-    requires { (z < most_zones) × (length (set_in t.now z side) ≤ most_in_set) }
+fn set_sound(c: &Keyed<'_>, t: &[u64; TABLE_WORDS], z: usize, side: Side, led: bool) -> bool
+    requires { ((z < most_zones) × (length (set_in t.now z side) ≤ most_in_set))
+        × (led ≡ true → all (configured (config_in c.now.config.words.now)) (set_in t.now z side) ≡ true) }
     ensures { result ≡ sound_set limits (config_in c.now.config.words.now) (set_in t.now z side) }
 {
-    set_configured(c, t, z, side) && guest_apart(t, z, side)
+    set_configured(c, t, z, side, led) && guest_apart(t, z, side)
 }
 
-fn set_configured(c: &Keyed<'_>, t: &[u64; TABLE_WORDS], z: usize, side: Side) -> bool
-    requires { (z < most_zones) × (length (set_in t.now z side) ≤ most_in_set) }
+fn set_configured(c: &Keyed<'_>, t: &[u64; TABLE_WORDS], z: usize, side: Side, led: bool) -> bool
+    requires { ((z < most_zones) × (length (set_in t.now z side) ≤ most_in_set))
+        × (led ≡ true → all (configured (config_in c.now.config.words.now)) (set_in t.now z side) ≡ true) }
     ensures { result ≡ all (configured (config_in c.now.config.words.now)) (set_in t.now z side) }
 {
-    (0..set_len(t, z, side)).all(|i| c.is_configured(region_at(t, z, side, i)))
+    led || (0..set_len(t, z, side)).all(|i| c.is_configured(region_at(t, z, side, i)))
 }
 
 fn guest_apart(t: &[u64; TABLE_WORDS], z: usize, side: Side) -> bool
@@ -156,13 +175,13 @@ fn ids_differ(t: &[u64; TABLE_WORDS]) -> bool
 }
 
 // Held regions are configured ones, and configured regions overlap only if they are equal. So no two zones share a physical address
-// outside the GIC exactly when each configured region but the GIC is held by at most one zone. One pass tells it of a table where that is so;
-// where it does not, each configured region is looked for in each zone.
-fn held_apart(c: &Keyed<'_>, t: &[u64; TABLE_WORDS]) -> bool
-    requires { Within (zones_in t.now) }
+// outside the GIC exactly when each configured region but the GIC is held by at most one zone. Where the keys led to each position for one
+// zone alone, that is so; where they did not, each configured region is looked for in each zone.
+fn held_apart(c: &Keyed<'_>, t: &[u64; TABLE_WORDS], led: bool) -> bool
+    requires { Within (zones_in t.now) × (led ≡ true → held_apart (config_in c.now.config.words.now) (zones_in t.now) ≡ true) }
     ensures { result ≡ held_apart (config_in c.now.config.words.now) (zones_in t.now) }
 {
-    each_has_owner(c, t) || (0..c.config.count()).all(|k| held_well(&c.config, t, k))
+    led || (0..c.config.count()).all(|k| held_well(&c.config, t, k))
 }
 
 // Whether configured region k is the GIC, or is held by at most one zone.

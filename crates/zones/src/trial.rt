@@ -93,7 +93,8 @@ fn undo_all(t: &mut [u64; TABLE_WORDS], requests: &[u8], notes: &[u8], done: usi
     }
 }
 
-// One accepted request undone: what it added goes, and what it took out stands where it stood.
+// One accepted request undone: what it added goes, and what it took out stands where it stood. The zone of an accepted request of a region is
+// there, so nothing is left out; `unwrap` would say so too, and bring a trap into the library.
 fn undo(t: &mut [u64; TABLE_WORDS], q: Request, place: usize)
     requires { Packed t.old × ((b : List Zone) × Before b q place t.old) }
     ensures { (b : List Zone) → Before b q place t.old → t.new ≡ words_of b }
@@ -106,12 +107,16 @@ fn undo(t: &mut [u64; TABLE_WORDS], q: Request, place: usize)
         }
         Kind::RemoveZone => put_back_zone(t, place, id),
         Kind::Insert(side, _) => {
-            let z = find_zone(t, id).unwrap();
+            let Some(z) = find_zone(t, id) else {
+                return;
+            };
             let n = set_len(t, z, side);
             cut_region(t, z, side, n - 1);
         }
         Kind::Remove(side, r) => {
-            let z = find_zone(t, id).unwrap();
+            let Some(z) = find_zone(t, id) else {
+                return;
+            };
             put_back_region(t, z, side, place, r);
         }
         Kind::NoRequest => {}

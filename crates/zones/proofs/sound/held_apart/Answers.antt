@@ -1,8 +1,11 @@
--- A pass that comes to its end tells. Else each configured region is looked for in each zone.
-use Rattle.std.proofs.Common.{rules}
+-- Where the keys led, it is known. Else each configured region is looked for in each zone.
+use Rattle.std.proofs.Common.{rules, sym, ◌∙◌}
 use borrow.Author.Tests.{tests}
 use Rattle.zones.proofs.Checking.{every_held}
 use Rattle.zones.proofs.sound.held_apart.Goals as goal
 
-pub returns-else-each_has_owner : goal.returns-else-each_has_owner
-returns-else-each_has_owner c = every_held _ _ _ _ _ c.all.ensures.ran c.count.ensures.0 (λ x t q k. search (rules, tests))
+pub returns-then-led : goal.returns-then-led
+returns-then-led c = c.if-led.true ∙ sym (c.requires.1 c.if-led.true)
+
+pub returns-else-led : goal.returns-else-led
+returns-else-led c = every_held _ _ _ _ _ c.all.ensures.ran c.count.ensures.0 (λ x t q k. search (rules, tests))

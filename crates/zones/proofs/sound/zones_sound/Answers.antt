@@ -1,28 +1,27 @@
 -- Each return is one test of the conjunction: each zone, the ids, and that no two zones share a region.
-use Rattle.std.proofs.Common.{◌≡◌, ◌∙◌, sym, true, false}
-use mathlib.Core.Bool.{true≢false}
+use Rattle.std.proofs.Common.{◌≡◌, ◌∙◌, true, false}
+use Rattle.lists.specs.First.{all}
 use Rattle.lists.proofs.Tests.{conjunction}
-use Rattle.rules.specs.Tables.{sound}
+use Rattle.rules.specs.Limits.{limits}
+use Rattle.rules.specs.Tables.{sound, sound_zone}
+use Rattle.zones.specs.View.{config_in, zones_in}
 use Rattle.zones.proofs.Checking.{few_zones_law, apart_told}
 use Rattle.zones.proofs.sound.zones_sound.Goals as goal
-use Rattle.zones.proofs.sound.zones_sound.Goals.{then-each_sound, else-each_sound}
+
+pub returns-in_default : goal.returns-in_default
+unfolding sound
+returns-in_default c =
+    let e : all (sound_zone limits (config_in c.args.c.now.config.words.now)) (zones_in c.args.t.now) ≡ false = c.in_default.ensures.none in
+    search (conjunction, few_zones_law) depth 12
 
 pub returns-then-ids_differ : goal.returns-then-ids_differ
 unfolding sound
 returns-then-ids_differ c =
-    elim c.if-each_sound.branch [
-      | then-each_sound w ↦
-          (let e : w.ids_differ.result ≡ true = sym w.value-is ∙ c.if-ids_differ.true in
-          search (conjunction, few_zones_law, apart_told) depth 12)
-      | else-each_sound w ↦ absurd (true≢false (sym c.if-ids_differ.true ∙ w.value-is ∙ w.if-each_sound.false))
-    ]
+    let e : all (sound_zone limits (config_in c.args.c.now.config.words.now)) (zones_in c.args.t.now) ≡ true = c.in-Some.ensures.some.0 in
+    search (conjunction, few_zones_law, apart_told) depth 12
 
 pub returns-else-ids_differ : goal.returns-else-ids_differ
 unfolding sound
 returns-else-ids_differ c =
-    c.if-ids_differ.false ∙ elim c.if-each_sound.branch [
-      | then-each_sound w ↦
-          (let e : w.ids_differ.result ≡ false = sym w.value-is ∙ c.if-ids_differ.false in
-          search (conjunction, few_zones_law) depth 12)
-      | else-each_sound w ↦ search (conjunction, few_zones_law) depth 12
-    ]
+    let e : all (sound_zone limits (config_in c.args.c.now.config.words.now)) (zones_in c.args.t.now) ≡ true = c.in-Some.ensures.some.0 in
+    c.if-ids_differ.false ∙ search (conjunction, few_zones_law) depth 12

@@ -32,7 +32,7 @@ use Rattle.rules.proofs.OwnedCheck.{late, late_many, late_at, place_at, owned_c1
 use Rattle.zones.specs.Layout.{config_count, config_gic, config_records}
 use Rattle.zones.specs.Records.{record_at, records_at}
 use Rattle.zones.specs.View.{all_records, stored_config}
-use Rattle.owners.specs.Fitting.{in_range, fits_at, unfit_at, owners_fit, first_unfit, used_record, below, Ranged}
+use Rattle.owners.specs.Fitting.{in_range, fits_at, unfit_at, owners_fit, first_unfit, first_wrong, used_record, below, Ranged}
 use Rattle.owners.specs.View.{stored_owned}
 use Rattle.owners.proofs.Fitting.{found_below, none_below, range_parts, fits_past, fits_below, unfit_from, unfit_there}
 use Rattle.owners.proofs.Fitting.{fit_between, fit_range, fit_at, fit_make}
@@ -322,30 +322,23 @@ module _ (c o : List ℕ) (e : Ranged c) (f : Checked) (ef : f ≡ check limits 
       let l : j < most_regions = record_within j g in
       plain_record c o e f j own_first ef (record_there f rec er j g).0 refl (omega arith) l
 
-  module _ (h : own ≡ None) (g : rec ≡ None) (all : Option ℕ) (ea : all ≡ first_unfit c o 0) where
+  module _ (h : own ≡ None) (g : rec ≡ None) (all : Option ℕ) (ea : all ≡ first_wrong c o) where
     none_near : most_regions ≤ own_first
     none_near = none_below most_regions own_first own own_is h
 
-    all_is : all ≡ below most_regions (unfit_from c o 0)
-    unfolding first_unfit
+    all_is : all ≡ below (get_or c config_count 0) (unfit_from c o 0)
+    unfolding first_wrong
     all_is = ea
 
-    pub wrong_told : (v : ℕ) → all ≡ Some v → v < m → WrongOwner v ≡ owned_check limits (stored_owned c o)
-    wrong_told v q l =
-        wrong_owner c o e f most_regions own_first ef (record_nowhere f rec er g) refl none_near (omega arith) v
-        (found_below most_regions (unfit_from c o 0) all all_is v q).0 (omega arith)
-
-    pub wrong_late : (v : ℕ) → all ≡ Some v → m ≤ v → Plain f ≡ owned_check limits (stored_owned c o)
-    wrong_late v q l =
-        plain_right c o e f most_regions own_first ef (record_nowhere f rec er g) refl none_near (omega arith) v
-        (found_below most_regions (unfit_from c o 0) all all_is v q).0 (omega arith)
+    pub wrong_told : (v : ℕ) → all ≡ Some v → WrongOwner v ≡ owned_check limits (stored_owned c o)
+    wrong_told v q =
+        let there = found_below (get_or c config_count 0) (unfit_from c o 0) all all_is v q in
+        wrong_owner c o e f most_regions own_first ef (record_nowhere f rec er g) refl none_near (omega arith) v there.0 there.1
 
     pub none_wrong : all ≡ None → Plain f ≡ owned_check limits (stored_owned c o)
     none_wrong q =
-        let few : get_or c config_count 0 ≤ most_regions = e.count in
-        let l : most_regions ≤ unfit_from c o 0 = none_below most_regions (unfit_from c o 0) all all_is q in
         plain_right c o e f most_regions own_first ef (record_nowhere f rec er g) refl none_near (omega arith) (unfit_from c o 0) refl
-        (omega arith)
+        (none_below (get_or c config_count 0) (unfit_from c o 0) all all_is q)
 
 -- ---- owners that fit leave the first machine's check as it is, and others are a fault
 module _ (c o : List ℕ) where

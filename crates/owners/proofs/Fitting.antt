@@ -18,7 +18,7 @@ use Rattle.lists.proofs.Tests.{true_of, same_test, parts, whole, all_miss, all_p
 use Rattle.rules.specs.Limits.{most_regions, highest_id}
 use Rattle.rules.specs.Owners.{gic_owner, right_owner}
 use Rattle.zones.specs.Layout.{config_count, config_gic}
-use Rattle.owners.specs.Fitting.{in_range, fits_at, unfit_at, owners_fit, first_unfit, below, Ranged}
+use Rattle.owners.specs.Fitting.{in_range, fits_at, unfit_at, owners_fit, first_unfit, first_wrong, below, Ranged}
 use Rattle.owners.specs.View.{stored_owned}
 
 -- ---- the count, and the GIC's position
@@ -113,29 +113,45 @@ module _ (c o : List ℕ) where
         (ap (unfit_at (stored_owned c o)) (sym (position j m))
         ∙ between_fails (unfit_at (stored_owned c o)) (places 0 most_regions) 0 k j h (omega arith))
 
-  -- what `find` says of the positions from k on
-  pub unfit_found : (k : ℕ) (r : Option ℕ) → k ≤ most_regions
+  -- what `find` says of the positions from k on that are below n
+  unfit_below : (k n : ℕ) (r : Option ℕ) → n ≤ most_regions
+      → MatchOption r ((j : ℕ) → k ≤ j → j < n → fits_at (stored_owned c o) j ≡ true)
+      (λ i. (k ≤ i) × (i < n) × (fits_at (stored_owned c o) i ≡ false)
+      × ((j : ℕ) → k ≤ j → j < i → fits_at (stored_owned c o) j ≡ true))
+      → r ≡ below n (unfit_from k)
+  unfit_below k n None m h =
+      below_none n (unfit_from k)
+      (elim (dec_lt (unfit_from k) n) [
+        | yes l ↦
+            absurd
+            (true≢false
+            (sym (h (unfit_from k) (from_least (unfit_at (stored_owned c o)) (places 0 most_regions) 0 k) l)
+            ∙ unfit_there k (unfit_from k) refl (omega arith)))
+        | no l ↦ omega arith
+      ])
+  unfit_below k n (Some i) m (a, l, f, before) =
+      below_there n i (unfit_from k)
+      (sym
+      (from_is (unfit_at (stored_owned c o)) (places 0 most_regions) 0 k i a (omega (arith, length_places 0 most_regions))
+      (ap (unfit_at (stored_owned c o)) (position i (omega arith)) ∙ ap not f)
+      (λ j x y. ap (unfit_at (stored_owned c o)) (position j (omega arith)) ∙ ap not (before j x y)))) l
+
+  pub unfit_found : (k : ℕ) (r : Option ℕ)
       → MatchOption r ((j : ℕ) → k ≤ j → j < most_regions → fits_at (stored_owned c o) j ≡ true)
       (λ i. (k ≤ i) × (i < most_regions) × (fits_at (stored_owned c o) i ≡ false)
       × ((j : ℕ) → k ≤ j → j < i → fits_at (stored_owned c o) j ≡ true))
       → r ≡ first_unfit c o k
   unfolding first_unfit
-  unfit_found k None m h =
-      below_none most_regions (unfit_from k)
-      (elim (dec_lt (unfit_from k) most_regions) [
-        | yes l ↦
-            absurd
-            (true≢false
-            (sym (h (unfit_from k) (from_least (unfit_at (stored_owned c o)) (places 0 most_regions) 0 k) l)
-            ∙ unfit_there k (unfit_from k) refl l))
-        | no l ↦ omega arith
-      ])
-  unfit_found k (Some i) m (a, l, f, before) =
-      below_there most_regions i (unfit_from k)
-      (sym
-      (from_is (unfit_at (stored_owned c o)) (places 0 most_regions) 0 k i a (omega (arith, length_places 0 most_regions))
-      (ap (unfit_at (stored_owned c o)) (position i l) ∙ ap not f)
-      (λ j x y. ap (unfit_at (stored_owned c o)) (position j (omega arith)) ∙ ap not (before j x y)))) l
+  unfit_found k r h = unfit_below k most_regions r (omega arith) h
+
+  pub wrong_found : (n : ℕ) (r : Option ℕ) → Ranged c → n ≡ get_or c config_count 0
+      → MatchOption r ((j : ℕ) → 0 ≤ j → j < n → fits_at (stored_owned c o) j ≡ true)
+      (λ i. (0 ≤ i) × (i < n) × (fits_at (stored_owned c o) i ≡ false)
+      × ((j : ℕ) → 0 ≤ j → j < i → fits_at (stored_owned c o) j ≡ true))
+      → r ≡ first_wrong c o
+  unfolding first_wrong
+  wrong_found n r e q h =
+      unfit_below 0 n r (omega (arith, e.count)) h ∙ ap (λ (m : ℕ). below m (unfit_from 0)) q
 
   -- all fit
   pub all_fit : (k : ℕ) → k ≡ unfit_from 0 → leb most_regions k ≡ all (fits_at (stored_owned c o)) (places 0 most_regions)

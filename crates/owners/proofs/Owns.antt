@@ -1,13 +1,12 @@
 -- Who may hold what, as the code asks it: the owner of a region is found by the first index of one that equals it, and
 -- the loops over a set and over the zones have one test of the definition each turn.
-use Prim.Native.Nat.{ℕ, ◌+◌, ◌-◌, ◌*◌, ◌≤◌, ◌<◌}
+use Prim.Native.Nat.{ℕ, ◌+◌, ◌*◌, ◌≤◌, ◌<◌}
 use native.Mathlib.Nat.{sub-zero}
 use native.Mathlib.Decide.{dec_lt}
 use native.Mathlib.Omega.{arith}
 use mathlib.Core.Bool.{Bool, true, false, ◌||◌, true≢false}
 use mathlib.Core.List.{List}
-use mathlib.Core.Path.{◌≡◌, refl, sym, ap, ap₂, ◌∙◌}
-use borrow.Author.Tests.{not-true, not-false, le-leb, lt-leb}
+use mathlib.Core.Path.{◌≡◌, sym, ap, ap₂, ◌∙◌}
 use lib.Dec.{eqb, leb}
 use lib.ListN.{length, get_or, get_or-eq_default}
 use Rattle.std.specs.Prelude.{Option, Some, None, MatchOption}
@@ -109,22 +108,27 @@ module _ (c o : List ℕ) (id : ℕ) (s : Side) (r : Region) (k : ℕ) (ek : k �
   same : owns ≡ eqb (owner_of (owned_in c o) r) id
   same = ap (λ (n : ℕ). eqb n id) ek
 
-  pub may_cpu : s ≡ Cpu → owns ≡ may_hold (owned_in c o) id s r
+  pub may_own : owns ≡ true → owns ≡ may_hold (owned_in c o) id s r
   unfolding may_hold
-  may_cpu q = same ∙ sym (ap (λ (x : Side). may_hold (owned_in c o) id x r) q)
+  may_own h = by s
+    where
+      by : (x : Side) → owns ≡ may_hold (owned_in c o) id x r
+      by Cpu = same
+      by Iommu = h ∙ sym (or_left (eqb (owner_of (owned_in c o) r) id) _ (sym same ∙ h))
 
-  module _ (q : s ≡ Iommu) where
-    either : (owns || region_eq r (gic_of (config_in c))) ≡ may_hold (owned_in c o) id s r
+  module _ (h : owns ≡ false) where
+    other : eqb (owner_of (owned_in c o) r) id ≡ false
+    other = sym same ∙ h
+
+    pub may_cpu : s ≡ Cpu → false ≡ may_hold (owned_in c o) id s r
+    unfolding may_hold
+    may_cpu q = sym (ap (λ (x : Side). may_hold (owned_in c o) id x r) q ∙ other)
+
+    pub may_iommu : s ≡ Iommu → (t : Bool) → t ≡ region_eq r (gic_of (config_in c)) → t ≡ may_hold (owned_in c o) id s r
     unfolding may_hold owned_of
-    either =
-        ap (λ (b : Bool). b || region_eq r (gic_of (config_in c))) same
-        ∙ sym (ap (λ (x : Side). may_hold (owned_in c o) id x r) q)
-
-    pub may_own : owns ≡ true → owns ≡ may_hold (owned_in c o) id s r
-    may_own h = h ∙ sym (or_left owns (region_eq r (gic_of (config_in c))) h) ∙ either
-
-    pub may_iommu : owns ≡ false → (t : Bool) → t ≡ region_eq r (gic_of (config_in c)) → t ≡ may_hold (owned_in c o) id s r
-    may_iommu h t e = e ∙ sym (ap (λ (b : Bool). b || region_eq r (gic_of (config_in c))) h) ∙ either
+    may_iommu q t e =
+        e ∙ sym (ap (λ (x : Side). may_hold (owned_in c o) id x r) q
+        ∙ ap (λ (b : Bool). b || region_eq r (gic_of (config_in c))) other)
 
 -- ---- a set, record by record
 -- the zone may hold record i of those whose count stands in word k

@@ -12,12 +12,12 @@ use lib.Dec.{eqb}
 use lib.ListN.{length, get_or, take, drop, length-take, take-append-drop}
 use lib.Seq.{get_or-take, drop-cons}
 use Rattle.std.specs.Prelude.{Option, Some, None, MatchOption}
-use Rattle.lists.specs.First.{first_index, first_from, any}
+use Rattle.lists.specs.First.{first_index, any}
 use Rattle.lists.specs.Places.{tab}
 use Rattle.lists.specs.Rules.{Rule, first_rule}
 use Rattle.lists.proofs.Every.{none_make}
 use Rattle.lists.proofs.First.{any_first, first_is, first_within, first_passes, before_fails}
-use Rattle.lists.proofs.Places.{length_tab, get_d_tab, take_tab, tab_same, first_hit, first_on, first_end}
+use Rattle.lists.proofs.Places.{length_tab, get_d_tab, take_tab, tab_same}
 use Rattle.lists.proofs.Rules.{quiet_answer}
 use Rattle.lists.proofs.Tests.{both_false, holds_or_fails}
 use Rattle.rules.specs.Fields.{region_size}

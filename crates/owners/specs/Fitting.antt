@@ -45,6 +45,11 @@ below n i = cond (ltb i n) (Some i) None
 unfoldable pub first_unfit : List ℕ → List ℕ → ℕ → Option ℕ
 first_unfit c o k = below most_regions (first_from (unfit_at (stored_owned c o)) (places 0 most_regions) k)
 
+-- the first configured position whose owner does not fit
+unfoldable pub first_wrong : List ℕ → List ℕ → Option ℕ
+first_wrong c o =
+    below (get_or c config_count 0) (first_from (unfit_at (stored_owned c o)) (places 0 most_regions) 0)
+
 -- the place of C3, where that is found
 unfoldable pub used_record : Checked → Option ℕ
 used_record f = cond (eqb (check_number f) 3) (Some (check_place f)) None

@@ -4,7 +4,7 @@ ghost use Rattle.rules.specs.Configuration.{check};
 ghost use Rattle.rules.specs.Limits.{most_regions, limits};
 ghost use Rattle.rules.specs.Owners.{owned_check, owned_check_number, owned_check_place, owned_check_earlier};
 ghost use Rattle.zones.specs.View.{stored_config};
-ghost use Rattle.owners.specs.Fitting.{fits_at, first_unfit, owners_fit, used_record};
+ghost use Rattle.owners.specs.Fitting.{fits_at, first_unfit, first_wrong, owners_fit, used_record};
 ghost use Rattle.owners.specs.View.{stored_owned};
 
 use crate::owned::Owned;
@@ -69,9 +69,9 @@ impl Owned<'_> {
                 OwnedChecked::Plain(Checked::NotZero(owner))
             }
             (_, Some(_)) => OwnedChecked::Plain(found),
-            (None, None) => match self.first_unfit(0) {
-                Some(i) if i < self.count() => OwnedChecked::WrongOwner(i),
-                _ => OwnedChecked::Plain(found),
+            (None, None) => match self.first_wrong() {
+                Some(i) => OwnedChecked::WrongOwner(i),
+                None => OwnedChecked::Plain(found),
             },
         }
     }
@@ -89,6 +89,13 @@ impl Owned<'_> {
         ensures { result ≡ first_unfit self.now.config.now self.now.owners.now k }
     {
         (k..MOST_REGIONS).find(|i| !self.fits_at(*i))
+    }
+
+    // The first configured position whose owner does not fit.
+    fn first_wrong(&self) -> Option<usize>
+        ensures { result ≡ first_wrong self.now.config.now self.now.owners.now }
+    {
+        (0..self.count()).find(|i| !self.fits_at(*i))
     }
 
     fn fits_at(&self, i: usize) -> bool

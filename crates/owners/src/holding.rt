@@ -11,11 +11,11 @@ ghost use Rattle.owners.specs.Fitting.{own_set, own_zone, own_table};
 ghost use Rattle.owners.specs.View.{owned_in};
 
 use crate::check::GIC_OWNER;
-use crate::owned::Owned;
+use crate::owned::{Owned, read_region};
 use region::region_eq;
 use rules::limits::{MOST_IN_SET, MOST_ZONES};
 use rules::{Region, Side};
-use zones::{CONFIG_GIC, REGION_WORDS, SET_WORDS, TABLE_WORDS, region_from, zone_start};
+use zones::{CONFIG_GIC, REGION_WORDS, SET_WORDS, TABLE_WORDS, zone_start};
 
 impl Owned<'_> {
     // The owner of a region: the one at its position. The GIC's own number is nobody's, and stands for no owner too.
@@ -37,9 +37,9 @@ impl Owned<'_> {
         ensures { result ≡ may_hold (owned_in self.now.config.now self.now.owners.now) id side r }
     {
         let owns = u64::from(self.owner_of(r)) == id;
-        match side {
-            Side::Cpu => owns,
-            Side::Iommu => owns || self.is_gic(r),
+        owns || match side {
+            Side::Cpu => false,
+            Side::Iommu => self.is_gic(r),
         }
     }
 
@@ -67,6 +67,6 @@ impl Owned<'_> {
     {
         let n = t[k] as usize;
         n <= MOST_IN_SET
-            && (0..n).all(|i| self.may_hold(id, side, region_from(t, k + 1 + i * REGION_WORDS)))
+            && (0..n).all(|i| self.may_hold(id, side, read_region(t, k + 1 + i * REGION_WORDS)))
     }
 }

@@ -1,13 +1,13 @@
 // A configuration with its owners, once neither C1 nor C2 applies: whose a region is, is asked of one of these.
-ghost use Rattle.std.specs.Prelude.{false, ◌≡◌, ◌+◌, ◌*◌, ◌<◌, get_or, IfNone, IfSome};
+ghost use Rattle.std.specs.Prelude.{false, ◌≡◌, ◌+◌, ◌*◌, ◌≤◌, ◌<◌, length, get_or, IfNone, IfSome};
 ghost use Rattle.rules.specs.Limits.{most_regions};
 ghost use Rattle.zones.specs.Layout.{config_count, config_records, region_words};
 ghost use Rattle.zones.specs.Records.{region_at};
 ghost use Rattle.owners.specs.Fitting.{in_range, Ranged};
 
-use rules::Region;
 use rules::limits::MOST_REGIONS;
-use zones::{CONFIG_COUNT, CONFIG_GIC, CONFIG_RECORDS, CONFIG_WORDS, REGION_WORDS, region_from};
+use rules::{Guest, Phys, Region, Rights};
+use zones::{CONFIG_COUNT, CONFIG_GIC, CONFIG_RECORDS, CONFIG_WORDS, REGION_WORDS};
 
 #[derive(Clone, Copy)]
 pub struct Owned<'a> {
@@ -44,6 +44,19 @@ impl<'a> Owned<'a> {
         ensures { result ≡ region_at self.now.config.now (config_records + i * region_words) }
     {
         let config = self.config;
-        region_from(config, CONFIG_RECORDS + i * REGION_WORDS)
+        read_region(config, CONFIG_RECORDS + i * REGION_WORDS)
+    }
+}
+
+// The region whose record starts at word k.
+pub fn read_region(s: &[u64], k: usize) -> Region
+    requires { k + region_words ≤ length s.now }
+    ensures { result ≡ region_at s.now k }
+{
+    Region {
+        v: Guest(s[k]),
+        p: Phys(s[k + 1]),
+        size: s[k + 2],
+        rights: Rights(s[k + 3]),
     }
 }

@@ -1,6 +1,5 @@
 -- Each return is one rule: C3 of an owner or of a record, C7, or what the first machine's check found.
-use borrow.Author.Rules.{rules}
-use Rattle.owners.proofs.Checking.{owner_only, owner_before, record_before, record_only, wrong_told, wrong_late, none_wrong}
+use Rattle.owners.proofs.Checking.{owner_only, owner_before, record_before, record_only, wrong_told, none_wrong}
 use Rattle.owners.proofs.owned.Owned.check.Goals as goal
 
 pub returns-in-Some-None : goal.returns-in-Some-None
@@ -12,15 +11,11 @@ returns-in-Some-Some c =
 
 pub returns-in-Some : goal.returns-in-Some
 returns-in-Some c =
-    wrong_told _ _ c.args.self.now.ranged _ c.requires _ _ _ c.count.ensures c.first_unfit.ensures c.used_record.ensures c.in-None-None.is-0 c.in-None-None.is-1 _ c.first_unfit-in-None-None.ensures _ c.in-Some.is (search rules)
+    wrong_told _ _ c.args.self.now.ranged _ c.requires _ _ _ c.count.ensures c.first_unfit.ensures c.used_record.ensures c.in-None-None.is-0 c.in-None-None.is-1 _ c.first_wrong.ensures _ c.in-Some.is
 
-pub returns-in_default : goal.returns-in_default
-returns-in_default c =
-    wrong_late _ _ c.args.self.now.ranged _ c.requires _ _ _ c.count.ensures c.first_unfit.ensures c.used_record.ensures c.in-None-None.is-0 c.in-None-None.is-1 _ c.first_unfit-in-None-None.ensures _ c.in-Some.is (search rules)
-
-pub returns-in_default-2 : goal.returns-in_default-2
-returns-in_default-2 c =
-    none_wrong _ _ c.args.self.now.ranged _ c.requires _ _ _ c.count.ensures c.first_unfit.ensures c.used_record.ensures c.in-None-None.is-0 c.in-None-None.is-1 _ c.first_unfit-in-None-None.ensures c.in_default.is
+pub returns-in-None : goal.returns-in-None
+returns-in-None c =
+    none_wrong _ _ c.args.self.now.ranged _ c.requires _ _ _ c.count.ensures c.first_unfit.ensures c.used_record.ensures c.in-None-None.is-0 c.in-None-None.is-1 _ c.first_wrong.ensures c.in-None.is
 
 pub returns-in_default-Some : goal.returns-in_default-Some
 returns-in_default-Some c =

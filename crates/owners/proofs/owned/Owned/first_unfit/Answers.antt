@@ -12,6 +12,6 @@ use Rattle.owners.proofs.owned.Owned.first_unfit.Goals as goal
 pub returns : goal.returns
 returns c =
     let s = stored_owned c.args.self.now.config.now c.args.self.now.owners.now in
-    unfit_found c.args.self.now.config.now c.args.self.now.owners.now c.args.k _ c.requires
+    unfit_found c.args.self.now.config.now c.args.self.now.owners.now c.args.k _
     (first_from_Range _ _ _ _ (λ (i : ℕ). fits_at s i ≡ false) (λ (i : ℕ). fits_at s i ≡ true) c.find.ensures.ran
     (λ x q k. search (rules, tests)) (λ x q k. search (rules, tests)))

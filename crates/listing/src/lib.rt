@@ -13,7 +13,7 @@ ghost use Rattle.rules.specs.Applying.{apply};
 ghost use Rattle.zones.specs.View.{stored_config, stored_table};
 
 use crate::lines::put_listing;
-use plan::{apply_words, read_plan};
+use plan::{MARKS_BYTES, apply_words, find_sections, read_regions_in, read_zones_in};
 use rules::Outcome;
 pub use size::LONGEST_LISTING;
 use writer::fill_buffer;
@@ -37,14 +37,16 @@ pub fn list_table(
 pub fn list_alone(plan: &[u8], buffer: &mut [u8]) -> Outcome
     ensures { record { outcome = result; buffer = buffer.new } ≡ list_alone limits plan.now buffer.old }
 {
-    match read_plan(plan) {
-        Err(refused) => Outcome::refused(refused.why, refused.at),
-        Ok(read) => {
-            let config = read.config.words;
-            let mut table = read.table.words;
-            list_after(&config, &mut table, read.edition, plan, buffer)
-        }
-    }
+    let found = match find_sections(plan) {
+        Ok(found) => found,
+        Err(refused) => return Outcome::refused(refused.why, refused.at),
+    };
+    // Neither section is refused: the plan reads whole. They are read where they are used, as by `apply_alone`.
+    let mut config = [0u64; CONFIG_WORDS];
+    let _ = read_regions_in(&plan[MARKS_BYTES..], found.gic, &mut config);
+    let mut table = [0u64; TABLE_WORDS];
+    let _ = read_zones_in(&plan[found.zones..], &mut table);
+    list_after(&config, &mut table, found.edition, plan, buffer)
 }
 
 // The plan at a state, and the listing of what it leaves there.

@@ -11,7 +11,7 @@ ghost use Rattle.zones.specs.Layout.{region_words};
 ghost use Rattle.zones.specs.Records.{region_at};
 ghost use Rattle.listing.specs.Lines.{line_room, number_fields, last_fields, Near};
 
-use puts::{Pen, put_bytes};
+use puts::{Pen, put_byte};
 use rules::limits::PAGE;
 use rules::{Guest, Phys, Side};
 
@@ -71,7 +71,7 @@ fn put_signed(pen: &mut Pen, n: i64)
     ensures moved { pen.new.at ≤ pen.old.at + 22 }
 {
     if n < 0 {
-        pen.bytes(b"-");
+        pen.byte(b'-');
         put_decimal(pen, (0 - n) as u64, LINE_FEED);
         return;
     }
@@ -103,7 +103,7 @@ fn put_number<const BASE: u64>(pen: &mut Pen, k: usize, n: u64, end: u8)
 {
     put_digits::<BASE>(pen.bytes, pen.at, k, n);
     pen.at += k;
-    pen.bytes(&[end]);
+    pen.byte(end);
 }
 
 // How many decimal digits a number has. No index is counted: the loop goes on while there is more to divide.
@@ -127,7 +127,7 @@ fn put_digits<const BASE: u64>(b: &mut [u8], at: usize, k: usize, n: u64)
     let mut rest = n;
     for i in 0..k {
         let digit = (rest % BASE) as u8;
-        put_bytes(b, at + (k - i - 1), &[glyph(digit)]);
+        put_byte(b, at + (k - i - 1), glyph(digit));
         rest = rest / BASE;
     }
 }

@@ -6,7 +6,7 @@ use mathlib.Core.List.{List, [], ◌∷◌}
 use mathlib.Core.Path.{◌≡◌, refl, sym, ap, ap₂, ◌∙◌}
 use borrow.Author.Tests.{lt-ltb, le-ltb, ltb-true, ltb-false}
 use lib.Dec.{ltb}
-use Rattle.std.proofs.Common.{Ok, Err}
+use Rattle.std.proofs.Common.{Result, Ok, Err}
 use lib.ListN.{length, take, drop, length-append, length-drop}
 use lib.Seq.{drop-drop}
 use Rattle.lists.specs.Bytes.{little}
@@ -33,7 +33,7 @@ use Rattle.plan.specs.Found.{marks_bytes, found_at, found_of, found_in, four_at,
 use Rattle.plan.specs.Found.{after_requests, requests_found, after_zones, zones_found, after_regions, regions_found}
 use Rattle.plan.specs.Found.{after_marks, marks_found}
 use Rattle.plan.specs.Sections.{marks_answer, section_answer, reached}
-use Rattle.plan.specs.Told.{Told, answer_by}
+use Rattle.plan.specs.Told.{Told, told, by_reason, told_by, TellsAs, answer_by}
 use Rattle.plan.specs.declared.finding.Found.{Found}
 use Rattle.plan.specs.declared.finding.Four.{Four}
 use Rattle.plan.specs.declared.refused.Refused.{Refused}
@@ -41,7 +41,7 @@ use Rattle.plan.specs.declared.sections.Marks.{Marks as MarksAre}
 use Rattle.plan.proofs.Fields.{asked_in, asked_format, wide_asked, region_value, wide_region, field_is, field_stops}
 use Rattle.plan.proofs.Offsets.{place, part_in, end_within, ends_with}
 use Rattle.plan.proofs.Passing.{list_read_law}
-use Rattle.plan.proofs.Told.{answer_stops, answer_as}
+use Rattle.plan.proofs.Told.{by_reasons, answer_stops, answer_as}
 
 -- ---- where something ends that is put together: o, and then what f says
 section_as : {A B : Type 0} (n : ℕ) (o : Out A) (to : A → B)
@@ -486,6 +486,13 @@ ends_there n r h = sym (ap (λ (x : Bool). cond x (Err (22, r.end)) (Ok r.found)
 pub ends_bad : (n : ℕ) (e : ℕ × ℕ) → Err e ≡ whole_of n (Err e)
 unfolding whole_of
 ends_bad n e = refl
+
+-- of refusals of any type that are told alike: the crate's own
+pub whole_told : (n : ℕ) (r : Result Four Refused) (v : Result Found Refused)
+    → ((t : Refused → ℕ × ℕ) → TellsAs (λ x y. y ≡ x) t → told_by t v ≡ whole_of n (told_by t r))
+    → told v ≡ whole_of n (told r)
+whole_told n r v h =
+    sym (by_reasons v) ∙ h by_reason (λ x y e. ap by_reason e) ∙ ap (whole_of n) (by_reasons r)
 
 -- a plan that was found whole
 pub plan_found : (s : List ℕ) (r : Told Four) (v : Told Found) → r ≡ four_in (length s) ((plan_format limits).read s)

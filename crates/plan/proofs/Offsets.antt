@@ -8,7 +8,7 @@ use lib.ListN.{length, take, drop, length-append, length-drop, take-append-drop}
 use lib.Seq.{take_all, drop_at}
 use Rattle.formats.specs.Formats.{Out, got, bad, left}
 use Rattle.formats.proofs.Formats.{Part, part_trans}
-use Rattle.std.proofs.Common.{Ok}
+use Rattle.std.proofs.Common.{Ok, Err}
 use Rattle.plan.specs.Told.{answer_by}
 use Rattle.plan.specs.Sections.{section_answer}
 
@@ -48,3 +48,14 @@ module _ {A : Type 0} (s : List ℕ) (o : Out A) (part : Part (left o) s) where
       by : (o : Out A) → Ok e ≡ section_answer (length s) o → e ≤ length s
       by (got x t) g = let m : e ≡ length s - length t = cc in omega arith
       by (bad k t) g = absurd (cc)
+
+  -- and the place of a refusal lies within the bytes, or where they end
+  pub bad_within : (k a : ℕ) → Err (k, a) ≡ section_answer (length s) o → a ≤ length s
+  unfolding answer_by
+  bad_within k a f = by o f
+    where
+      by : (o : Out A) → Err (k, a) ≡ section_answer (length s) o → a ≤ length s
+      by (got x t) g = absurd (cc)
+      by (bad j t) g =
+          let m : ◌≡◌ {A = ℕ × ℕ} (k, a) (j, length s - length t) = cc in
+          omega (arith, ap (λ (x : ℕ × ℕ). x.1) m)

@@ -6,13 +6,18 @@ use lib.ListN.{length}
 use Rattle.std.proofs.Common.{Option, Result, Ok, Err, Some, None}
 use Rattle.std.specs.Result.{IsErr, IsErrAnd, result_ok}
 use Rattle.formats.specs.Formats.{Out, got, bad, then}
-use Rattle.plan.specs.Told.{Told, told, answer_by}
+use Rattle.plan.specs.Told.{Told, told, by_reason, told_by, answer_by}
 use Rattle.plan.specs.declared.refused.Refused.{Refused}
 
 -- what a `?` returns
-pub passed_on : {A : Type 0} (r : Result A Refused) (e : Refused) → IsErr r × IsErrAnd r (λ y. y ≡ e) → r ≡ Err e
+pub passed_on : {A E : Type 0} (r : Result A E) (e : E) → IsErr r × IsErrAnd r (λ y. y ≡ e) → r ≡ Err e
 passed_on (Ok x) e h = absurd h.1
-passed_on (Err y) e h = ap (λ (x : Refused). Err x) h.1
+passed_on (Err y) e h = ap (λ (x : _). Err x) h.1
+
+-- this crate's refusals are told by their reasons
+pub by_reasons : {A : Type 0} (r : Result A Refused) → told_by by_reason r ≡ told r
+by_reasons (Ok x) = refl
+by_reasons (Err e) = refl
 
 -- ---- a refusal of the first part of what is read is one of the whole
 module _ {A B C : Type 0} (f : A → List ℕ → B) (n : ℕ) (o : Out A) (g : A → List ℕ → Out C) (h : C → List ℕ → B) where

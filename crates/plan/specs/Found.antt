@@ -1,5 +1,6 @@
 -- Where the sections of a plan begin, of what the format reads: n is the number of the plan's bytes.
-use Rattle.std.specs.Prelude.{ℕ, ◌+◌, ◌-◌, ◌*◌, ◌≤◌, ◌≡◌, cond, List, [], ◌∷◌, ltb, Ok, Err, length, drop}
+use Rattle.std.specs.Prelude.{ℕ, ◌+◌, ◌-◌, ◌*◌, ◌<◌, ◌≤◌, ◌≡◌, Result, cond, List, [], ◌∷◌, ltb, Ok, Err, length, drop}
+use Rattle.std.specs.Result.{IsErrAnd}
 use Rattle.formats.specs.Formats.{Out, got, bad}
 use Rattle.rules.specs.Fields.{region_size}
 use Rattle.rules.specs.Limits.{limits, in_format}
@@ -8,10 +9,12 @@ use Rattle.rules.specs.Run.{request_size}
 use Rattle.rules.specs.Sizes.{marks_size, zones_at}
 use Rattle.rules.specs.Tables.{Zone}
 use Rattle.rules.specs.declared.Region.{Region}
+use Rattle.rules.specs.declared.refusal.Refusal.TheVariants.{Trailing}
 use Rattle.plan.specs.Told.{Told, answer_by}
 use Rattle.plan.specs.declared.finding.Found.{Found}
 use Rattle.plan.specs.declared.finding.Four.{Four}
 use Rattle.plan.specs.declared.finding.Parts.{Parts}
+use Rattle.plan.specs.declared.refused.Refused.{Refused}
 
 -- bytes of the marks with their count
 abbrev pub marks_bytes : ℕ
@@ -61,6 +64,15 @@ four_in n o = four_of (λ (p : Plan). p) (zones_at limits) n o
 unfoldable pub whole_of : ℕ → Told Four → Told Found
 whole_of n (Ok f) = cond (ltb f.end n) (Err (22, f.end)) (Ok f.found)
 whole_of n (Err r) = Err r
+
+-- the same of refusals of any type: one that came goes on as it is, and at bytes after the sections one is made, as `gives`
+-- has it, of this crate's
+abbrev pub trailing_at : ℕ → Refused
+trailing_at n = record { why = Trailing; at = n }
+
+abbrev pub WholeAt : {E : Type 0} → (Refused → E → Type 0) → ℕ → Result Four E → Result Found E → Type 0
+WholeAt gives n (Ok f) r = (n ≤ f.end → r ≡ Ok f.found) × (f.end < n → IsErrAnd r (gives (trailing_at f.end)))
+WholeAt gives n (Err e) r = r ≡ Err e
 
 -- ---- the same, section by section
 -- what a section leads to, where it reads

@@ -7,10 +7,10 @@ ghost use Rattle.plan.specs.Held.{table_held};
 ghost use Rattle.plan.specs.Steps.{AppliedBy, RanOrUndoneBy};
 
 use crate::base::judge;
-use crate::finding::Parts;
+use crate::finding::{MARKS_BYTES, Parts, find_sections};
 use crate::machine::Machine;
 use crate::plain::Plain;
-use crate::read::read_plan;
+use crate::sections::{read_regions_in, read_zones_in};
 use crate::words::read_table;
 use rules::Outcome;
 use rules::numbers::REQUEST_REFUSED;
@@ -106,12 +106,14 @@ pub fn apply(state: State, plan: &[u8]) -> Applied
 pub fn apply_alone(plan: &[u8]) -> Outcome
     ensures { result ≡ answer_alone limits plan.now }
 {
-    match read_plan(plan) {
-        Ok(read) => {
-            let config = read.config.words;
-            let mut table = read.table.words;
-            apply_words(&config, &mut table, read.edition, plan)
-        }
-        Err(refused) => Outcome::refused(refused.why, refused.at),
-    }
+    let found = match find_sections(plan) {
+        Ok(found) => found,
+        Err(refused) => return Outcome::refused(refused.why, refused.at),
+    };
+    // Neither section is refused: the plan reads whole. They are read where they are used, since a configuration and a table in a result are copied.
+    let mut config = [0u64; CONFIG_WORDS];
+    let _ = read_regions_in(&plan[MARKS_BYTES..], found.gic, &mut config);
+    let mut table = [0u64; TABLE_WORDS];
+    let _ = read_zones_in(&plan[found.zones..], &mut table);
+    apply_words(&config, &mut table, found.edition, plan)
 }

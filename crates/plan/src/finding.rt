@@ -1,14 +1,14 @@
 // Where the sections of a plan begin: every field is passed over once, and nothing is stored.
-ghost use Rattle.std.specs.Prelude.{◌≤◌, ◌<◌, [], ◌∷◌, ◌≡◌, length, drop};
+ghost use Rattle.std.specs.Prelude.{ℕ, ◌≤◌, ◌<◌, [], ◌∷◌, ◌≡◌, length, drop};
 ghost use Rattle.formats.specs.Formats.{listed, read_count, read_many};
 ghost use Rattle.rules.specs.Limits.{limits, in_format};
 ghost use Rattle.rules.specs.Plan.{region_field, zone_format, regions_section, zones_section, requests_section, plan_format, read_plan};
-ghost use Rattle.plan.specs.Told.{told};
+ghost use Rattle.plan.specs.Told.{told, by_number, told_by, TellsAs};
 ghost use Rattle.plan.specs.Sections.{section_answer, fields_answer, numbers_section, reached};
-ghost use Rattle.plan.specs.Found.{found_in, four_in, whole_of, zones_found, FitsIn, PartsOf};
+ghost use Rattle.plan.specs.Found.{found_in, four_in, whole_of, WholeAt, zones_found, FitsIn, PartsOf};
 
 use crate::field::{count_at, number_at};
-use crate::refused::Refused;
+use crate::refused::{Numbered, Refused};
 use crate::sections::{Marks, read_format_marks};
 use rules::Refusal;
 use rules::limits::{FORMAT, MARKS, MOST_IN_SET, MOST_REGIONS, MOST_REQUESTS, MOST_ZONES};
@@ -67,18 +67,27 @@ pub fn find_sections(plan: &[u8]) -> Result<Found, Refused>
     whole_at(four, plan.len())
 }
 
-// What was found of the four sections, where they must end with the bytes, of which there are so many.
-pub fn whole_at(four: Result<Four, Refused>, bytes: usize) -> Result<Found, Refused>
-    ensures { told result ≡ whole_of bytes (told four) }
+// What was found of the four sections, where they must end with the bytes, of which there are so many. A refusal may be of any type that is made
+// of this crate's too, and goes on as it came.
+pub fn whole_at<E: From<Refused>>(four: Result<Four, E>, bytes: usize) -> Result<Found, E>
+    ensures answer { WholeAt E.from_gives bytes four result }
+    ensures told_by_any { (t : E → ℕ × ℕ) → TellsAs E.from_gives t → told_by t result ≡ whole_of bytes (told_by t four) }
 {
     let Four { found, end } = four?;
     if end < bytes {
-        return Err(Refused {
+        return Err(E::from(Refused {
             why: Refusal::Trailing,
             at: end,
-        });
+        }));
     }
     Ok(found)
+}
+
+// The same of refusals by numbers, which may be any.
+pub fn whole_numbered(four: Result<Four, Numbered>, bytes: usize) -> Result<Found, Numbered>
+    ensures { told_by by_number result ≡ whole_of bytes (told_by by_number four) }
+{
+    whole_at(four, bytes)
 }
 
 // The four sections of the format with that mark, 20 or 21 in their order; what follows them is not looked at.

@@ -19,12 +19,12 @@ pub use base::{base_number, judge, turned_away};
 pub use comparing::same_config;
 pub use finding::{
     Found, Four, MARKS_BYTES, Parts, find_four, find_from_zones, find_sections, pass_numbers,
-    pass_numbers_at, pass_regions, pass_regions_at, pass_zones, whole_at,
+    pass_numbers_at, pass_regions, pass_regions_at, pass_zones, whole_at, whole_numbered,
 };
 pub use machine::Machine;
 pub use plain::Plain;
 pub use read::{Read, find_base, find_requests, read_plan};
-pub use refused::Refused;
+pub use refused::{Numbered, Refused};
 pub use sections::{
     Marks, Regions, Zones, read_format_marks, read_marks, read_regions, read_regions_in,
     read_requests, read_zones, read_zones_in,

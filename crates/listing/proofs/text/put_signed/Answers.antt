@@ -13,7 +13,7 @@ overflow_cast-n c = (search (opposite_sign, rules), search (opposite_small, rule
 
 pub returns-then-n-lt0-clause-wrote : goal.returns-then-n-lt0-clause-wrote
 returns-then-n-lt0-clause-wrote c =
-    let w0 = c.bytes.ensures.wrote (omega arith) in
+    let w0 = c.byte.ensures.wrote (omega arith) in
     search (below_put, rules)
 
 pub overflow_cast-n-2 : goal.overflow_cast-n-2

@@ -48,9 +48,9 @@ pub fn put_base(table: &[u64; TABLE_WORDS], b: &mut [u8]) -> usize
     requires { TableFits table.now }
     ensures { Put b.old 0 ((zones_section limits).write (zones_in table.now)) b.new result }
 {
-    let mut pen = Pen::new(b);
-    put_zones(&mut pen, table);
-    pen.at
+    let mut base = Pen::new(b);
+    put_zones(&mut base, table);
+    base.at
 }
 
 // The marks: the GIC's position, the base edition, and the mark of the format.

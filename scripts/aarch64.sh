@@ -57,7 +57,7 @@ known_lines() {
     printf '%s\n' "$to(add|sub|mul|udiv|urem|and|or|xor|shl|lshr) $flags$number $value, $value" \
         "${to}icmp $flags(eq|ne|ult|ule|ugt|uge|slt) $one $value, $value" \
         "$to(zext|trunc) $flags$number $value to $number" "${to}ptrtoaddr ptr $local_name to i64"
-    # What is proved not to be reached traps; and zeros are counted, 64 of them in 0.
+    # What is proved not to be reached traps: the compiler takes it out, or check_traps refuses. And zeros are counted, 64 of them in 0.
     printf '%s\n' '  call void @llvm\.trap\(\)' 'declare void @llvm\.trap\(\) #[1-6]' \
         "${to}call i64 @llvm\.ctlz\.i64\(i64 $value, i1 false\)" 'declare i64 @llvm\.ctlz\.i64\(i64, i1 immarg\) #[1-6]'
     printf '%s\n' "($to|  )call (void|$one|$pair) $function\(($handed(, $handed)*)?\)" \
@@ -120,6 +120,21 @@ change_words() {
     done <"$1"
 }
 
+# No function of the library has a trap, whatever the module has where it is proved that nobody comes.
+check_traps() {
+    local word listing=()
+    for word in "${words[@]}"; do
+        case $word in
+        -c) listing+=(-S) ;;
+        "$work/$object") listing+=("$work/listing") ;;
+        *) listing+=("$word") ;;
+        esac
+    done
+    "$clang" "${listing[@]}" 2>"$work/errors" || fail "the module cannot be listed for aarch64: $(head -n 1 "$work/errors")"
+    ! grep -qE '^[[:space:]]+(brk|udf)[[:space:]]' "$work/listing" ||
+        fail "a function of the library would have a trap, of a line that the compiler leaves in its place:   call void @llvm.trap()"
+}
+
 find_kit
 make_work
 check_lines
@@ -128,6 +143,7 @@ change_lines
 object=$1.o
 change_words "$2/$1.words"
 "$clang" "${words[@]}" 2>"$work/errors" || fail "the module does not compile for aarch64: $(head -n 1 "$work/errors")"
+check_traps
 (cd "$work" && "$archiver" rcsD --format=gnu library.a "$object") || fail "the archive cannot be made"
 cp "$work/changes.diff" "$changes"
 mv "$work/library.a" "$archive"

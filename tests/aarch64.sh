@@ -84,6 +84,7 @@ check_functions() {
     refuse 'declare i64 @llvm.ctpop.i64(i64)' '0,/^declare /s//declare i64 @llvm.ctpop.i64(i64)\n&/'
     within '  call void @other()'
     within '  call void asm sideeffect "nop", ""()'
+    within '  call void @llvm.trap()'
     within '  call void @llvm.debugtrap()'
     within '  %other = call i64 %a0(i64 1)'
 }

@@ -58,6 +58,8 @@ check_archive() {
     grep -q "($1 Linux)" "$work/$1/lib/pkgconfig/$3.pc" || say_failed "the pkg-config file of $3 does not name $1"
     imports=$(nm -u "$archive" | awk '$1 == "U" { print $2 }' | sort -u | tr '\n' ' ')
     [ "$imports" = 'memset ' ] || say_failed "the archive of $3 for $1 imports: $imports"
+    # Of the other processor's, scripts/aarch64.sh asks it of what it compiles.
+    [ "$1" != x86_64 ] || ! objdump -d "$archive" | grep -qw ud2 || say_failed "a function of the archive of $3 for $1 has a trap"
     size "$archive" | awk 'NR > 1 { state += $2 + $3 } END { exit state != 0 }' || say_failed "the archive of $3 for $1 has memory of its own"
     readelf -h "$archive" | grep -q "Machine: .*$2\$" || say_failed "the archive of $3 for $1 is not for $2"
     [ "$(nm "$archive" | awk '$2 == "T" { print $3 }' | sort)" = "$(declared_functions "$3.h")" ] ||
